@@ -1,0 +1,4 @@
+pub mod Runs
+pub mod Sizes
+pub mod Printing
+pub mod Marks

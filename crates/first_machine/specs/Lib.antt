@@ -1,0 +1,6 @@
+pub mod Memory
+pub mod Step
+pub mod Run
+pub mod Start
+pub mod Sys
+pub mod Compiled

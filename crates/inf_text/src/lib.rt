@@ -1,0 +1,18 @@
+//! Texts of the language and lists of values: what every other crate stands on.
+//!
+//! A `Text` is a list of Unicode characters, and a contract sees it as the list of their codes. A `Seq<T>` is a
+//! list of values. `Text::from_utf8` and `Text::to_utf8` lead from bytes to texts and back, by the standard's
+//! spelling of characters (RFC 3629), and `decimal` writes a number.
+#![tactic(auto)]
+
+mod laws;
+mod seq;
+mod span;
+#[cfg(test)]
+mod tests;
+mod text;
+
+pub use laws::{one_spelling, read_back};
+pub use seq::Seq;
+pub use span::Span;
+pub use text::{Text, TextFault, decimal};

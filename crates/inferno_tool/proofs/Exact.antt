@@ -1,0 +1,102 @@
+-- What follows of the cause, from where each cause comes.
+use Rattle.std.proofs.Common.{◌≡◌, ◌≤◌, ℕ, List, ◌⊎◌, inl, inr, refl, subst, sym, ◌∙◌, true, false, arith}
+use Rattle.std.specs.Prelude.{Option, Some, None}
+use Rattle.inf_ports.specs.Outside.{Told, Has, Lacks, Rose}
+use Rattle.thin_source.specs.Thin.{Program}
+use Rattle.inferno_tool.specs.Built.{IsBuilt}
+use Rattle.inferno_tool.specs.Outcome.{Course, IsAccepted, IsCause, IsRunEnd, Tells, TellsProgram, IsUnlessMemory}
+use Rattle.inferno_tool.specs.Words.{named_file}
+use Rattle.inferno_tool.specs.declared.cause.Cause.{Cause}
+use Rattle.inferno_tool.specs.declared.cause.Cause.TheVariants.{Done, Usage, BadSource, Host, SinkFault, NoMemory}
+use Rattle.inferno_tool.specs.declared.cause.SourceFault.TheVariants.{Unbuilt}
+
+-- closing keeps the cause, or it is want of memory
+pub closed : (c : Course) (before after : Cause) → IsCause c before → (after ≡ before) ⊎ (after ≡ NoMemory) → IsCause c after
+closed c before after is (inl same) = let P : Cause → Type 0 = λ x. IsCause c x in subst P (sym same) is
+closed c before after is (inr memory) = let P : Cause → Type 0 = λ x. IsCause c x in subst P (sym memory) tt
+
+-- the words name one file at most
+one_file : (words : List (List ℕ)) (a b : List ℕ) → named_file words ≡ Some a → named_file words ≡ Some b → a ≡ b
+one_file words a b first second = let same : Some a ≡ Some b = sym first ∙ second in cc
+
+no_file : {A : Type 0} (words : List (List ℕ)) (a : List ℕ) → named_file words ≡ None → named_file words ≡ Some a → A
+no_file words a none some = let same : None ≡ Some a = sym none ∙ some in cc
+
+-- what the tree tells of a path is all that it has there
+same_bytes : (told : Told) (path source other : List ℕ) → Tells told path (Some source) → Has told path other → source ≡ other
+same_bytes None path source other tells has = absurd tells
+same_bytes (Some files) path source other tells has = let same : Some source ≡ Some other = sym tells ∙ has in cc
+
+told_not_lacking : {A : Type 0} (told : Told) (path source : List ℕ) → Tells told path (Some source) → Lacks told path → A
+told_not_lacking None path source tells lacks = absurd tells
+told_not_lacking (Some files) path source tells lacks = let same : Some source ≡ None = sym tells ∙ lacks in cc
+
+-- the accepted file is the one that the words name
+accepted_file : (c : Course) (prints : Option (List (List ℕ))) (a : IsAccepted c.words c.told prints) (file : List ℕ) → named_file c.words ≡ Some file → a.file ≡ file
+accepted_file c prints a file named = one_file c.words a.file file a.named named
+
+refused_accepted : {A : Type 0} (c : Course) (prints : Option (List (List ℕ))) (a : IsAccepted c.words c.told prints) (file source : List ℕ) → named_file c.words ≡ Some file → Tells c.told file (Some source) → ((program : Program) → IsBuilt source program → ⊥) → A
+refused_accepted c prints a file source named tells outside =
+    let there : Has c.told file a.read.source = (let P : List ℕ → Type 0 = λ x. Has c.told x a.read.source in subst P (accepted_file c prints a file named) a.read.stands) in
+    let same : source ≡ a.read.source = same_bytes c.told file source a.read.source tells there in
+    absurd (outside a.read.program (let P : List ℕ → Type 0 = λ x. IsBuilt x a.read.program in subst P (sym same) a.read.built))
+
+pub refused : (c : Course) (cause : Cause) → IsCause c cause → (file source : List ℕ) → named_file c.words ≡ Some file → Tells c.told file (Some source) → ((program : Program) → IsBuilt source program → ⊥) → (Rose c.files_before c.files_after → ⊥) → IsUnlessMemory cause (BadSource file Unbuilt)
+refused c Done is file source named tells outside calm = refused_accepted c is.0 is.1 file source named tells outside
+refused c Usage is file source named tells outside calm = no_file c.words file is named
+refused c (BadSource other Unbuilt) is file source named tells outside calm = inl (let same : other ≡ file = one_file c.words other file is.0 named in cc)
+refused c (Host path true) is file source named tells outside calm =
+    told_not_lacking c.told file source tells
+    (let P : List ℕ → Type 0 = λ x. Lacks c.told x in subst P (one_file c.words path file is.0 named) is.1)
+refused c (Host path false) is file source named tells outside calm = absurd (calm is.1)
+refused c (SinkFault out err) is file source named tells outside calm = refused_accepted c is.0.0 is.0.1 file source named tells outside
+refused c NoMemory is file source named tells outside calm = inr refl
+
+-- a count that has risen has risen still when it is higher
+risen_further : (before now later : ℕ) → now ≤ later → Rose before now → Rose before later
+risen_further before now later up rose = omega arith
+
+pub done : (c : Course) (cause : Cause) → IsCause c cause → (program : Program) → TellsProgram c.words c.told program → (Rose c.files_before c.files_after → ⊥) → (Rose c.out_before c.out_after → ⊥) → (Rose c.err_before c.err_after → ⊥) → IsUnlessMemory cause Done
+done c Done is program t calm quiet silent = inl refl
+done c Usage is program t calm quiet silent = no_file c.words t.file is t.named
+done c (BadSource other fault) is program t calm quiet silent =
+    let there : Has c.told t.file is.1.source = (let P : List ℕ → Type 0 = λ x. Has c.told x is.1.source in subst P (one_file c.words other t.file is.0 t.named) is.1.stands) in
+    let same : t.source ≡ is.1.source = same_bytes c.told t.file t.source is.1.source t.tells there in
+    absurd (is.1.outside program (let P : List ℕ → Type 0 = λ x. IsBuilt x program in subst P same t.built))
+done c (Host path true) is program t calm quiet silent =
+    told_not_lacking c.told t.file t.source t.tells
+    (let P : List ℕ → Type 0 = λ x. Lacks c.told x in subst P (one_file c.words path t.file is.0 t.named) is.1)
+done c (Host path false) is program t calm quiet silent = absurd (calm is.1)
+done c (SinkFault out err) is program t calm quiet silent =
+    elim is.3 [
+      | inl rose ↦ absurd (quiet (let P : ℕ → Type 0 = λ x. Rose c.out_before x in subst P is.1 rose))
+      | inr rose ↦ absurd (silent (risen_further c.err_before err c.err_after is.2 rose))
+    ]
+done c NoMemory is program t calm quiet silent = inr refl
+
+-- the closing line changes no cause, whatever it does to the count of `err`
+pub later_cause : (c : Course) (after : ℕ) (cause : Cause) → c.err_after ≤ after → IsCause c cause → IsCause (record c { err_after = after }) cause
+later_cause c after Done up is = is
+later_cause c after Usage up is = is
+later_cause c after (BadSource file fault) up is = is
+later_cause c after (Host path true) up is = is
+later_cause c after (Host path false) up is = is
+later_cause c after (SinkFault out err) up is = (is.0, is.1, omega arith, is.3)
+later_cause c after NoMemory up is = tt
+
+-- the literals of the accepted program are those that the told program has
+pub same_prints : (words : List (List ℕ)) (told : Told) (prints : Option (List (List ℕ))) (program : Program) → IsAccepted words told prints → TellsProgram words told program → prints ≡ program.prints
+same_prints words told prints program a t =
+    let file : a.file ≡ t.file = one_file words a.file t.file a.named t.named in
+    let there : Has told t.file a.read.source = (let P : List ℕ → Type 0 = λ x. Has told x a.read.source in subst P file a.read.stands) in
+    let same : t.source ≡ a.read.source = same_bytes told t.file t.source a.read.source t.tells there in
+    a.read.same program (let P : List ℕ → Type 0 = λ x. IsBuilt x program in subst P same t.built)
+
+-- how the run of an accepted program ends is a cause
+pub run_cause : (c : Course) (cause : Cause) (prints : Option (List (List ℕ))) → IsAccepted c.words c.told prints → IsRunEnd c.out_before c.out_after c.err_after cause → IsCause c cause
+run_cause c Done prints accepted end = (prints, accepted)
+run_cause c Usage prints accepted end = absurd end
+run_cause c (BadSource file fault) prints accepted end = absurd end
+run_cause c (Host path missing) prints accepted end = absurd end
+run_cause c (SinkFault out err) prints accepted end = ((prints, accepted), end.0, omega arith, inl end.2)
+run_cause c NoMemory prints accepted end = tt

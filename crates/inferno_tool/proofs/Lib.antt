@@ -1,0 +1,5 @@
+mod Causes
+mod Exact
+mod LastName
+mod Literals
+mod Runs

@@ -1,0 +1,6 @@
+pub mod Built
+pub mod Closing
+pub mod Outcome
+pub mod Reading
+pub mod Running
+pub mod Words

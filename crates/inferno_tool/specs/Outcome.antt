@@ -1,0 +1,74 @@
+-- What each cause of an end says: of the words, of the files as they are told, and of which counts of faults rose.
+use Rattle.std.specs.Prelude.{ℕ, ◌≡◌, ◌≤◌, ◌⊎◌, List, Option, None, Some, true, false}
+use Rattle.inf_ports.specs.Outside.{Told, Lacks, Rose}
+use Rattle.thin_source.specs.Thin.{Program}
+use Rattle.inferno_tool.specs.Built.{IsBuilt}
+use Rattle.inferno_tool.specs.Reading.{IsRead, IsOutside}
+use Rattle.inferno_tool.specs.Words.{named_file}
+use Rattle.inferno_tool.specs.declared.cause.Cause.{Cause}
+use Rattle.inferno_tool.specs.declared.cause.Cause.TheVariants.{Done, Usage, BadSource, Host, SinkFault, NoMemory}
+
+-- a command's words, what its files tell, and the counts of faults before and after it
+pub record Course : Type 0 where
+  pub words : List (List ℕ)
+  pub told : Told
+  pub files_before : ℕ
+  pub files_after : ℕ
+  pub out_before : ℕ
+  pub out_after : ℕ
+  pub err_before : ℕ
+  pub err_after : ℕ
+
+-- the words name a file whose source is a program of the built part, and these are its literals
+pub record IsAccepted (words : List (List ℕ)) (told : Told) (prints : Option (List (List ℕ))) : Type 0 where
+  pub file : List ℕ
+  pub named : named_file words ≡ Some file
+  pub read : IsRead told file prints
+
+-- the files tell what stands at the path: these bytes, or no file
+abbrev pub Tells : Told → List ℕ → Option (List ℕ) → Type 0
+Tells None path bytes = ⊥
+Tells (Some files) path bytes = files path ≡ bytes
+
+-- the words name a file of which the files tell that its source is this program
+pub record TellsProgram (words : List (List ℕ)) (told : Told) (program : Program) : Type 0 where
+  pub file : List ℕ
+  pub named : named_file words ≡ Some file
+  pub source : List ℕ
+  pub tells : Tells told file (Some source)
+  pub built : IsBuilt source program
+
+-- where a command is refused before it runs
+abbrev pub IsRefusal : List (List ℕ) → Told → ℕ → ℕ → Cause → Type 0
+IsRefusal words told before after Usage = named_file words ≡ None
+IsRefusal words told before after (BadSource file fault) = (named_file words ≡ Some file) × IsOutside told file
+IsRefusal words told before after (Host path true) = (named_file words ≡ Some path) × Lacks told path
+IsRefusal words told before after (Host path false) = (named_file words ≡ Some path) × Rose before after
+IsRefusal words told before after NoMemory = Unit {0}
+IsRefusal words told before after _ = ⊥
+
+-- how a run ends: all was printed, a write of output failed, or want of memory
+abbrev pub IsRunEnd : ℕ → ℕ → ℕ → Cause → Type 0
+IsRunEnd before after err_count Done = Unit {0}
+IsRunEnd before after err_count (SinkFault out err) = (out ≡ after) × (err ≡ err_count) × Rose before out
+IsRunEnd before after err_count NoMemory = Unit {0}
+IsRunEnd before after err_count _ = ⊥
+
+-- where each cause comes
+abbrev pub IsCause : Course → Cause → Type 0
+IsCause c Done = (prints : Option (List (List ℕ))) × IsAccepted c.words c.told prints
+IsCause c (SinkFault out err) =
+    ((prints : Option (List (List ℕ))) × IsAccepted c.words c.told prints)
+    × (out ≡ c.out_after) × (err ≤ c.err_after) × (Rose c.out_before out ⊎ Rose c.err_before err)
+IsCause c cause = IsRefusal c.words c.told c.files_before c.files_after cause
+
+-- the cause is this one, or want of memory
+abbrev pub IsUnlessMemory : Cause → Cause → Type 0
+IsUnlessMemory cause wanted = (cause ≡ wanted) ⊎ (cause ≡ NoMemory)
+
+-- the command ended before a program ran
+abbrev pub IsUnrun : Cause → Type 0
+IsUnrun Usage = Unit {0}
+IsUnrun (BadSource file fault) = Unit {0}
+IsUnrun (Host path missing) = Unit {0}
+IsUnrun _ = ⊥

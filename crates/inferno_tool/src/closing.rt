@@ -1,0 +1,67 @@
+ghost use Rattle.std.specs.Prelude.{◌≡◌, ◌≤◌, ◌⊎◌, ◌++◌, ◌∷◌, [], IfOk, OnOk, codes, encode_utf8_all};
+ghost use Rattle.inferno_tool.specs.Closing.{line, closing_line, place_of, IsWritten};
+
+use crate::cause::{Cause, SourceFault};
+use inf_ports::{Sink, write_whole};
+use inf_text::Text;
+use std::alloc::{AllocError, Global};
+
+/// A line of the command: its name, words, a path where one belongs there, and what follows it.
+fn line_with(
+    alloc: Global,
+    before: &[u8],
+    path: &Text,
+    behind: &[u8],
+) -> Result<Vec<u8>, AllocError>
+    ensures { IfOk result (λ bytes. bytes.items ≡ line (before.now ++ encode_utf8_all path.now ++ behind.now)) }
+{
+    let spelling = path.to_utf8(alloc)?;
+    let mut bytes = Vec::from_slice(alloc, b"inferno: ")?;
+    bytes.extend_from_slice(before)?;
+    bytes.extend_from_slice(spelling.as_slice())?;
+    bytes.extend_from_slice(behind)?;
+    bytes.push(b'\n')?;
+    Ok(bytes)
+}
+
+/// Where a refusal stands, and its number.
+fn place(fault: SourceFault) -> &'static [u8]
+    ensures { result.now ≡ place_of fault }
+{
+    match fault {
+        SourceFault::Unbuilt => b":1:1: fault 25",
+    }
+}
+
+/// The line about the cause. Only a path takes memory.
+fn closing_line(alloc: Global, cause: &Cause) -> Result<Vec<u8>, AllocError>
+    ensures { IfOk result (λ bytes. bytes.items ≡ closing_line cause.now) }
+{
+    match cause {
+        Cause::Done => Ok(Vec::new(alloc)),
+        Cause::Usage => Vec::from_slice(alloc, b"inferno: usage\n"),
+        Cause::BadSource { file, fault } => line_with(alloc, b"", file, place(*fault)),
+        Cause::Host { path, .. } => line_with(alloc, b"file ", path, b""),
+        Cause::SinkFault { .. } => Vec::from_slice(alloc, b"inferno: output failed\n"),
+        Cause::NoMemory => Vec::from_slice(alloc, b"inferno: no memory\n"),
+    }
+}
+
+/// Writes the line about the cause. It is made before any of it is written: where that takes more memory than there
+/// is, the cause is want of memory. A fault of `err` changes no cause.
+pub fn close<E: Sink>(alloc: Global, cause: Cause, err: &mut E) -> Cause
+    ensures cause { (result ≡ cause) ⊎ (result ≡ Cause.NoMemory) }
+    ensures written { IsWritten (E.held err.old) (E.held err.new) (E.faults err.old) (E.faults err.new) (closing_line result) }
+    ensures later { E.faults err.old ≤ E.faults err.new }
+{
+    match closing_line(alloc, &cause) {
+        Ok(line) => {
+            let _ = write_whole(err, line.as_slice());
+            cause
+        }
+        Err(_) => {
+            let _ = write_whole(err, b"inferno: no memory\n");
+            Cause::NoMemory
+        }
+    }
+}

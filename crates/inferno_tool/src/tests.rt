@@ -1,0 +1,186 @@
+use super::top::inferno;
+use inf_ports::{MemSink, MemTree};
+use inf_text::{Seq, Text};
+use std::alloc::Global;
+use std::test::Fail;
+
+/// The program that greets.
+const HELLO: &[u8] = b"implement Hello;
+include \"sys.m\";
+\tsys: Sys;
+include \"draw.m\";
+Hello: module
+{
+\tinit:\tfn(ctxt: ref Draw->Context, argv: list of string);
+};
+init(nil: ref Draw->Context, nil: list of string)
+{
+\tsys = load Sys Sys->PATH;
+\tsys->print(\"hello, world\\n\");
+}
+";
+
+/// The same program with nothing to do.
+const IDLE: &[u8] = b"implement Hello;
+include \"sys.m\";
+\tsys: Sys;
+include \"draw.m\";
+Hello: module
+{
+\tinit:\tfn(ctxt: ref Draw->Context, argv: list of string);
+};
+init(nil: ref Draw->Context, nil: list of string)
+{
+}
+";
+
+/// Several prints, with each escape, a comment and one line for all.
+const SEVERAL: &[u8] = b"implement S; include \"sys.m\"; sys: Sys; include \"draw.m\"; # names
+S: module { init: fn(c: ref Draw->Context, nil: list of string); };
+init(nil: ref Draw->Context, a: list of string) { sys = load Sys Sys->PATH;
+sys->print(\"one\"); sys->print(\"\"); sys->print(\"\\ttwo\\\"\\\\\"); sys->print(\"\\n\"); }
+";
+
+/// A command over memory: its words, the bytes at `hello.b`, which call of each port fails, and what must come of it.
+#[derive(Drop)]
+struct Row {
+    words: &'static [&'static str],
+    source: &'static [u8],
+    files_fail: Option<u64>,
+    out_fails: Option<u64>,
+    /// How many bytes `out` takes.
+    room: usize,
+    err_fails: Option<u64>,
+    status: u8,
+    out: &'static [u8],
+    err: &'static [u8],
+}
+
+impl Row {
+    /// A run of `go hello.b` over ports that don't fail.
+    const fn of(source: &'static [u8], status: u8, out: &'static [u8], err: &'static [u8]) -> Row {
+        Row {
+            words: &["go", "hello.b"],
+            source,
+            files_fail: None,
+            out_fails: None,
+            room: 100,
+            err_fails: None,
+            status,
+            out,
+            err,
+        }
+    }
+}
+
+fn text(alloc: Global, word: &str) -> Result<Text, Fail> {
+    Ok(Text::from_utf8(alloc, word.as_bytes())?)
+}
+
+fn calls(alloc: Global, failing: Option<u64>) -> Result<Vec<u64>, Fail> {
+    let mut list = Vec::new(alloc);
+    if let Some(call) = failing {
+        list.push(call)?;
+    }
+    Ok(list)
+}
+
+/// Runs a row, and answers its status and what was written on `out` and `err`.
+fn run(alloc: Global, row: &Row) -> Result<(u8, MemSink, MemSink), Fail> {
+    let mut words = Vec::new(alloc);
+    for word in row.words {
+        words.push(text(alloc, word)?)?;
+    }
+    let source = Seq::from_vec(Vec::from_slice(alloc, row.source)?);
+    let listing = vec![in alloc; (text(alloc, "hello.b")?, source)]?;
+    let mut files = MemTree::new(listing, calls(alloc, row.files_fail)?);
+    let mut out = MemSink::new(alloc, row.room, calls(alloc, row.out_fails)?)?;
+    let mut err = MemSink::new(alloc, 100, calls(alloc, row.err_fails)?)?;
+    let ended = inferno(alloc, &words, &mut files, &mut out, &mut err);
+    Ok((ended.status, out, err))
+}
+
+/// Each row ends as it must, with the bytes that it must write.
+#[test]
+fn rows(rt: HostRuntime) -> Result<(), Fail> {
+    let usage = || Row::of(IDLE, 2, b"", b"inferno: usage\n");
+    let rows = [
+        Row::of(IDLE, 0, b"", b""),
+        Row::of(HELLO, 0, b"hello, world\n", b""),
+        Row::of(SEVERAL, 0, b"one\ttwo\"\\\n", b""),
+        Row {
+            out_fails: Some(0),
+            ..Row::of(HELLO, 8, b"", b"inferno: output failed\n")
+        },
+        Row {
+            out_fails: Some(1),
+            ..Row::of(SEVERAL, 8, b"one", b"inferno: output failed\n")
+        },
+        Row {
+            room: 5,
+            ..Row::of(HELLO, 8, b"hello", b"inferno: output failed\n")
+        },
+        Row::of(b"implement T", 3, b"", b"inferno: hello.b:1:1: fault 25\n"),
+        Row::of(b"\xFF", 3, b"", b"inferno: hello.b:1:1: fault 25\n"),
+        Row {
+            words: &["go", "none.b"],
+            ..Row::of(IDLE, 7, b"", b"inferno: file none.b\n")
+        },
+        Row {
+            files_fail: Some(0),
+            ..Row::of(IDLE, 7, b"", b"inferno: file hello.b\n")
+        },
+        Row {
+            words: &[],
+            ..usage()
+        },
+        Row {
+            words: &["go"],
+            ..usage()
+        },
+        Row {
+            words: &["run", "hello.b"],
+            ..usage()
+        },
+        Row {
+            words: &["go", "-w"],
+            ..usage()
+        },
+        Row {
+            words: &["go", "hello.b", "hello.b"],
+            ..usage()
+        },
+        Row {
+            words: &["go"],
+            err_fails: Some(0),
+            err: b"",
+            ..usage()
+        },
+    ];
+    for (k, row) in rows.iter().enumerate() {
+        let (status, out, err) = run(rt.alloc(), row)?;
+        assert_eq!(rt; status, row.status, "status of row {k}");
+        assert_eq!(rt; out.as_slice(), row.out, "out of row {k}");
+        assert_eq!(rt; err.as_slice(), row.err, "err of row {k}");
+    }
+    Ok(())
+}
+
+/// A base name may take 250 bytes, the folder and the ending aside.
+#[test]
+fn base_names(rt: HostRuntime) -> Result<(), Fail> {
+    for (count, status) in [(250, 7), (251, 2)] {
+        let mut path = text(rt.alloc(), "folder.b/")?;
+        for _ in 0..count {
+            path.push('x')?;
+        }
+        path.push_all(&['.', 'b'])?;
+        let words = vec![in rt.alloc(); text(rt.alloc(), "go")?, path]?;
+        let mut files = MemTree::new(Vec::new(rt.alloc()), Vec::new(rt.alloc()));
+        let mut out = MemSink::new(rt.alloc(), 0, Vec::new(rt.alloc()))?;
+        let mut err = MemSink::new(rt.alloc(), 0, Vec::new(rt.alloc()))?;
+        let ended = inferno(rt.alloc(), &words, &mut files, &mut out, &mut err);
+        assert_eq!(rt; ended.status, status, "{count} bytes");
+    }
+    Ok(())
+}

@@ -1,0 +1,148 @@
+ghost use Rattle.std.specs.Prelude.{◌≡◌, ◌≤◌, ◌⊎◌, ℕ, List, Option, true, None, Some, IfOk, IfErr};
+ghost use Rattle.std.specs.Io.KnownBytes.{Appends, Keeps};
+ghost use Rattle.inf_ports.specs.Outside.{Rose, AppendsPart};
+ghost use Rattle.thin_source.specs.Thin.{Program};
+ghost use Rattle.first_machine.specs.Compiled.{AreLiteralsIfAny};
+ghost use Rattle.inferno_tool.specs.Built.{IsBuilt, bytes_of};
+ghost use Rattle.inferno_tool.specs.Closing.{status_of, closing_line, IsWritten};
+ghost use Rattle.inferno_tool.specs.Outcome.{Course, IsAccepted, IsRefusal, IsCause, IsRunEnd, IsUnrun, Tells, TellsProgram, IsUnlessMemory};
+ghost use Rattle.inferno_tool.specs.Words.{named_file};
+ghost use Rattle.inferno_tool.specs.declared.cause.SourceFault.TheVariants.{Unbuilt};
+
+use crate::cause::{Cause, Ended};
+use crate::closing::close;
+use crate::reading::read_source;
+use crate::running::{RunFault, run_program};
+use crate::words::named_file;
+use inf_ports::{HostTree, Sink};
+use inf_text::Text;
+use std::alloc::Global;
+use thin_source::Thin;
+
+/// The program that the words name.
+///
+/// # Errors
+/// The cause for which there is none.
+fn prepare<H: HostTree>(alloc: Global, words: &[Text], files: &mut H) -> Result<Thin, Cause>
+    ensures accepted { IfOk result (λ thin. IsAccepted words.now (H.told files.old) thin.prints) }
+    ensures small { IfOk result (λ thin. AreLiteralsIfAny thin.prints) }
+    ensures refused { IfErr result (λ cause. IsRefusal words.now (H.told files.old) (H.faults files.old) (H.faults files.new) cause) }
+    ensures kept { H.told files.new ≡ H.told files.old }
+    ensures later { H.faults files.old ≤ H.faults files.new }
+{
+    let Some(path) = named_file(words) else {
+        return Err(Cause::Usage);
+    };
+    read_source(alloc, path, files)
+}
+
+/// Runs the program, and says how that ended.
+fn carry_out<K: Sink, E: Sink>(alloc: Global, thin: &Thin, out: &mut K, err: &E) -> Cause
+    requires { AreLiteralsIfAny thin.now.prints }
+    ensures end { IsRunEnd (K.faults out.old) (K.faults out.new) (E.faults err.now) result }
+    ensures whole { result ≡ Cause.Done → Appends (K.held out.old) (K.held out.new) (bytes_of thin.now.prints) }
+    ensures part { AppendsPart (K.held out.old) (K.held out.new) (bytes_of thin.now.prints) }
+    ensures later { K.faults out.old ≤ K.faults out.new }
+{
+    match run_program(alloc, thin, out) {
+        Ok(()) => Cause::Done,
+        Err(RunFault::OutputFailed) => Cause::SinkFault {
+            out: out.faults(),
+            err: err.faults(),
+        },
+        Err(RunFault::NoMemory) => Cause::NoMemory,
+    }
+}
+
+/// Does the command's work, up to the line about its end.
+fn decide<H: HostTree, K: Sink, E: Sink>(
+    alloc: Global,
+    words: &[Text],
+    files: &mut H,
+    out: &mut K,
+    err: &E,
+) -> Cause
+    ensures cause { IsCause (record {
+      words = words.now;
+      told = H.told files.old;
+      files_before = H.faults files.old;
+      files_after = H.faults files.new;
+      out_before = K.faults out.old;
+      out_after = K.faults out.new;
+      err_before = E.faults err.now;
+      err_after = E.faults err.now;
+    }) result }
+    ensures printed { (program : Program) → TellsProgram words.now (H.told files.old) program
+        → result ≡ Cause.Done → Appends (K.held out.old) (K.held out.new) (bytes_of program.prints) }
+    ensures printed_part { (program : Program) → TellsProgram words.now (H.told files.old) program
+        → AppendsPart (K.held out.old) (K.held out.new) (bytes_of program.prints) }
+    ensures quiet { IsUnrun result → K.held out.new ≡ K.held out.old }
+    ensures kept { H.told files.new ≡ H.told files.old }
+    ensures later { (H.faults files.old ≤ H.faults files.new) × (K.faults out.old ≤ K.faults out.new) }
+{
+    match prepare(alloc, words, files) {
+        Ok(thin) => carry_out(alloc, &thin, out, err),
+        Err(cause) => cause,
+    }
+}
+
+/// Carries out the command that the words ask for, and tells on `err` how it ended.
+///
+/// The words are exactly `go FILE`, which compiles the file and runs it. `files` gives the source, `out` takes what the
+/// program prints, and `err` the closing line. The status is the cause's number.
+pub fn inferno<H: HostTree, K: Sink, E: Sink>(
+    alloc: Global,
+    words: &[Text],
+    files: &mut H,
+    out: &mut K,
+    err: &mut E,
+) -> Ended
+    ensures status { result.status ≡ status_of result.cause }
+    ensures closing { IsWritten (E.held err.old) (E.held err.new) (E.faults err.old) (E.faults err.new) (closing_line result.cause) }
+
+    // Where each cause comes.
+    ensures cause { IsCause (record {
+      words = words.now;
+      told = H.told files.old;
+      files_before = H.faults files.old;
+      files_after = H.faults files.new;
+      out_before = K.faults out.old;
+      out_after = K.faults out.new;
+      err_before = E.faults err.old;
+      err_after = E.faults err.new;
+    }) result.cause }
+
+    // Other words than `go FILE` are always refused, and so is a file that isn't there and a source that isn't built.
+    ensures usage { named_file words.now ≡ None → IsUnlessMemory result.cause Cause.Usage }
+    ensures missing { (file : List ℕ) → named_file words.now ≡ Some file → Tells (H.told files.old) file None
+        → (Rose (H.faults files.old) (H.faults files.new) → ⊥) → IsUnlessMemory result.cause (Cause.Host file true) }
+    ensures refused { (file source : List ℕ) → named_file words.now ≡ Some file → Tells (H.told files.old) file (Some source)
+        → ((program : Program) → IsBuilt source program → ⊥)
+        → (Rose (H.faults files.old) (H.faults files.new) → ⊥)
+        → IsUnlessMemory result.cause (Cause.BadSource file Unbuilt) }
+
+    // A program of the built part is done, unless a count rises.
+    ensures done { (program : Program) → TellsProgram words.now (H.told files.old) program
+        → (Rose (H.faults files.old) (H.faults files.new) → ⊥)
+        → (Rose (K.faults out.old) (K.faults out.new) → ⊥)
+        → (Rose (E.faults err.old) (E.faults err.new) → ⊥)
+        → IsUnlessMemory result.cause Cause.Done }
+
+    // What is printed: the program's literals in order, or a first part of them where it isn't done; else nothing.
+    ensures printed { (program : Program) → TellsProgram words.now (H.told files.old) program
+        → result.cause ≡ Cause.Done → Appends (K.held out.old) (K.held out.new) (bytes_of program.prints) }
+    ensures printed_part { (program : Program) → TellsProgram words.now (H.told files.old) program
+        → AppendsPart (K.held out.old) (K.held out.new) (bytes_of program.prints) }
+    ensures quiet { IsUnrun result.cause → K.held out.new ≡ K.held out.old }
+
+    // What stands afterwards.
+    ensures kept { H.told files.new ≡ H.told files.old }
+    ensures later { (H.faults files.old ≤ H.faults files.new) × (K.faults out.old ≤ K.faults out.new) × (E.faults err.old ≤ E.faults err.new) }
+{
+    let cause = decide(alloc, words, files, out, err);
+    let cause = close(alloc, cause, err);
+    Ended {
+        status: cause.status(),
+        cause,
+    }
+}

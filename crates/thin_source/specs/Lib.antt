@@ -1,0 +1,4 @@
+pub mod Tokens
+pub mod Thin
+pub mod Pieces
+pub mod Slots
