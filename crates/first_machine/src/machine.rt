@@ -131,6 +131,7 @@ impl Machine {
         self.obey_next(alloc)
     }
 
+    /// The step itself. What it leaves of the whole run follows from its contract alone.
     fn obey_next(&mut self, alloc: Global) -> Stepped
         ensures exact { Steps result self.old self.new }
         ensures falls { Falls result self.old self.new }
