@@ -1,1 +1,2 @@
+pub mod Lossy
 pub mod Utf8

@@ -30,6 +30,23 @@ fn reads_and_writes_utf8(rt: HostRuntime) -> Result<(), Fail> {
     Ok(())
 }
 
+/// Bytes that may be ill-formed, and the text that they are read as.
+#[test]
+fn reads_ill_formed_utf8(rt: HostRuntime) -> Result<(), Fail> {
+    for (bytes, chars) in [
+        (b"".as_slice(), [].as_slice()),
+        (b"a\xFFb".as_slice(), ['a', '\u{FFFD}', 'b'].as_slice()),
+        (b"\xE2\x82".as_slice(), ['\u{FFFD}', '\u{FFFD}'].as_slice()),
+        (
+            b"\xED\xA0\x80\xC3\xA9".as_slice(),
+            ['\u{FFFD}', '\u{FFFD}', '\u{FFFD}', '\u{E9}'].as_slice(),
+        ),
+    ] {
+        assert_eq!(rt; Text::from_utf8_lossy(rt.alloc(), bytes)?.as_slice(), chars);
+    }
+    Ok(())
+}
+
 /// Each public call once, and the spellings of numbers.
 #[test]
 fn builds_texts_and_lists(rt: HostRuntime) -> Result<(), Fail> {

@@ -1,4 +1,4 @@
-ghost use Rattle.std.specs.Prelude.{◌≡◌, ◌++◌, ◌∷◌, [], length, IfOk, IfErr, OnErr, encode_utf8_all};
+ghost use Rattle.std.specs.Prelude.{◌≡◌, ◌++◌, ◌∷◌, [], length, IfOk, IfErr, OnErr, IsUtf8, encode_utf8_all};
 ghost use Rattle.std.specs.Fmt.{signed_decimal};
 ghost use Rattle.inf_text.specs.Utf8.{IsFirstBadPlace};
 
@@ -90,7 +90,8 @@ impl Text {
     /// # Errors
     /// Want of memory.
     pub fn to_utf8(&self, alloc: Global) -> Result<Vec<u8>, AllocError>
-        ensures { IfOk result (λ bytes. bytes.items ≡ encode_utf8_all self.now) }
+        ensures spelled { IfOk result (λ bytes. bytes.items ≡ encode_utf8_all self.now) }
+        ensures well_formed { IfOk result (λ bytes. IsUtf8 bytes.items) }
     {
         let spelling: String = self.chars.iter().copied().collect(alloc)?;
         Ok(spelling.into_bytes())

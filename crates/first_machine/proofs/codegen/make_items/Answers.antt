@@ -8,6 +8,6 @@ make_string-requires-in-loop-number c =
     let text = c.index-texts-number.result in
     let fits = literal_fits c.args.texts.now c.loop-number.number text c.requires (omega arith) in
     let same =
-    ap length c.in_ok-to_utf8.ensures
+    ap length c.in_ok-to_utf8.ensures.spelled
     ∙ ap (λ (t : List ℕ). length (encode_utf8_all t)) c.index-texts-number.is in
     omega (arith, fits, same)
