@@ -1,1 +1,2 @@
 mod LossyLemmas
+mod NumberLemmas

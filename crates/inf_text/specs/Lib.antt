@@ -1,2 +1,3 @@
+pub mod InFront
 pub mod Lossy
 pub mod Utf8

@@ -2,11 +2,13 @@
 //!
 //! A `Text` is a list of Unicode characters, and a contract sees it as the list of their codes. A `Seq<T>` is a
 //! list of values. `Text::from_utf8` and `Text::to_utf8` lead from bytes to texts and back, by the standard's
-//! spelling of characters (RFC 3629); `from_utf8_lossy` reads ill-formed bytes too, and `decimal` writes a number.
+//! spelling of characters (RFC 3629); `from_utf8_lossy` reads ill-formed bytes too, and `decimal` and
+//! `read_decimal` write and read a number.
 #![tactic(auto)]
 
 mod laws;
 mod lossy;
+mod number;
 mod seq;
 mod span;
 #[cfg(test)]

@@ -61,6 +61,18 @@ fn builds_texts_and_lists(rt: HostRuntime) -> Result<(), Fail> {
             digits
         );
     }
+    for (text, number) in [
+        (b"".as_slice(), 0),
+        (b" \t-12x3".as_slice(), -12),
+        (b"+7".as_slice(), 7),
+        (b"- 5".as_slice(), 0),
+        (b"--5".as_slice(), 0),
+        (b"9223372036854775808".as_slice(), i64::MIN),
+        (b"-9223372036854775808".as_slice(), i64::MIN),
+        (b"18446744073709551617".as_slice(), 1),
+    ] {
+        assert_eq!(rt; Text::from_utf8(rt.alloc(), text)?.read_decimal(), number);
+    }
     let mut text = Text::new(rt.alloc());
     text.push('a')?;
     text.push_all(&['b', 'c'])?;

@@ -1,4 +1,5 @@
-ghost use Rattle.std.specs.Prelude.{◌≡◌, ◌++◌, ◌∷◌, [], length, IfOk, IfErr, OnErr, IsUtf8, encode_utf8_all};
+ghost use Rattle.std.specs.Prelude.{◌≡◌, ◌++◌, ◌∷◌, [], true, length, IfOk, IfErr, OnErr, IsUtf8, encode_utf8_all};
+ghost use Rattle.std.specs.Str.{all_scalars};
 ghost use Rattle.std.specs.Fmt.{signed_decimal};
 ghost use Rattle.inf_text.specs.Utf8.{IsFirstBadPlace};
 
@@ -72,6 +73,7 @@ impl Text {
     /// `BadUtf8` exactly where the bytes aren't well formed, with the first bad place; `NoMemory`.
     pub fn from_utf8(alloc: Global, bytes: &[u8]) -> Result<Text, TextFault>
         ensures spelled { IfOk result (λ t. encode_utf8_all t ≡ bytes.now) }
+        ensures characters { IfOk result (λ t. all_scalars t ≡ true) }
         ensures refused { IfErr result (λ e. IsFirstBadPlace bytes.now e) }
     {
         match str::from_utf8(bytes) {

@@ -1,0 +1,11 @@
+pub mod Fronts
+pub mod Parts
+pub mod Tables
+pub mod Codes
+pub mod Values
+pub mod FirstKinds
+pub mod NumberPieces
+pub mod PieceLemmas
+pub mod Found
+pub mod Cutting
+pub mod Sources

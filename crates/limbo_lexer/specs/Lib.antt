@@ -1,0 +1,6 @@
+pub mod Words
+pub mod Numbers
+pub mod Constants
+pub mod Tokens
+pub mod Pieces
+pub mod Causes
