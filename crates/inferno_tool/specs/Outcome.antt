@@ -25,6 +25,10 @@ pub record IsAccepted (words : List (List ℕ)) (told : Told) (prints : Option (
   pub named : named_file words ≡ Some file
   pub read : IsRead told file prints
 
+-- the words name a file whose source is some program of the built part
+abbrev pub HasProgram : List (List ℕ) → Told → Type 0
+HasProgram words told = (prints : Option (List (List ℕ))) × IsAccepted words told prints
+
 -- the files tell what stands at the path: these bytes, or no file
 abbrev pub Tells : Told → List ℕ → Option (List ℕ) → Type 0
 Tells None path bytes = ⊥
@@ -56,9 +60,9 @@ IsRunEnd before after err_count _ = ⊥
 
 -- where each cause comes
 abbrev pub IsCause : Course → Cause → Type 0
-IsCause c Done = (prints : Option (List (List ℕ))) × IsAccepted c.words c.told prints
+IsCause c Done = HasProgram c.words c.told
 IsCause c (SinkFault out err) =
-    ((prints : Option (List (List ℕ))) × IsAccepted c.words c.told prints)
+    HasProgram c.words c.told
     × (out ≡ c.out_after) × (err ≤ c.err_after) × (Rose c.out_before out ⊎ Rose c.err_before err)
 IsCause c cause = IsRefusal c.words c.told c.files_before c.files_after cause
 

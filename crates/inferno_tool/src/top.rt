@@ -5,7 +5,7 @@ ghost use Rattle.thin_source.specs.Thin.{Program};
 ghost use Rattle.first_machine.specs.Compiled.{AreLiteralsIfAny};
 ghost use Rattle.inferno_tool.specs.Built.{IsBuilt, bytes_of};
 ghost use Rattle.inferno_tool.specs.Closing.{status_of, closing_line, IsWritten};
-ghost use Rattle.inferno_tool.specs.Outcome.{Course, IsAccepted, IsRefusal, IsCause, IsRunEnd, IsUnrun, Tells, TellsProgram, IsUnlessMemory};
+ghost use Rattle.inferno_tool.specs.Outcome.{Course, HasProgram, IsAccepted, IsRefusal, IsCause, IsRunEnd, IsUnrun, Tells, TellsProgram, IsUnlessMemory};
 ghost use Rattle.inferno_tool.specs.Words.{named_file};
 ghost use Rattle.inferno_tool.specs.declared.cause.SourceFault.TheVariants.{Unbuilt};
 
@@ -77,6 +77,7 @@ fn decide<H: HostTree, K: Sink, E: Sink>(
     ensures printed_part { (program : Program) → TellsProgram words.now (H.told files.old) program
         → AppendsPart (K.held out.old) (K.held out.new) (bytes_of program.prints) }
     ensures quiet { IsUnrun result → K.held out.new ≡ K.held out.old }
+    ensures accepted { HasProgram words.now (H.told files.old) ⊎ (K.held out.new ≡ K.held out.old) }
     ensures kept { H.told files.new ≡ H.told files.old }
     ensures later { (H.faults files.old ≤ H.faults files.new) × (K.faults out.old ≤ K.faults out.new) }
 {
@@ -134,6 +135,7 @@ pub fn inferno<H: HostTree, K: Sink, E: Sink>(
     ensures printed_part { (program : Program) → TellsProgram words.now (H.told files.old) program
         → AppendsPart (K.held out.old) (K.held out.new) (bytes_of program.prints) }
     ensures quiet { IsUnrun result.cause → K.held out.new ≡ K.held out.old }
+    ensures accepted { HasProgram words.now (H.told files.old) ⊎ (K.held out.new ≡ K.held out.old) }
 
     // What stands afterwards.
     ensures kept { H.told files.new ≡ H.told files.old }
