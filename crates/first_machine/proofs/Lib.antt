@@ -1,4 +1,5 @@
-pub mod Runs
 pub mod Sizes
+pub mod Turns
+pub mod Replies
 pub mod Printing
 pub mod Marks

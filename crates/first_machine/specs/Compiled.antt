@@ -1,5 +1,5 @@
 -- The object of a program whose init prints literals, in order, or does nothing.
-use Rattle.std.specs.Prelude.{ℕ, pos, ◌+◌, ◌-◌, ◌*◌, ◌/◌, ◌^◌, ◌≤◌, min, Option, Some, None}
+use Rattle.std.specs.Prelude.{ℕ, pos, ◌+◌, ◌-◌, ◌*◌, ◌/◌, ◌^◌, ◌≤◌, min, nat_lt, filter, Option, Some, None}
 use Rattle.std.specs.Prelude.{List, [], ◌∷◌, ◌++◌, length, map, codes, encode_utf8_all}
 use Rattle.std.specs.List.{All, range_with_len}
 use Rattle.dis_isa.specs.declared.inst.Inst.{Inst}
@@ -15,7 +15,7 @@ use Rattle.first_machine.specs.Sys.{sys_imports}
 
 -- How many literals a program has, and how long they are.
 abbrev pub AreLiterals : List (List ℕ) → Type 0
-AreLiterals texts = (length texts ≤ 1048576) × All (λ text. length text ≤ 8192) texts
+AreLiterals texts = (length texts ≤ 1048576) × All (λ text. length (encode_utf8_all text) ≤ 8192) texts
 
 abbrev pub AreLiteralsIfAny : Option (List (List ℕ)) → Type 0
 AreLiteralsIfAny None = Unit {0}
@@ -25,6 +25,10 @@ AreLiteralsIfAny (Some texts) = AreLiterals texts
 abbrev pub literals : Option (List (List ℕ)) → List (List ℕ)
 literals None = []
 literals (Some texts) = texts
+
+-- The texts of literals that its prints ask for, in UTF-8: those that aren't empty.
+abbrev pub asked_texts : List (List ℕ) → List (List ℕ)
+asked_texts texts = filter (λ text. nat_lt 0 (length text)) (map encode_utf8_all texts)
 
 -- load 0(mp), $0, 4(mp): module data begins with the path `$Sys` and the module that is loaded from it.
 abbrev pub load_sys : Inst

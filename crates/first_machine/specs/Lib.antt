@@ -4,3 +4,5 @@ pub mod Run
 pub mod Start
 pub mod Sys
 pub mod Compiled
+pub mod Machine
+pub mod Ends

@@ -1,6 +1,7 @@
 -- What one instruction does (Dis Virtual Machine Specification, the instructions load, frame, movp, lea, mcall and
 -- ret). An instruction of another kind, or one whose operands name no fitting word, is a fault.
-use Rattle.std.specs.Prelude.{◌≡◌, ℕ, ℤ, pos, negsuc, ◌==◌, nat_lt, codes, [], length, Bool, true, false, Option}
+use Rattle.std.specs.Prelude.{◌≡◌, ℕ, ℤ, pos, negsuc, ◌==◌, nat_lt, nat_le, ◌&&◌, codes, List, [], length, Bool, true}
+use Rattle.std.specs.Prelude.{false, Option}
 use Rattle.std.specs.Prelude.{Some, None, if◌then◌else◌, slice_get, slice_set}
 use Rattle.std.specs.Str.{bytes_eq}
 use Rattle.dis_isa.specs.declared.inst.Inst.{Inst}
@@ -8,7 +9,6 @@ use Rattle.dis_isa.specs.declared.inst.Middle.{Middle}
 use Rattle.dis_isa.specs.declared.inst.Middle.TheVariants as middle
 use Rattle.dis_isa.specs.declared.inst.Operand.{Operand}
 use Rattle.dis_isa.specs.declared.inst.Operand.TheVariants.{Imm}
-use Rattle.dis_isa.specs.declared.op.Op.{Op}
 use Rattle.dis_isa.specs.declared.op.Op.TheVariants.{Load, Frame, Movp, Lea, Mcall, Ret}
 use Rattle.dis_file.specs.declared.object.Import.{Import}
 use Rattle.dis_file.specs.declared.object.Object.{Object}
@@ -20,11 +20,11 @@ use Rattle.first_machine.specs.declared.step.Stepped.TheVariants as stepped
 use Rattle.first_machine.specs.Memory.{Blocks, ◌>>=◌, chars_item, module_table, frame_word, frame_at, format_item}
 use Rattle.first_machine.specs.Memory.{answer_place, value, stored, blank}
 
--- What an instruction comes to: memory after it; the same, with the data item whose text it printed; the end of the
--- process; or a fault.
+-- What an instruction comes to: memory after it; a call that asks for the text of a data item to be written, whose
+-- answer goes to a word of the running frame; the end of the process; or a fault.
 pub data Outcome : Type 0 where
   Went : Blocks → Outcome
-  Printed : ℕ → Blocks → Outcome
+  Asked : ℕ → ℕ → Outcome
   Ended : Outcome
   Fault : Outcome
 
@@ -100,9 +100,9 @@ answered place count b =
     then Some (record b { fp = slice_set b.fp place (Plain count); made = [] })
     else None
 
--- mcall, of print alone: the frame at the source holds the format, which is printed as it stands; the answer is how
--- many bytes that takes.
-abbrev pub called : Object → Inst → Blocks → Option (ℕ × Blocks)
+-- mcall, of print alone: the frame at the source holds the format, a string of at most 8,192 bytes that is written as it
+-- stands, and the address of the word of the running frame that takes the answer.
+abbrev pub called : Object → Inst → Blocks → Option (ℕ × ℕ)
 called o i b = do
   address ← value i.src b
   frame ← frame_at address b
@@ -110,18 +110,21 @@ called o i b = do
   k ← (if bytes_eq function.name (codes "print") then format_item frame else None)
   item ← slice_get o.items k
   place ← answer_place frame
-  after ← answered place item.count b
-  Some (k, after)
+  if nat_lt place (length b.fp) && nat_le (length item.content) 8192 then Some (k, place) else None
+
+-- The content of a data item, nothing where there is no such item.
+abbrev pub content_of : Object → ℕ → List ℕ
+content_of o k = elim (slice_get o.items k) [ None ↦ [] | Some item ↦ item.content ]
 
 -- An instruction without a print.
 abbrev pub went : Option Blocks → Outcome
 went None = Fault
 went (Some b) = Went b
 
--- An instruction that prints.
-abbrev pub printed : Option (ℕ × Blocks) → Outcome
-printed None = Fault
-printed (Some p) = Printed p.0 p.1
+-- A call of print: an empty text asks for nothing and is answered 0.
+abbrev pub printed : Object → Blocks → Option (ℕ × ℕ) → Outcome
+printed o b None = Fault
+printed o b (Some p) = if length (content_of o p.0) == 0 then went (answered p.1 0 b) else Asked p.0 p.1
 
 -- One instruction: a case for each operation that the machine knows.
 abbrev pub execute : Object → Inst → Blocks → Outcome
@@ -131,21 +134,16 @@ execute o i b =
       | Frame ↦ went (framed o i b)
       | Movp ↦ went (moved i b)
       | Lea ↦ went (addressed i b)
-      | Mcall ↦ printed (called o i b)
+      | Mcall ↦ printed o b (called o i b)
       | Ret ↦ Ended
       | _ ↦ Fault
     ]
 
--- How the machine's answers say it. A fault and an end leave memory as it was; so does want of memory, which only a
--- frame meets.
-abbrev pub Executes : Stepped → Op → Blocks → Blocks → Outcome → Type 0
-Executes stepped.Went op old new outcome = outcome ≡ Went new
-Executes (stepped.Printed item) op old new outcome = outcome ≡ Printed item new
-Executes stepped.Ended op old new outcome = (outcome ≡ Ended) × (new ≡ old)
-Executes stepped.Fault op old new outcome = (outcome ≡ Fault) × (new ≡ old)
-Executes stepped.NoMemory op old new outcome = (op ≡ Frame) × (new ≡ old)
-
--- The same of a call alone.
-abbrev pub Calls : Option ℕ → Blocks → Blocks → Option (ℕ × Blocks) → Type 0
-Calls None old new meant = (meant ≡ None) × (new ≡ old)
-Calls (Some item) old new meant = meant ≡ Some (item, new)
+-- How the machine's answers say it. What doesn't go on leaves memory as it was; so does want of memory, which only a
+-- frame meets here.
+abbrev pub Executes : Stepped → Blocks → Blocks → Outcome → Type 0
+Executes stepped.Went old new outcome = outcome ≡ Went new
+Executes (stepped.Asked item place) old new outcome = (outcome ≡ Asked item place) × (new ≡ old)
+Executes stepped.Ended old new outcome = (outcome ≡ Ended) × (new ≡ old)
+Executes stepped.Fault old new outcome = (outcome ≡ Fault) × (new ≡ old)
+Executes stepped.NoMemory old new outcome = new ≡ old

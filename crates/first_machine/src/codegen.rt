@@ -1,8 +1,8 @@
-ghost use Rattle.std.specs.Prelude.{◌≡◌, ◌<◌, ◌≤◌, ◌^◌, ◌++◌, ◌∷◌, [], codes, pos, length, map, encode_utf8_all};
+ghost use Rattle.std.specs.Prelude.{◌≡◌, ◌<◌, ◌≤◌, ◌^◌, ◌++◌, ◌∷◌, [], codes, pos, length};
 ghost use Rattle.std.specs.Prelude.{IfOk, Some, None};
 ghost use Rattle.std.specs.Option.{option_copied};
 ghost use Rattle.first_machine.specs.Run.{Prints};
-ghost use Rattle.first_machine.specs.Compiled.{AreLiterals, AreLiteralsIfAny, literals, compiled};
+ghost use Rattle.first_machine.specs.Compiled.{AreLiterals, AreLiteralsIfAny, literals, asked_texts, compiled};
 ghost use Rattle.first_machine.specs.Compiled.{load_sys, literal_offset, print_code, prints_code, return};
 ghost use Rattle.first_machine.specs.Compiled.{string_item, literal_items, init_link};
 ghost use Rattle.first_machine.specs.Compiled.{top_bits, all_references, data_type, init_frame, print_frame};
@@ -264,7 +264,7 @@ fn make_bare(alloc: Global, name: &Text) -> Result<Object, AllocError>
 pub fn object_of(alloc: Global, name: &Text, prints: Option<&[Text]>) -> Result<Object, AllocError>
     requires { AreLiteralsIfAny (option_copied prints) }
     ensures laid_out { IfOk result (λ o. o ≡ compiled name.now (option_copied prints.entry)) }
-    ensures runs { IfOk result (λ o. Prints o (map encode_utf8_all (literals (option_copied prints.entry)))) }
+    ensures runs { IfOk result (λ o. Prints o (asked_texts (literals (option_copied prints.entry)))) }
 {
     match prints {
         Some(texts) => make_printing(alloc, name, texts),

@@ -8,13 +8,20 @@
 #![tactic(auto)]
 
 mod codegen;
+mod doing;
+mod event;
 pub mod laws;
 mod machine;
 mod memory;
+mod quantum;
+mod reply;
+mod request;
 mod step;
 mod sys;
 mod word;
 
 pub use codegen::object_of;
-pub use machine::{Machine, StartFault};
-pub use step::Stepped;
+pub use doing::Doing;
+pub use event::{Event, Journal};
+pub use machine::{End, Machine, StartFault};
+pub use reply::ReplyFault;

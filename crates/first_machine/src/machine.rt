@@ -1,31 +1,57 @@
-ghost use Rattle.std.specs.Prelude.{◌≡◌, Some, None, IfOk, IfErr, MatchOption, MatchResult, slice_get};
+ghost use Rattle.std.specs.Prelude.{◌≡◌, ◌≢◌, ◌↔◌, ◌<◌, ◌≤◌, ◌++◌, ◌∷◌, [], ℕ, Some, None, IsTrue, IfOk, IfErr, OnOk, OnErr};
+ghost use Rattle.std.specs.Prelude.{MatchOption, MatchResult, slice_get, option_map};
 ghost use Rattle.first_machine.specs.Start.{IsRefusal};
-ghost use Rattle.first_machine.specs.Run.{content_of, placed, with_items, first_blocks, initial};
-ghost use Rattle.first_machine.specs.Run.{Steps, Leaves, Falls};
+ghost use Rattle.first_machine.specs.Run.{placed, with_items, first_blocks, initial, turn, CanAsk};
+ghost use Rattle.first_machine.specs.Machine.{outbox_after};
+ghost use Rattle.first_machine.specs.Ends.{end_of};
 
+use crate::doing::Doing;
+use crate::event::{Event, Journal};
 use crate::memory::{Memory, make_blank, set_word};
-use crate::step::Stepped;
+use crate::request::request;
+use crate::step::{Stepped, content_of};
 use crate::word::Word;
 use dis_file::{Item, Object, TypeDesc};
+use inf_text::Seq;
 use std::alloc::{AllocError, Global};
 use std::marker::Model;
 
-/// A machine with one process, which runs an object from its entry. It knows the six instructions load, frame, movp,
-/// lea, mcall and ret, one module, `$Sys`, and one function of it, `print`.
+/// A machine with one process, number 1, which runs an object from its entry. It knows the six instructions load, frame,
+/// movp, lea, mcall and ret, one module, `$Sys`, and one function of it, `print`. A print asks for its text to be written,
+/// and its process waits for the reply. The journal has all that happened to the machine.
 #[derive(Drop, Debug)]
 pub struct Machine {
-    object: Object,
-    memory: Memory,
-    pc: usize,
+    pub(crate) object: Object,
+    pub(crate) memory: Memory,
+    pub(crate) pc: usize,
+    pub(crate) doing: Doing,
+    /// How many bytes the prints were told to be taken so far.
+    pub(crate) taken: u64,
+    /// The request that was made and not yet handed over.
+    pub(crate) outbox: Option<Vec<u8>>,
+    pub(crate) journal: Vec<Event>,
 }
 
 impl Model for Machine {
-    ghost use Rattle.std.specs.Prelude.{drop};
-    ghost use Rattle.first_machine.specs.Run.{State};
+    ghost use Rattle.std.specs.Prelude.{drop, option_map};
+    ghost use Rattle.first_machine.specs.Machine.{Journaled};
 
-    ghost Value = { State };
+    ghost Value = { Journaled };
 
-    ghost view = { λ m. record { object = m.object; code = drop m.pc m.object.insts; blocks = m.memory } };
+    ghost view = { λ m. record {
+      state = record { object = m.object; code = drop m.pc m.object.insts; blocks = m.memory; doing = m.doing; taken = m.taken };
+      outbox = option_map (λ f. f.items) m.outbox;
+      journal = m.journal.items;
+    } };
+}
+
+/// How a run has ended.
+#[derive(Clone, Copy, PartialEq, Eq, Debug)]
+pub enum End {
+    /// The process has returned.
+    Done,
+    /// The process met an instruction that the machine doesn't know, or that doesn't fit its operands.
+    Faulted,
 }
 
 /// Why an object can't be run.
@@ -110,7 +136,8 @@ impl Machine {
     /// a word of the data; `NoMemory`.
     #[tactic(auto, unfolding(crate::specs::Run::initial))]
     pub fn start(alloc: Global, object: Object) -> Result<Machine, StartFault>
-        ensures ready { IfOk result (λ m. initial object ≡ Some m) }
+        ensures ready { IfOk result (λ m. initial object ≡ Some m.state) }
+        ensures empty { IfOk result (λ m. (m.outbox ≡ None) × (m.journal ≡ [])) }
         ensures refused { IfErr result (IsRefusal object) }
     {
         let memory = first_memory(alloc, &object)?;
@@ -118,42 +145,94 @@ impl Machine {
             pc: object.entry_pc as usize,
             memory,
             object,
+            doing: Doing::Ready,
+            taken: 0,
+            outbox: None,
+            journal: Vec::new(alloc),
         })
     }
 
-    /// Runs the next instruction. A frame that is made takes memory and time by its size; every other step takes
-    /// constant time and no memory.
-    pub fn step(&mut self, alloc: Global) -> Stepped
-        ensures exact { Steps result self.old self.new }
-        ensures leaves { Leaves result self.old self.new }
-        ensures falls { Falls result self.old self.new }
+    /// The number of a process that can go on, or `None` where there is none.
+    pub fn ready(&self) -> Option<u32>
+        ensures { MatchOption result (self.now.state.doing ≢ Doing.Ready) (λ pid. (pid ≡ 1) × (self.now.state.doing ≡ Doing.Ready)) }
     {
-        self.obey_next(alloc)
+        match self.doing {
+            Doing::Ready => Some(1),
+            Doing::Waiting { .. } | Doing::Ended | Doing::Faulted => None,
+        }
     }
 
-    /// The step itself. What it leaves of the whole run follows from its contract alone.
-    fn obey_next(&mut self, alloc: Global) -> Stepped
-        ensures exact { Steps result self.old self.new }
-        ensures falls { Falls result self.old self.new }
+    /// Whether a process of this number can go on.
+    pub fn is_ready(&self, pid: u32) -> bool
+        ensures { IsTrue result ↔ ((pid ≡ 1) × (self.now.state.doing ≡ Doing.Ready)) }
+    {
+        pid == 1 && matches!(self.doing, Doing::Ready)
+    }
+
+    /// Runs the next instruction. A frame and a request take memory.
+    pub(crate) fn turn(&mut self, alloc: Global) -> Result<(), AllocError>
+        requires { self.old.state.doing ≡ Doing.Ready }
+        ensures went { OnOk result (turn self.old.state ≡ Some self.new.state) }
+        ensures asked { OnOk result (self.new.outbox ≡ outbox_after self.new.state self.old.outbox) }
+        ensures fits { OnOk result (CanAsk self.new.state) }
+        ensures same_journal { self.new.journal ≡ self.old.journal }
+        ensures kept { OnErr result (self.new ≡ self.old) }
     {
         let Some(inst) = self.object.insts.as_slice().get(self.pc).copied() else {
-            return Stepped::Fault;
+            self.doing = Doing::Faulted;
+            return Ok(());
         };
-        let stepped = self.memory.execute(alloc, &self.object, inst);
-        match stepped {
-            Stepped::Went | Stepped::Printed { item: _ } => self.pc += 1,
-            Stepped::Ended | Stepped::Fault | Stepped::NoMemory => {}
+        match self.memory.execute(alloc, &self.object, inst) {
+            Stepped::Went => self.pc += 1,
+            Stepped::Asked { item, place } => {
+                let frame = request(alloc, self.taken, content_of(&self.object, item))?;
+                self.outbox = Some(frame);
+                self.pc += 1;
+                self.doing = Doing::Waiting { item, place };
+            }
+            Stepped::Ended => self.doing = Doing::Ended,
+            Stepped::Fault => self.doing = Doing::Faulted,
+            Stepped::NoMemory => return Err(AllocError),
         }
-        stepped
+        Ok(())
     }
 
-    /// The content of a data item of the object, nothing where there is no such item.
-    pub fn content(&self, item: usize) -> &[u8]
-        ensures { result.now ≡ content_of self.now.object item }
+    /// The oldest request that wasn't handed over, or `None` where there is none. It is a frame of the console's link.
+    pub fn next_frame(&mut self) -> Option<Vec<u8>>
+        ensures frame { option_map (λ f. f.items) result ≡ self.old.outbox }
+        ensures taken { self.new ≡ record self.old { outbox = None } }
     {
-        match self.object.items.as_slice().get(item) {
-            Some(found) => found.content.as_slice(),
-            None => &[],
+        self.outbox.take()
+    }
+
+    /// How the run has ended, or `None` where it goes on.
+    pub fn ended(&self) -> Option<End>
+        ensures { result ≡ end_of self.now.state.doing }
+    {
+        match self.doing {
+            Doing::Ready | Doing::Waiting { .. } => None,
+            Doing::Ended => Some(End::Done),
+            Doing::Faulted => Some(End::Faulted),
         }
+    }
+
+    /// The journal, and the object of the run.
+    pub fn into_parts(self) -> (Journal, Object)
+        ensures journal { result.0.events ≡ self.journal }
+        ensures object { result.1 ≡ self.state.object }
+    {
+        let Machine {
+            object,
+            memory,
+            pc: _,
+            doing: _,
+            taken: _,
+            outbox,
+            journal,
+        } = self;
+        drop(memory);
+        drop(outbox);
+        let events = Seq::from_vec(journal);
+        (Journal { events }, object)
     }
 }

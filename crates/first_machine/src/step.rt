@@ -2,7 +2,8 @@ ghost use Rattle.std.specs.Prelude.{◌≡◌, IfOk, OnErr};
 ghost use Rattle.std.specs.Option.{option_copied};
 ghost use Rattle.first_machine.specs.Memory.{Becomes};
 ghost use Rattle.first_machine.specs.Step.{at_least_zero, middle_number, immediate, frame_type, callee, answered};
-ghost use Rattle.first_machine.specs.Step.{loaded, framed, moved, addressed, called, execute, Calls, Executes};
+ghost use Rattle.first_machine.specs.Step.{loaded, framed, moved, addressed, called, printed, execute, Executes};
+ghost use Rattle.first_machine.specs.Step as step;
 
 use crate::memory::{Memory, make_blank};
 use crate::word::Word;
@@ -15,14 +16,28 @@ use std::alloc::{AllocError, Global};
 pub enum Stepped {
     /// It went well, and the process goes on.
     Went,
-    /// It printed the text of this data item of the object, counted from 0, and the process goes on.
-    Printed { item: usize },
+    /// It asks for the text of this data item of the object, counted from 0, to be written. The answer goes to this
+    /// word of the running frame. Nothing else changes.
+    Asked { item: usize, place: usize },
     /// The process has ended.
     Ended,
     /// It isn't one that the machine knows, or its operands don't fit it. Nothing changes.
     Fault,
     /// Want of memory. Nothing changes.
     NoMemory,
+}
+
+/// The longest text that is written at once, in bytes.
+const PIECE: usize = 8192;
+
+/// The content of a data item of an object, nothing where there is no such item.
+pub(crate) fn content_of(object: &Object, item: usize) -> &[u8]
+    ensures { result.now ≡ step.content_of object.now item }
+{
+    match object.items.as_slice().get(item) {
+        Some(found) => found.content.as_slice(),
+        None => &[],
+    }
 }
 
 /// The import that names the function `print`.
@@ -103,9 +118,9 @@ impl Memory {
         object.imports.as_slice().get(table)?.as_slice().get(number)
     }
 
-    /// Calls `print`, and gives the data item that it printed.
-    fn mcall(&mut self, object: &Object, inst: Inst) -> Option<usize>
-        ensures { Calls result self.old self.new (called object.now inst self.old) }
+    /// The data item that a call of `print` writes, and the word of the running frame that takes the answer.
+    fn mcall(&self, object: &Object, inst: Inst) -> Option<(usize, usize)>
+        ensures { result ≡ called object.now inst self.now }
     {
         let Word::Made = self.value(inst.src)? else {
             return None;
@@ -116,13 +131,32 @@ impl Memory {
         }
         let format = self.format_item()?;
         let item = object.items.as_slice().get(format)?;
-        let answer = self.answer_place()?;
-        self.answer(answer, item.count)?;
-        Some(format)
+        let place = self.answer_place()?;
+        if place < self.fp.len() && item.content.len() <= PIECE {
+            Some((format, place))
+        } else {
+            None
+        }
+    }
+
+    /// Calls `print`: an empty text asks for nothing and is answered 0.
+    fn print(&mut self, object: &Object, inst: Inst) -> Stepped
+        ensures { Executes result self.old self.new (printed object.now self.old (called object.now inst self.old)) }
+    {
+        let Some((item, place)) = self.mcall(object, inst) else {
+            return Stepped::Fault;
+        };
+        if !content_of(object, item).is_empty() {
+            return Stepped::Asked { item, place };
+        }
+        match self.answer(place, 0) {
+            Some(()) => Stepped::Went,
+            None => Stepped::Fault,
+        }
     }
 
     /// Ends a call: stores its answer and drops its frame.
-    fn answer(&mut self, place: usize, count: u32) -> Option<()>
+    pub(crate) fn answer(&mut self, place: usize, count: u32) -> Option<()>
         ensures { Becomes result self.old self.new (answered place count self.old) }
     {
         if place >= self.fp.len() {
@@ -159,7 +193,7 @@ impl Memory {
 
     /// Runs one instruction.
     pub(crate) fn execute(&mut self, alloc: Global, object: &Object, inst: Inst) -> Stepped
-        ensures { Executes result inst.op self.old self.new (execute object.now inst self.old) }
+        ensures { Executes result self.old self.new (execute object.now inst self.old) }
     {
         let done = match inst.op {
             Op::Load => self.load(object, inst),
@@ -169,12 +203,7 @@ impl Memory {
             },
             Op::Movp => self.movp(inst),
             Op::Lea => self.lea(inst),
-            Op::Mcall => {
-                return match self.mcall(object, inst) {
-                    Some(item) => Stepped::Printed { item },
-                    None => Stepped::Fault,
-                };
-            }
+            Op::Mcall => return self.print(object, inst),
             Op::Ret => return Stepped::Ended,
             _ => return Stepped::Fault,
         };

@@ -4,7 +4,7 @@ use Rattle.std.specs.Prelude.{Option, Some, None}
 use Rattle.inf_ports.specs.Outside.{Told, Has, Lacks, Rose}
 use Rattle.thin_source.specs.Thin.{Program}
 use Rattle.inferno_tool.specs.Built.{IsBuilt}
-use Rattle.inferno_tool.specs.Outcome.{Course, IsAccepted, IsCause, IsRunEnd, Tells, TellsProgram, IsUnlessMemory}
+use Rattle.inferno_tool.specs.Outcome.{Course, HasProgram, IsAccepted, IsCause, IsRunEnd, IsSinkFault, Tells, TellsProgram, IsUnlessMemory}
 use Rattle.inferno_tool.specs.Words.{named_file}
 use Rattle.inferno_tool.specs.declared.cause.Cause.{Cause}
 use Rattle.inferno_tool.specs.declared.cause.Cause.TheVariants.{Done, Usage, BadSource, Host, SinkFault, NoMemory}
@@ -31,25 +31,21 @@ told_not_lacking : {A : Type 0} (told : Told) (path source : List ℕ) → Tells
 told_not_lacking None path source tells lacks = absurd tells
 told_not_lacking (Some files) path source tells lacks = let same : Some source ≡ None = sym tells ∙ lacks in cc
 
--- the accepted file is the one that the words name
-accepted_file : (c : Course) (prints : Option (List (List ℕ))) (a : IsAccepted c.words c.told prints) (file : List ℕ) → named_file c.words ≡ Some file → a.file ≡ file
-accepted_file c prints a file named = one_file c.words a.file file a.named named
-
-refused_accepted : {A : Type 0} (c : Course) (prints : Option (List (List ℕ))) (a : IsAccepted c.words c.told prints) (file source : List ℕ) → named_file c.words ≡ Some file → Tells c.told file (Some source) → ((program : Program) → IsBuilt source program → ⊥) → A
-refused_accepted c prints a file source named tells outside =
-    let there : Has c.told file a.read.source = (let P : List ℕ → Type 0 = λ x. Has c.told x a.read.source in subst P (accepted_file c prints a file named) a.read.stands) in
-    let same : source ≡ a.read.source = same_bytes c.told file source a.read.source tells there in
-    absurd (outside a.read.program (let P : List ℕ → Type 0 = λ x. IsBuilt x a.read.program in subst P (sym same) a.read.built))
+refused_accepted : {A : Type 0} (c : Course) (a : HasProgram c.words c.told) (file source : List ℕ) → named_file c.words ≡ Some file → Tells c.told file (Some source) → ((program : Program) → IsBuilt source program → ⊥) → A
+refused_accepted c a file source named tells outside =
+    let there : Has c.told file a.accepted.read.source = (let P : List ℕ → Type 0 = λ x. Has c.told x a.accepted.read.source in subst P (one_file c.words a.file file a.accepted.named named) a.accepted.read.stands) in
+    let same : source ≡ a.accepted.read.source = same_bytes c.told file source a.accepted.read.source tells there in
+    absurd (outside a.accepted.read.program (let P : List ℕ → Type 0 = λ x. IsBuilt x a.accepted.read.program in subst P (sym same) a.accepted.read.built))
 
 pub refused : (c : Course) (cause : Cause) → IsCause c cause → (file source : List ℕ) → named_file c.words ≡ Some file → Tells c.told file (Some source) → ((program : Program) → IsBuilt source program → ⊥) → (Rose c.files_before c.files_after → ⊥) → IsUnlessMemory cause (BadSource file Unbuilt)
-refused c Done is file source named tells outside calm = refused_accepted c is.0 is.1 file source named tells outside
+refused c Done is file source named tells outside calm = refused_accepted c is.0 file source named tells outside
 refused c Usage is file source named tells outside calm = no_file c.words file is named
 refused c (BadSource other Unbuilt) is file source named tells outside calm = inl (let same : other ≡ file = one_file c.words other file is.0 named in cc)
 refused c (Host path true) is file source named tells outside calm =
     told_not_lacking c.told file source tells
     (let P : List ℕ → Type 0 = λ x. Lacks c.told x in subst P (one_file c.words path file is.0 named) is.1)
 refused c (Host path false) is file source named tells outside calm = absurd (calm is.1)
-refused c (SinkFault out err) is file source named tells outside calm = refused_accepted c is.0.0 is.0.1 file source named tells outside
+refused c (SinkFault out err) is file source named tells outside calm = refused_accepted c is.0 file source named tells outside
 refused c NoMemory is file source named tells outside calm = inr refl
 
 -- a count that has risen has risen still when it is higher
@@ -76,7 +72,7 @@ done c NoMemory is program t calm quiet silent = inr refl
 
 -- the closing line changes no cause, whatever it does to the count of `err`
 pub later_cause : (c : Course) (after : ℕ) (cause : Cause) → c.err_after ≤ after → IsCause c cause → IsCause (record c { err_after = after }) cause
-later_cause c after Done up is = is
+later_cause c after Done up is = (is.0, is.1, (is.2.0, omega (arith, is.2.1), is.2.2))
 later_cause c after Usage up is = is
 later_cause c after (BadSource file fault) up is = is
 later_cause c after (Host path true) up is = is
@@ -84,19 +80,49 @@ later_cause c after (Host path false) up is = is
 later_cause c after (SinkFault out err) up is = (is.0, is.1, omega arith, is.3)
 later_cause c after NoMemory up is = tt
 
--- the literals of the accepted program are those that the told program has
-pub same_prints : (words : List (List ℕ)) (told : Told) (prints : Option (List (List ℕ))) (program : Program) → IsAccepted words told prints → TellsProgram words told program → prints ≡ program.prints
-same_prints words told prints program a t =
-    let file : a.file ≡ t.file = one_file words a.file t.file a.named t.named in
-    let there : Has told t.file a.read.source = (let P : List ℕ → Type 0 = λ x. Has told x a.read.source in subst P file a.read.stands) in
+-- the accepted program is the one that the told program is, in the same file
+pub record SameProgram (words : List (List ℕ)) (told : Told) (file name : List ℕ) (prints : Option (List (List ℕ))) (program : Program) (t : TellsProgram words told program) : Type 0 where
+  pub file_is : file ≡ t.file
+  pub name_is : name ≡ program.name
+  pub prints_are : prints ≡ program.prints
+
+pub same_program : (words : List (List ℕ)) (told : Told) (file name : List ℕ) (prints : Option (List (List ℕ))) (program : Program) → IsAccepted words told file name prints → (t : TellsProgram words told program) → SameProgram words told file name prints program t
+same_program words told file name prints program a t =
+    let here : file ≡ t.file = one_file words file t.file a.named t.named in
+    let there : Has told t.file a.read.source = (let P : List ℕ → Type 0 = λ x. Has told x a.read.source in subst P here a.read.stands) in
     let same : t.source ≡ a.read.source = same_bytes told t.file t.source a.read.source t.tells there in
-    a.read.same program (let P : List ℕ → Type 0 = λ x. IsBuilt x program in subst P same t.built)
+    let both = a.read.same program (let P : List ℕ → Type 0 = λ x. IsBuilt x program in subst P same t.built) in
+    record { file_is = here; name_is = both.0; prints_are = both.1 }
 
 -- how the run of an accepted program ends is a cause
-pub run_cause : (c : Course) (cause : Cause) (prints : Option (List (List ℕ))) → IsAccepted c.words c.told prints → IsRunEnd c.out_before c.out_after c.err_after cause → IsCause c cause
-run_cause c Done prints accepted end = (prints, accepted)
-run_cause c Usage prints accepted end = absurd end
-run_cause c (BadSource file fault) prints accepted end = absurd end
-run_cause c (Host path missing) prints accepted end = absurd end
-run_cause c (SinkFault out err) prints accepted end = ((prints, accepted), end.0, omega arith, inl end.2)
-run_cause c NoMemory prints accepted end = tt
+pub run_cause : (c : Course) (cause : Cause) (file name : List ℕ) (prints : Option (List (List ℕ))) → IsAccepted c.words c.told file name prints → c.err_before ≤ c.err_after → IsRunEnd c.out_before c.out_after c.err_after cause → c.err_before ≡ c.err_after → IsCause c cause
+run_cause c Done file name prints accepted up end same =
+    (record { file = file; name = name; prints = prints; accepted = accepted }, end.0, (c.err_after, omega arith, (let P : ℕ → Type 0 = λ n. Rose n c.err_after → ⊥ in subst P (sym same) end.1)))
+run_cause c Usage file name prints accepted up end same = absurd end
+run_cause c (BadSource other fault) file name prints accepted up end same = absurd end
+run_cause c (Host path missing) file name prints accepted up end same = absurd end
+run_cause c (SinkFault out err) file name prints accepted up end same = (
+  record { file = file; name = name; prints = prints; accepted = accepted },
+  end.0,
+  omega (arith, end.1),
+  elim end.2 [
+    | inl rose ↦ inl (let P : ℕ → Type 0 = λ n. Rose c.out_before n in subst P (sym end.0) rose)
+    | inr rose ↦ inr (let P : ℕ → Type 0 = λ n. Rose n err in subst P (sym same) (let Q : ℕ → Type 0 = λ n. Rose c.err_after n in subst Q (sym end.1) rose))
+  ],
+)
+run_cause c NoMemory file name prints accepted up end same = tt
+
+-- where a count of output rose, a told program ends so, unless memory ran out
+pub failed : (c : Course) (cause : Cause) → IsCause c cause → (program : Program) → TellsProgram c.words c.told program → (Rose c.files_before c.files_after → ⊥) → Rose c.out_before c.out_after → IsSinkFault cause ⊎ (cause ≡ NoMemory)
+failed c Done is program t calm rose = absurd (is.1 rose)
+failed c Usage is program t calm rose = no_file c.words t.file is t.named
+failed c (BadSource other fault) is program t calm rose =
+    let there : Has c.told t.file is.1.source = (let P : List ℕ → Type 0 = λ x. Has c.told x is.1.source in subst P (one_file c.words other t.file is.0 t.named) is.1.stands) in
+    let same : t.source ≡ is.1.source = same_bytes c.told t.file t.source is.1.source t.tells there in
+    absurd (is.1.outside program (let P : List ℕ → Type 0 = λ x. IsBuilt x program in subst P same t.built))
+failed c (Host path true) is program t calm rose =
+    told_not_lacking c.told t.file t.source t.tells
+    (let P : List ℕ → Type 0 = λ x. Lacks c.told x in subst P (one_file c.words path t.file is.0 t.named) is.1)
+failed c (Host path false) is program t calm rose = absurd (calm is.1)
+failed c (SinkFault out err) is program t calm rose = inl tt
+failed c NoMemory is program t calm rose = inr refl

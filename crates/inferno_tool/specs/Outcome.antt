@@ -1,5 +1,5 @@
 -- What each cause of an end says: of the words, of the files as they are told, and of which counts of faults rose.
-use Rattle.std.specs.Prelude.{ℕ, ◌≡◌, ◌≤◌, ◌⊎◌, List, Option, None, Some, true, false}
+use Rattle.std.specs.Prelude.{ℕ, ◌≡◌, ◌≤◌, ◌⊎◌, List, Option, None, Some, Bool, true, false}
 use Rattle.inf_ports.specs.Outside.{Told, Lacks, Rose}
 use Rattle.thin_source.specs.Thin.{Program}
 use Rattle.inferno_tool.specs.Built.{IsBuilt}
@@ -19,15 +19,17 @@ pub record Course : Type 0 where
   pub err_before : ℕ
   pub err_after : ℕ
 
--- the words name a file whose source is a program of the built part, and these are its literals
-pub record IsAccepted (words : List (List ℕ)) (told : Told) (prints : Option (List (List ℕ))) : Type 0 where
-  pub file : List ℕ
+-- the words name this file, whose source is a program of the built part, with this name and these prints
+pub record IsAccepted (words : List (List ℕ)) (told : Told) (file name : List ℕ) (prints : Option (List (List ℕ))) : Type 0 where
   pub named : named_file words ≡ Some file
-  pub read : IsRead told file prints
+  pub read : IsRead told file name prints
 
 -- the words name a file whose source is some program of the built part
-abbrev pub HasProgram : List (List ℕ) → Told → Type 0
-HasProgram words told = (prints : Option (List (List ℕ))) × IsAccepted words told prints
+pub record HasProgram (words : List (List ℕ)) (told : Told) : Type 0 where
+  pub file : List ℕ
+  pub name : List ℕ
+  pub prints : Option (List (List ℕ))
+  pub accepted : IsAccepted words told file name prints
 
 -- the files tell what stands at the path: these bytes, or no file
 abbrev pub Tells : Told → List ℕ → Option (List ℕ) → Type 0
@@ -51,16 +53,20 @@ IsRefusal words told before after (Host path false) = (named_file words ≡ Some
 IsRefusal words told before after NoMemory = Unit {0}
 IsRefusal words told before after _ = ⊥
 
--- how a run ends: all was printed, a write of output failed, or want of memory
+-- How a run ends: the program returned and no count of output rose, a write of output failed, or want of memory.
 abbrev pub IsRunEnd : ℕ → ℕ → ℕ → Cause → Type 0
-IsRunEnd before after err_count Done = Unit {0}
-IsRunEnd before after err_count (SinkFault out err) = (out ≡ after) × (err ≡ err_count) × Rose before out
+IsRunEnd before after err_count Done = (Rose before after → ⊥) × (Rose err_count err_count → ⊥)
+IsRunEnd before after err_count (SinkFault out err) =
+    (out ≡ after) × (err ≡ err_count) × (Rose before after ⊎ Rose err_count err_count)
 IsRunEnd before after err_count NoMemory = Unit {0}
 IsRunEnd before after err_count _ = ⊥
 
--- where each cause comes
+-- Where each cause comes. Of those of a run's end want of memory comes first, and then a count of output that rose before
+-- the closing line was written.
 abbrev pub IsCause : Course → Cause → Type 0
-IsCause c Done = HasProgram c.words c.told
+IsCause c Done =
+    HasProgram c.words c.told × (Rose c.out_before c.out_after → ⊥)
+    × ((err : ℕ) × (err ≤ c.err_after) × (Rose c.err_before err → ⊥))
 IsCause c (SinkFault out err) =
     HasProgram c.words c.told
     × (out ≡ c.out_after) × (err ≤ c.err_after) × (Rose c.out_before out ⊎ Rose c.err_before err)
@@ -76,3 +82,14 @@ IsUnrun Usage = Unit {0}
 IsUnrun (BadSource file fault) = Unit {0}
 IsUnrun (Host path missing) = Unit {0}
 IsUnrun _ = ⊥
+
+-- the program was run until it returned
+abbrev pub is_run_out : Cause → Bool
+is_run_out Done = true
+is_run_out (SinkFault out err) = true
+is_run_out _ = false
+
+-- a write of output failed
+abbrev pub IsSinkFault : Cause → Type 0
+IsSinkFault (SinkFault out err) = Unit {0}
+IsSinkFault _ = ⊥

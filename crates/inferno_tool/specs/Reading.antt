@@ -6,13 +6,13 @@ use Rattle.inferno_tool.specs.Built.{IsBuilt}
 use Rattle.inferno_tool.specs.declared.cause.Cause.{Cause}
 use Rattle.inferno_tool.specs.declared.cause.Cause.TheVariants.{BadSource, Host, NoMemory}
 
--- the file's bytes are a program of the built part that prints these literals, and every program that they are does
-pub record IsRead (told : Told) (path : List ℕ) (prints : Option (List (List ℕ))) : Type 0 where
+-- the file's bytes are a program of the built part of this name, with these prints, and every program that they are is
+pub record IsRead (told : Told) (path : List ℕ) (name : List ℕ) (prints : Option (List (List ℕ))) : Type 0 where
   pub source : List ℕ
   pub stands : Has told path source
   pub program : Program
   pub built : IsBuilt source program
-  pub same : (p : Program) → IsBuilt source p → prints ≡ p.prints
+  pub same : (p : Program) → IsBuilt source p → (name ≡ p.name) × (prints ≡ p.prints)
 
 -- the file's bytes are no program of the built part
 pub record IsOutside (told : Told) (path : List ℕ) : Type 0 where

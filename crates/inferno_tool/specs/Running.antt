@@ -1,16 +1,27 @@
--- What a run writes.
-use Rattle.std.specs.Prelude.{ℕ, List}
-use Rattle.inf_ports.specs.Outside.{Rose}
+-- What a run leaves: its journal, the objects that it was started with, and the bytes on the output.
+use Rattle.std.specs.Prelude.{◌≡◌, ℕ, List, [], ◌∷◌, Option, None, Some, Bool, false}
 use Rattle.dis_file.specs.declared.object.Object.{Object}
-use Rattle.first_machine.specs.Run.{Prints}
-use Rattle.inferno_tool.specs.declared.running.RunFault.{RunFault}
-use Rattle.inferno_tool.specs.declared.running.RunFault.TheVariants.{NoMemory, OutputFailed}
+use Rattle.first_machine.specs.declared.event.Journal.{Journal}
+use Rattle.first_machine.specs.Compiled.{asked_texts, compiled, literals}
+use Rattle.first_machine.specs.Run.{Prints, initial}
+use Rattle.first_machine.specs.Machine.{Journaled}
+use Rattle.first_host.specs.Conversation.{Conversation}
+use Rattle.inferno_tool.specs.Words.{base_name}
 
--- the object's run prints some texts and returns
-abbrev pub RunsWell : Object → Type 0
-RunsWell object = (texts : List (List ℕ)) × Prints object texts
+-- A run of the program of this name, with these prints, from the file at the path. Where no machine was started nothing is
+-- written. Else the objects are the file's base name and the program's object, and what the journal, the requests, the
+-- console's replies and the output's bytes are is their conversation.
+abbrev pub IsRun : List ℕ → List ℕ → Option (List (List ℕ)) → Option Journal → List (List ℕ × Object) → Option (List ℕ) → Option (List ℕ) → Bool → Type 0
+IsRun path name prints None objects old new done = (objects ≡ []) × (new ≡ old) × (done ≡ false)
+IsRun path name prints (Some journal) objects old new done =
+    (objects ≡ (base_name path, compiled name prints) ∷ [])
+    × Conversation (compiled name prints) (asked_texts (literals prints)) journal.events old new done
 
--- why a run stopped before its end: a write failed, for which the sink's count rose, or want of memory
-abbrev pub IsStop : ℕ → ℕ → RunFault → Type 0
-IsStop before now NoMemory = Unit {0}
-IsStop before now OutputFailed = Rose before now
+-- A machine that was started on the program's object, under the file's base name.
+pub record IsStarted (path name : List ℕ) (prints : Option (List (List ℕ))) (machine : Journaled) (base : List ℕ) : Type 0 where
+  pub object : machine.state.object ≡ compiled name prints
+  pub begins : initial (compiled name prints) ≡ Some machine.state
+  pub outbox : machine.outbox ≡ None
+  pub journal : machine.journal ≡ []
+  pub prints_texts : Prints (compiled name prints) (asked_texts (literals prints))
+  pub named : base ≡ base_name path

@@ -1,6 +1,8 @@
 ghost use Rattle.std.specs.Prelude.{◌≡◌};
 ghost use Rattle.inferno_tool.specs.Closing.{status_of};
 
+use dis_file::Object;
+use first_machine::Journal;
 use inf_text::Text;
 
 /// Why a source was refused.
@@ -43,9 +45,22 @@ impl Cause {
     }
 }
 
+/// What a run leaves beside its cause.
+#[derive(Drop, Debug)]
+pub struct Left {
+    /// What happened to the machine, where one was started.
+    pub journal: Option<Journal>,
+    /// The base names and objects with which the machine was started, in order.
+    pub objects: Vec<(Text, Object)>,
+}
+
 /// How a command ended.
 #[derive(Drop, Debug)]
 pub struct Ended {
     pub status: u8,
     pub cause: Cause,
+    /// What happened to the machine, exactly where one was started.
+    pub journal: Option<Journal>,
+    /// The base names and objects with which the machine was started, in order.
+    pub objects: Vec<(Text, Object)>,
 }

@@ -33,7 +33,7 @@ fn refused(path: &Text, fault: SourceFault) -> Cause
 /// # Errors
 /// The cause: the file can't be read, its source is refused, or want of memory.
 pub fn read_source<H: HostTree>(alloc: Global, path: &Text, files: &mut H) -> Result<Thin, Cause>
-    ensures read { IfOk result (λ thin. IsRead (H.told files.old) path.now thin.prints) }
+    ensures read { IfOk result (λ thin. IsRead (H.told files.old) path.now thin.name thin.prints) }
     ensures small { IfOk result (λ thin. AreLiteralsIfAny thin.prints) }
     ensures unread { IfErr result (λ cause. IsUnread (H.told files.old) path.now (H.faults files.old) (H.faults files.new) cause) }
     ensures kept { H.told files.new ≡ H.told files.old }

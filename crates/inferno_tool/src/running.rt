@@ -1,78 +1,27 @@
-ghost use Rattle.std.specs.Prelude.{◌≡◌, ◌≤◌, ℕ, List, OnOk, IfOk, IfErr, map, encode_utf8_all};
-ghost use Rattle.first_machine.specs.Compiled.{AreLiteralsIfAny, literals};
-ghost use Rattle.inferno_tool.specs.Built.{bytes_of};
-ghost use Rattle.std.specs.List.{concat};
+ghost use Rattle.std.specs.Prelude.{◌≡◌, ◌≤◌, ◌⊎◌, ◌↔◌, ◌∷◌, [], ◌<◌, IfOk, IsTrue, length, vec_capacity};
 ghost use Rattle.std.specs.Io.KnownBytes.{Appends};
-ghost use Rattle.inf_ports.specs.Outside.{AppendsPart};
-ghost use Rattle.first_machine.specs.Run.{Prints, EndsWell, left};
-ghost use Rattle.inferno_tool.specs.Running.{RunsWell, IsStop};
+ghost use Rattle.inf_ports.specs.Outside.{AppendsPart, Rose};
+ghost use Rattle.first_machine.specs.Compiled.{AreLiteralsIfAny, asked_texts, compiled, literals};
+ghost use Rattle.first_machine.specs.Run.{Prints};
+ghost use Rattle.first_host.specs.Ends.{IsDone, is_done};
+ghost use Rattle.inferno_tool.specs.Built.{bytes_of};
+ghost use Rattle.inferno_tool.specs.Running.{IsRun, IsStarted};
 
+use crate::cause::Left;
+use crate::words::base_name;
 use dis_file::Object;
-use first_machine::{Machine, StartFault, Stepped, object_of};
-use inf_ports::{Sink, write_whole};
-use inf_text::Seq;
+use first_host::{Ran, RunEnd, run_machine};
+use first_machine::{Machine, StartFault, object_of};
+use inf_ports::Sink;
+use inf_text::{Seq, Text};
 use std::alloc::{AllocError, Global};
 use thin_source::Thin;
 
-/// Why a run stopped before its end.
-#[derive(Clone, Copy, Debug)]
-pub enum RunFault {
-    /// Want of memory.
-    NoMemory,
-    /// A write of what the program printed failed.
-    OutputFailed,
-}
-
-impl From<AllocError> for RunFault {
-    ghost use Rattle.std.specs.Prelude.{◌≡◌};
-    ghost use Rattle.inferno_tool.specs.declared.running.RunFault.TheVariants.{NoMemory};
-
-    ghost from_gives = { λ _ e. e ≡ NoMemory };
-
-    fn from(_error: AllocError) -> RunFault {
-        RunFault::NoMemory
-    }
-}
-
-/// Runs a machine to the end of its process. Each text that it prints goes to `out`, whole, before its next step.
-fn run_machine<K: Sink>(alloc: Global, machine: &mut Machine, out: &mut K) -> Result<(), RunFault>
-    requires { EndsWell machine.old }
-    ensures whole { OnOk result (Appends (K.held out.old) (K.held out.new) (concat (left machine.old))) }
-    ensures part { AppendsPart (K.held out.old) (K.held out.new) (concat (left machine.old)) }
-    ensures stopped { IfErr result (IsStop (K.faults out.old) (K.faults out.new)) }
-    ensures later { K.faults out.old ≤ K.faults out.new }
+/// Whether a count of faults has risen.
+pub fn has_risen(before: u64, now: u64) -> bool
+    ensures { IsTrue result ↔ Rose before now }
 {
-    loop {
-        match machine.step(alloc) {
-            Stepped::Went => {}
-            Stepped::Printed { item } => {
-                if write_whole(out, machine.content(item)).is_err() {
-                    return Err(RunFault::OutputFailed);
-                }
-            }
-            Stepped::Ended => return Ok(()),
-            Stepped::Fault => unreachable!(),
-            Stepped::NoMemory => return Err(RunFault::NoMemory),
-        }
-    }
-}
-
-/// Runs an object from its entry to the end of its process, and writes what it prints on `out`.
-///
-/// # Errors
-/// `OutputFailed`, for which the count of `out` rose; `NoMemory`. Then a first part of what it prints was written.
-pub fn run_object<K: Sink>(alloc: Global, object: Object, out: &mut K) -> Result<(), RunFault>
-    requires { RunsWell object }
-    ensures whole { OnOk result ((texts : List (List ℕ)) → Prints object texts → Appends (K.held out.old) (K.held out.new) (concat texts)) }
-    ensures part { (texts : List (List ℕ)) → Prints object texts → AppendsPart (K.held out.old) (K.held out.new) (concat texts) }
-    ensures stopped { IfErr result (IsStop (K.faults out.old) (K.faults out.new)) }
-    ensures later { K.faults out.old ≤ K.faults out.new }
-{
-    match Machine::start(alloc, object) {
-        Ok(mut machine) => run_machine(alloc, &mut machine, out),
-        Err(StartFault::NoMemory) => Err(RunFault::NoMemory),
-        Err(StartFault::Malformed) => unreachable!(),
-    }
+    before.saturating_add(1) <= now
 }
 
 /// Compiles a program to its object.
@@ -81,22 +30,78 @@ pub fn run_object<K: Sink>(alloc: Global, object: Object, out: &mut K) -> Result
 /// Want of memory.
 fn compile(alloc: Global, thin: &Thin) -> Result<Object, AllocError>
     requires { AreLiteralsIfAny thin.now.prints }
-    ensures { IfOk result (λ object. Prints object (map encode_utf8_all (literals thin.now.prints))) }
+    ensures laid_out { IfOk result (λ object. object ≡ compiled thin.now.name thin.now.prints) }
+    ensures runs { IfOk result (λ object. Prints object (asked_texts (literals thin.now.prints))) }
 {
     object_of(alloc, &thin.name, thin.prints.as_ref().map(Seq::as_slice))
 }
 
-/// Compiles a program, runs its object and writes what it prints on `out`.
+/// A machine that is started on a program, and room for what it was started with.
+#[derive(Drop)]
+struct Started {
+    machine: Machine,
+    name: Text,
+    objects: Vec<(Text, Object)>,
+}
+
+/// Compiles the program in the file at the path, and starts a machine on it.
 ///
 /// # Errors
-/// `OutputFailed`, for which the count of `out` rose; `NoMemory`. Then a first part of what it prints was written.
-pub fn run_program<K: Sink>(alloc: Global, thin: &Thin, out: &mut K) -> Result<(), RunFault>
+/// Want of memory.
+fn start(alloc: Global, path: &Text, thin: &Thin) -> Result<Started, AllocError>
     requires { AreLiteralsIfAny thin.now.prints }
-    ensures whole { OnOk result (Appends (K.held out.old) (K.held out.new) (bytes_of thin.now.prints)) }
-    ensures part { AppendsPart (K.held out.old) (K.held out.new) (bytes_of thin.now.prints) }
-    ensures stopped { IfErr result (IsStop (K.faults out.old) (K.faults out.new)) }
-    ensures later { K.faults out.old ≤ K.faults out.new }
+    ensures ready { IfOk result (λ s. IsStarted path.now thin.now.name thin.now.prints s.machine s.name) }
+    ensures room { IfOk result (λ s. (s.objects.items ≡ []) × (length s.objects.items < vec_capacity s.objects)) }
 {
     let object = compile(alloc, thin)?;
-    run_object(alloc, object, out)
+    let name = base_name(alloc, path)?;
+    let objects = Vec::with_capacity(alloc, 1)?;
+    match Machine::start(alloc, object) {
+        Ok(machine) => Ok(Started {
+            machine,
+            name,
+            objects,
+        }),
+        Err(StartFault::NoMemory) => Err(AllocError),
+        Err(StartFault::Malformed) => unreachable!(),
+    }
+}
+
+/// Compiles the program in the file at the path, runs it and writes what it prints on `out`.
+///
+/// The end is that the program returned, or want of memory, before a machine was started or later. Then a first part of
+/// what it prints was written.
+pub fn run_program<K: Sink>(alloc: Global, path: &Text, thin: &Thin, out: &mut K) -> (RunEnd, Left)
+    requires { AreLiteralsIfAny thin.now.prints }
+    ensures run { IsRun path.now thin.now.name thin.now.prints result.1.journal result.1.objects.items
+        (K.held out.old) (K.held out.new) (is_done result.0) }
+    ensures whole { IsDone result.0 → (Rose (K.faults out.old) (K.faults out.new) → ⊥)
+        → Appends (K.held out.old) (K.held out.new) (bytes_of thin.now.prints) }
+    ensures part { AppendsPart (K.held out.old) (K.held out.new) (bytes_of thin.now.prints) }
+    ensures ends { IsDone result.0 ⊎ (result.0 ≡ RunEnd.NoMemory) }
+    ensures later { K.faults out.old ≤ K.faults out.new }
+{
+    let Ok(started) = start(alloc, path, thin) else {
+        let left = Left {
+            journal: None,
+            objects: Vec::new(alloc),
+        };
+        return (RunEnd::NoMemory, left);
+    };
+    let Started {
+        machine,
+        name,
+        mut objects,
+    } = started;
+    let Ran {
+        journal,
+        object,
+        end,
+    } = run_machine(alloc, machine, out);
+    objects.push_reserved((name, object));
+    let left = Left {
+        journal: Some(journal),
+        objects,
+    };
+    (end, left)
 }

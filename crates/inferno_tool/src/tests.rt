@@ -1,5 +1,7 @@
 use super::top::inferno;
-use inf_ports::{MemSink, MemTree};
+use crate::cause::Ended;
+use first_machine::Event;
+use inf_ports::{Failed, MemSink, MemTree, Sink};
 use inf_text::{Seq, Text};
 use std::alloc::Global;
 use std::test::Fail;
@@ -85,15 +87,25 @@ fn calls(alloc: Global, failing: Option<u64>) -> Result<Vec<u64>, Fail> {
     Ok(list)
 }
 
+/// A tree in which this source stands at `hello.b`.
+fn tree(alloc: Global, source: &[u8], failing: Option<u64>) -> Result<MemTree, Fail> {
+    let source = Seq::from_vec(Vec::from_slice(alloc, source)?);
+    let listing = vec![in alloc; (text(alloc, "hello.b")?, source)]?;
+    Ok(MemTree::new(listing, calls(alloc, failing)?))
+}
+
+/// The words `go hello.b`.
+fn go(alloc: Global) -> Result<Vec<Text>, Fail> {
+    Ok(vec![in alloc; text(alloc, "go")?, text(alloc, "hello.b")?]?)
+}
+
 /// Runs a row, and answers its status and what was written on `out` and `err`.
 fn run(alloc: Global, row: &Row) -> Result<(u8, MemSink, MemSink), Fail> {
     let mut words = Vec::new(alloc);
     for word in row.words {
         words.push(text(alloc, word)?)?;
     }
-    let source = Seq::from_vec(Vec::from_slice(alloc, row.source)?);
-    let listing = vec![in alloc; (text(alloc, "hello.b")?, source)]?;
-    let mut files = MemTree::new(listing, calls(alloc, row.files_fail)?);
+    let mut files = tree(alloc, row.source, row.files_fail)?;
     let mut out = MemSink::new(alloc, row.room, calls(alloc, row.out_fails)?)?;
     let mut err = MemSink::new(alloc, 100, calls(alloc, row.err_fails)?)?;
     let ended = inferno(alloc, &words, &mut files, &mut out, &mut err);
@@ -119,6 +131,15 @@ fn rows(rt: HostRuntime) -> Result<(), Fail> {
         Row {
             room: 5,
             ..Row::of(HELLO, 8, b"hello", b"inferno: output failed\n")
+        },
+        Row {
+            room: 0,
+            ..Row::of(HELLO, 8, b"", b"inferno: output failed\n")
+        },
+        Row {
+            out_fails: Some(0),
+            err_fails: Some(0),
+            ..Row::of(HELLO, 8, b"", b"")
         },
         Row::of(b"implement T", 3, b"", b"inferno: hello.b:1:1: fault 25\n"),
         Row::of(b"\xFF", 3, b"", b"inferno: hello.b:1:1: fault 25\n"),
@@ -182,5 +203,75 @@ fn base_names(rt: HostRuntime) -> Result<(), Fail> {
         let ended = inferno(rt.alloc(), &words, &mut files, &mut out, &mut err);
         assert_eq!(rt; ended.status, status, "{count} bytes");
     }
+    Ok(())
+}
+
+/// A sink that takes one byte at a time.
+#[derive(Drop)]
+struct OneByte {
+    inner: MemSink,
+}
+
+impl Sink for OneByte {
+    ghost use Rattle.std.specs.Prelude.{Some};
+
+    ghost held = { λ sink. ⟦<MemSink as Sink>⟧.held sink.inner };
+
+    ghost faults = { λ sink. ⟦<MemSink as Sink>⟧.faults sink.inner };
+
+    fn faults(&self) -> u64 {
+        self.inner.faults()
+    }
+
+    fn write_some(&mut self, piece: &[u8]) -> Result<usize, Failed> {
+        let count = piece.len().min(1);
+        self.inner.write_some(&piece[..count])
+    }
+}
+
+/// A sink that takes one byte at a time gets them all.
+#[test]
+fn one_byte_at_a_time(rt: HostRuntime) -> Result<(), Fail> {
+    let alloc = rt.alloc();
+    let mut files = tree(alloc, SEVERAL, None)?;
+    let mut out = OneByte {
+        inner: MemSink::new(alloc, 100, Vec::new(alloc))?,
+    };
+    let mut err = MemSink::new(alloc, 100, Vec::new(alloc))?;
+    let ended = inferno(alloc, &go(alloc)?, &mut files, &mut out, &mut err);
+    assert_eq!(rt; ended.status, 0);
+    assert_eq!(rt; out.inner.as_slice(), b"one\ttwo\"\\\n".as_slice());
+    Ok(())
+}
+
+/// The events of the program that greets: its five instructions up to the print, the console's Rwrite of 13 bytes, and
+/// its return.
+#[test]
+fn journal_of_hello(rt: HostRuntime) -> Result<(), Fail> {
+    let alloc = rt.alloc();
+    let mut files = tree(alloc, HELLO, None)?;
+    let mut out = MemSink::new(alloc, 100, Vec::new(alloc))?;
+    let mut err = MemSink::new(alloc, 100, Vec::new(alloc))?;
+    let Ended {
+        journal,
+        objects,
+        ..
+    } = inferno(alloc, &go(alloc)?, &mut files, &mut out, &mut err);
+    let events = match &journal {
+        Some(journal) => journal.events.as_slice(),
+        None => &[],
+    };
+    let reply = Vec::from_slice(alloc, &[11, 0, 0, 0, 119, 0, 0, 13, 0, 0, 0])?;
+    let wanted = [
+        Event::Quantum { pid: 1, count: 5 },
+        Event::Reply {
+            link: 1,
+            frame: Seq::from_vec(reply),
+        },
+        Event::Quantum { pid: 1, count: 1 },
+    ];
+    assert!(rt; events == wanted.as_slice());
+    assert_eq!(rt; objects.len(), 1);
+    assert!(rt; objects[0].0 == text(alloc, "hello")?);
     Ok(())
 }

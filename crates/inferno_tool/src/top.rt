@@ -1,31 +1,37 @@
-ghost use Rattle.std.specs.Prelude.{◌≡◌, ◌≤◌, ◌⊎◌, ℕ, List, Option, true, None, Some, IfOk, IfErr};
+ghost use Rattle.std.specs.Prelude.{◌≡◌, ◌≤◌, ◌⊎◌, ℕ, List, [], Option, true, None, Some, IsSome, IfOk, IfErr};
 ghost use Rattle.std.specs.Io.KnownBytes.{Appends, Keeps};
 ghost use Rattle.inf_ports.specs.Outside.{Rose, AppendsPart};
 ghost use Rattle.thin_source.specs.Thin.{Program};
 ghost use Rattle.first_machine.specs.Compiled.{AreLiteralsIfAny};
 ghost use Rattle.inferno_tool.specs.Built.{IsBuilt, bytes_of};
 ghost use Rattle.inferno_tool.specs.Closing.{status_of, closing_line, IsWritten};
-ghost use Rattle.inferno_tool.specs.Outcome.{Course, HasProgram, IsAccepted, IsRefusal, IsCause, IsRunEnd, IsUnrun, Tells, TellsProgram, IsUnlessMemory};
+ghost use Rattle.inferno_tool.specs.Outcome.{Course, HasProgram, IsAccepted, IsRefusal, IsCause, IsRunEnd, IsSinkFault, IsUnrun, is_run_out, Tells, TellsProgram, IsUnlessMemory};
+ghost use Rattle.inferno_tool.specs.Running.{IsRun};
 ghost use Rattle.inferno_tool.specs.Words.{named_file};
 ghost use Rattle.inferno_tool.specs.declared.cause.SourceFault.TheVariants.{Unbuilt};
 
-use crate::cause::{Cause, Ended};
+use crate::cause::{Cause, Ended, Left};
 use crate::closing::close;
 use crate::reading::read_source;
-use crate::running::{RunFault, run_program};
+use crate::running::{has_risen, run_program};
 use crate::words::named_file;
+use first_host::RunEnd;
 use inf_ports::{HostTree, Sink};
 use inf_text::Text;
 use std::alloc::Global;
 use thin_source::Thin;
 
-/// The program that the words name.
+/// The file that the words name, and the program in it.
 ///
 /// # Errors
 /// The cause for which there is none.
-fn prepare<H: HostTree>(alloc: Global, words: &[Text], files: &mut H) -> Result<Thin, Cause>
-    ensures accepted { IfOk result (λ thin. IsAccepted words.now (H.told files.old) thin.prints) }
-    ensures small { IfOk result (λ thin. AreLiteralsIfAny thin.prints) }
+fn prepare<'a, H: HostTree>(
+    alloc: Global,
+    words: &'a [Text],
+    files: &mut H,
+) -> Result<(&'a Text, Thin), Cause>
+    ensures accepted { IfOk result (λ x. IsAccepted words.now (H.told files.old) x.0.now x.1.name x.1.prints) }
+    ensures small { IfOk result (λ x. AreLiteralsIfAny x.1.prints) }
     ensures refused { IfErr result (λ cause. IsRefusal words.now (H.told files.old) (H.faults files.old) (H.faults files.new) cause) }
     ensures kept { H.told files.new ≡ H.told files.old }
     ensures later { H.faults files.old ≤ H.faults files.new }
@@ -33,25 +39,42 @@ fn prepare<H: HostTree>(alloc: Global, words: &[Text], files: &mut H) -> Result<
     let Some(path) = named_file(words) else {
         return Err(Cause::Usage);
     };
-    read_source(alloc, path, files)
+    let thin = read_source(alloc, path, files)?;
+    Ok((path, thin))
 }
 
-/// Runs the program, and says how that ended.
-fn carry_out<K: Sink, E: Sink>(alloc: Global, thin: &Thin, out: &mut K, err: &E) -> Cause
+/// Runs the program in the file at the path, and says how that ended.
+fn carry_out<K: Sink, E: Sink>(
+    alloc: Global,
+    path: &Text,
+    thin: &Thin,
+    out: &mut K,
+    err: &E,
+) -> (Cause, Left)
     requires { AreLiteralsIfAny thin.now.prints }
-    ensures end { IsRunEnd (K.faults out.old) (K.faults out.new) (E.faults err.now) result }
-    ensures whole { result ≡ Cause.Done → Appends (K.held out.old) (K.held out.new) (bytes_of thin.now.prints) }
+    ensures end { IsRunEnd (K.faults out.old) (K.faults out.new) (E.faults err.now) result.0 }
+    ensures run { IsRun path.now thin.now.name thin.now.prints result.1.journal result.1.objects.items
+        (K.held out.old) (K.held out.new) (is_run_out result.0) }
+    ensures whole { result.0 ≡ Cause.Done → Appends (K.held out.old) (K.held out.new) (bytes_of thin.now.prints) }
     ensures part { AppendsPart (K.held out.old) (K.held out.new) (bytes_of thin.now.prints) }
     ensures later { K.faults out.old ≤ K.faults out.new }
 {
-    match run_program(alloc, thin, out) {
-        Ok(()) => Cause::Done,
-        Err(RunFault::OutputFailed) => Cause::SinkFault {
-            out: out.faults(),
-            err: err.faults(),
-        },
-        Err(RunFault::NoMemory) => Cause::NoMemory,
+    let out_before = out.faults();
+    let err_before = err.faults();
+    let (end, left) = run_program(alloc, path, thin, out);
+    if end == RunEnd::NoMemory {
+        return (Cause::NoMemory, left);
     }
+    let out_now = out.faults();
+    let err_now = err.faults();
+    if has_risen(out_before, out_now) || has_risen(err_before, err_now) {
+        let cause = Cause::SinkFault {
+            out: out_now,
+            err: err_now,
+        };
+        return (cause, left);
+    }
+    (Cause::Done, left)
 }
 
 /// Does the command's work, up to the line about its end.
@@ -61,7 +84,7 @@ fn decide<H: HostTree, K: Sink, E: Sink>(
     files: &mut H,
     out: &mut K,
     err: &E,
-) -> Cause
+) -> (Cause, Left)
     ensures cause { IsCause (record {
       words = words.now;
       told = H.told files.old;
@@ -71,19 +94,30 @@ fn decide<H: HostTree, K: Sink, E: Sink>(
       out_after = K.faults out.new;
       err_before = E.faults err.now;
       err_after = E.faults err.now;
-    }) result }
+    }) result.0 }
     ensures printed { (program : Program) → TellsProgram words.now (H.told files.old) program
-        → result ≡ Cause.Done → Appends (K.held out.old) (K.held out.new) (bytes_of program.prints) }
+        → result.0 ≡ Cause.Done → Appends (K.held out.old) (K.held out.new) (bytes_of program.prints) }
     ensures printed_part { (program : Program) → TellsProgram words.now (H.told files.old) program
         → AppendsPart (K.held out.old) (K.held out.new) (bytes_of program.prints) }
-    ensures quiet { IsUnrun result → K.held out.new ≡ K.held out.old }
-    ensures accepted { HasProgram words.now (H.told files.old) ⊎ (K.held out.new ≡ K.held out.old) }
+    ensures conversation { (program : Program) (t : TellsProgram words.now (H.told files.old) program)
+        → IsRun t.file program.name program.prints result.1.journal result.1.objects.items
+        (K.held out.old) (K.held out.new) (is_run_out result.0) }
+    ensures started { is_run_out result.0 ≡ true → IsSome result.1.journal }
+    ensures quiet { IsUnrun result.0 → (K.held out.new ≡ K.held out.old) × (result.1.journal ≡ None) × (result.1.objects.items ≡ []) }
+    ensures accepted { HasProgram words.now (H.told files.old)
+        ⊎ ((K.held out.new ≡ K.held out.old) × (result.1.journal ≡ None) × (result.1.objects.items ≡ [])) }
     ensures kept { H.told files.new ≡ H.told files.old }
     ensures later { (H.faults files.old ≤ H.faults files.new) × (K.faults out.old ≤ K.faults out.new) }
 {
     match prepare(alloc, words, files) {
-        Ok(thin) => carry_out(alloc, &thin, out, err),
-        Err(cause) => cause,
+        Ok((path, thin)) => carry_out(alloc, path, &thin, out, err),
+        Err(cause) => {
+            let left = Left {
+                journal: None,
+                objects: Vec::new(alloc),
+            };
+            (cause, left)
+        }
     }
 }
 
@@ -134,17 +168,32 @@ pub fn inferno<H: HostTree, K: Sink, E: Sink>(
         → result.cause ≡ Cause.Done → Appends (K.held out.old) (K.held out.new) (bytes_of program.prints) }
     ensures printed_part { (program : Program) → TellsProgram words.now (H.told files.old) program
         → AppendsPart (K.held out.old) (K.held out.new) (bytes_of program.prints) }
-    ensures quiet { IsUnrun result.cause → K.held out.new ≡ K.held out.old }
-    ensures accepted { HasProgram words.now (H.told files.old) ⊎ (K.held out.new ≡ K.held out.old) }
+    ensures quiet { IsUnrun result.cause → (K.held out.new ≡ K.held out.old) × (result.journal ≡ None) × (result.objects.items ≡ []) }
+    ensures accepted { HasProgram words.now (H.told files.old)
+        ⊎ ((K.held out.new ≡ K.held out.old) × (result.journal ≡ None) × (result.objects.items ≡ [])) }
+
+    // A write of output that failed is told, unless memory ran out.
+    ensures failed { (program : Program) → TellsProgram words.now (H.told files.old) program
+        → (Rose (H.faults files.old) (H.faults files.new) → ⊥) → Rose (K.faults out.old) (K.faults out.new)
+        → IsSinkFault result.cause ⊎ (result.cause ≡ Cause.NoMemory) }
+
+    // What happened: the journal over the objects, the requests, the console's replies, and the bytes that it wrote.
+    ensures conversation { (program : Program) (t : TellsProgram words.now (H.told files.old) program)
+        → IsRun t.file program.name program.prints result.journal result.objects.items
+        (K.held out.old) (K.held out.new) (is_run_out result.cause) }
+    ensures started { is_run_out result.cause ≡ true → IsSome result.journal }
 
     // What stands afterwards.
     ensures kept { H.told files.new ≡ H.told files.old }
     ensures later { (H.faults files.old ≤ H.faults files.new) × (K.faults out.old ≤ K.faults out.new) × (E.faults err.old ≤ E.faults err.new) }
 {
-    let cause = decide(alloc, words, files, out, err);
+    let (cause, left) = decide(alloc, words, files, out, err);
     let cause = close(alloc, cause, err);
+    let Left { journal, objects } = left;
     Ended {
         status: cause.status(),
         cause,
+        journal,
+        objects,
     }
 }

@@ -1,7 +1,8 @@
-ghost use Rattle.std.specs.Prelude.{◌≡◌, ◌≤◌, ◌↔◌, length, IsTrue, encode_utf8_all, option_map};
+ghost use Rattle.std.specs.Prelude.{◌≡◌, ◌≤◌, ◌↔◌, length, IsTrue, IfOk, encode_utf8_all, option_map};
 ghost use Rattle.inferno_tool.specs.Words.{last_name, without_ending, base_name, is_option, is_file, named_file};
 
 use inf_text::Text;
+use std::alloc::{AllocError, Global};
 
 /// How many bytes of UTF-8 the base name of a file may take.
 const BASE_NAME_BYTES: usize = 250;
@@ -25,6 +26,18 @@ fn without_ending(name: &[char]) -> &[char]
         return stem;
     }
     name.strip_suffix(&['.', 'd', 'i', 's']).unwrap_or(name)
+}
+
+/// The base name of a file: what follows its last `/`, without a last `.b` or `.dis`.
+///
+/// # Errors
+/// Want of memory.
+pub fn base_name(alloc: Global, path: &Text) -> Result<Text, AllocError>
+    ensures { IfOk result (λ name. name ≡ base_name path.now) }
+{
+    let mut name = Text::new(alloc);
+    name.push_all(without_ending(last_name(path.as_slice())))?;
+    Ok(name)
 }
 
 /// Whether the characters take at most so many bytes of UTF-8.

@@ -14,7 +14,7 @@ returns-in-Ok-read_thin-clause-read g c =
       built = rw (← c.as_slice.ensures.value) found.1;
       same = λ p built.
           let thin : IsThin c.as_slice.result.now p = rw c.as_slice.ensures.value built in
-          (c.in-Ok-read_thin.ensures.only p thin).1;
+          c.in-Ok-read_thin.ensures.only p thin;
     }
 
 pub returns-in-Ok-read_thin-clause-small : goal.returns-in-Ok-read_thin-clause-small

@@ -1,0 +1,7 @@
+mod Served
+mod Says
+mod Journals
+mod Talks
+mod Ends
+mod Steps
+pub mod Starts
