@@ -1,0 +1,10 @@
+use Rattle.std.proofs.Common.{◌+◌}
+use Rattle.limbo_tree.specs.View.{view_fn}
+use Rattle.limbo_reading.specs.Reading.{kinds}
+use Rattle.limbo_decl_parser.specs.Decls as decls
+use Rattle.limbo_decl_parser.proofs.Places.{fn_keeps, gives_shorter}
+use Rattle.limbo_decl_parser.proofs.params.fn_at.Goals as goal
+
+pub returns-clause-shorter : goal.returns-clause-shorter
+returns-clause-shorter c =
+    gives_shorter (c.args.budget + 2) (λ x. view_fn x.0) (λ x. kinds x.1.now) c.fn_here.result (kinds c.args.tokens.now) (decls.fn_at c.args.budget (kinds c.args.tokens.now)) c.fn_here.ensures (fn_keeps c.args.budget (kinds c.args.tokens.now))

@@ -1,0 +1,12 @@
+pub mod Steps
+pub mod TypeLaws
+pub mod Table
+pub mod Shapes
+pub mod Complete
+pub mod Sound
+pub mod Deep
+pub mod Places
+pub mod Laws
+pub mod View
+pub mod TypeSteps
+pub mod ExprSteps

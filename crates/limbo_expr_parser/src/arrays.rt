@@ -1,0 +1,212 @@
+//! Arrays and channels.
+
+ghost use Rattle.std.specs.Prelude.{◌≡◌, ◌≤◌, ◌<◌, ◌+◌, None, Some, MatchOption, IfOk, map};
+ghost use Rattle.limbo_tree.specs.Exprs.{nesting, part_nesting, init_nesting, inits_nesting};
+ghost use Rattle.limbo_tree.specs.View.{view_expr, view_init, inits_of};
+ghost use Rattle.limbo_reading.specs.Reading.{kinds, Gives};
+ghost use Rattle.limbo_expr_parser.specs.Views.{view_part};
+ghost use Rattle.limbo_expr_parser.specs.Exprs.{readers};
+ghost use Rattle.limbo_expr_parser.specs.Exprs as reading;
+
+use crate::boxes::{boxed, init_with_index, next_init, rest_init};
+use crate::expr::{chain_at, expr_in};
+use crate::lists::part_before;
+use crate::types::type_at;
+use inf_text::Span;
+use limbo_lexer::{Key, Mark, Token};
+use limbo_reading::{ReadError, after_mark, expect_key, expect_mark, syntax};
+use limbo_tree::{Expr, Init};
+use std::alloc::Global;
+
+/// What stands behind `array`.
+#[tactic(auto, using(crate::proofs::View::the_views), unfolding(crate::specs::Exprs::array_at))]
+#[cycle(exprs)]
+pub fn array_at(
+    alloc: Global,
+    inner: u32,
+    span: Span,
+    tokens: &[Token],
+) -> Result<(Box<Expr>, u32, &[Token]), ReadError>
+    requires { inner < 999 }
+    ensures same { Gives (λ x. (view_expr x.0.value, kinds x.2.now)) result (reading.array_at (readers inner) inner (kinds tokens.now)) }
+    ensures size { IfOk result (λ x. x.1 ≡ nesting (view_expr x.0.value)) }
+    ensures within { IfOk result (λ x. x.1 ≤ inner + 1) }
+{
+    let Some(behind) = after_mark(Mark::OpenBracket, tokens) else {
+        let behind = expect_key(Key::Of, tokens)?;
+        let behind = expect_key(Key::Byte, behind)?;
+        let (operand, size, rest) = chain_at(alloc, inner, 0, behind)?;
+        let tree = boxed(alloc, Expr::Bytes { operand, span })?;
+        return Ok((tree, 1 + size, rest));
+    };
+    let (len, size, rest) = part_before(alloc, inner, Mark::CloseBracket, behind)?;
+    let behind = expect_key(Key::Of, rest)?;
+    if let Some(items) = after_mark(Mark::OpenBrace, behind) {
+        return filled_at(alloc, inner, len, size, span, items);
+    }
+    sized_at(alloc, inner, len, size, span, behind)
+}
+
+// The elements of an array, behind their `{`.
+#[tactic(auto, using(crate::proofs::View::the_views), unfolding(crate::specs::Exprs::filled_at))]
+#[cycle(exprs)]
+fn filled_at(
+    alloc: Global,
+    inner: u32,
+    len: Option<Box<Expr>>,
+    size: u32,
+    span: Span,
+    tokens: &[Token],
+) -> Result<(Box<Expr>, u32, &[Token]), ReadError>
+    requires small { inner < 999 }
+    requires sized { size ≡ part_nesting (view_part len) }
+    requires fits { size ≤ inner }
+    ensures same { Gives (λ x. (view_expr x.0.value, kinds x.2.now)) result (reading.filled_at (readers inner) (view_part len) (kinds tokens.now)) }
+    ensures size { IfOk result (λ x. x.1 ≡ nesting (view_expr x.0.value)) }
+    ensures within { IfOk result (λ x. x.1 ≤ inner + 1) }
+{
+    let (items, items_size, rest) = inits_at(alloc, inner, tokens)?;
+    let (comma, rest) = comma_and_brace(rest)?;
+    let filled = Expr::Filled {
+        len,
+        items,
+        comma,
+        span,
+    };
+    let tree = boxed(alloc, filled)?;
+    Ok((tree, 1 + size.max(items_size), rest))
+}
+
+// The type of an array's elements.
+#[tactic(auto, using(crate::proofs::View::the_views), unfolding(crate::specs::Exprs::sized_at))]
+fn sized_at(
+    alloc: Global,
+    inner: u32,
+    len: Option<Box<Expr>>,
+    size: u32,
+    span: Span,
+    tokens: &[Token],
+) -> Result<(Box<Expr>, u32, &[Token]), ReadError>
+    requires small { inner < 999 }
+    requires sized { size ≡ part_nesting (view_part len) }
+    requires fits { size ≤ inner }
+    ensures same { Gives (λ x. (view_expr x.0.value, kinds x.2.now)) result (reading.sized_at inner (view_part len) (kinds tokens.now)) }
+    ensures size { IfOk result (λ x. x.1 ≡ nesting (view_expr x.0.value)) }
+    ensures within { IfOk result (λ x. x.1 ≤ inner + 1) }
+{
+    let Some(len) = len else {
+        return Err(syntax(tokens));
+    };
+    let (element, element_size, rest) = type_at(alloc, inner, tokens)?;
+    let tree = boxed(alloc, Expr::Sized { len, element, span })?;
+    Ok((tree, 1 + size.max(element_size), rest))
+}
+
+/// What stands behind `chan`.
+#[tactic(auto, using(crate::proofs::View::the_views), unfolding(crate::specs::Exprs::channel_at))]
+pub fn channel_at(
+    alloc: Global,
+    inner: u32,
+    span: Span,
+    tokens: &[Token],
+) -> Result<(Box<Expr>, u32, &[Token]), ReadError>
+    requires { inner < 999 }
+    ensures same { Gives (λ x. (view_expr x.0.value, kinds x.2.now)) result (reading.channel_at inner (kinds tokens.now)) }
+    ensures size { IfOk result (λ x. x.1 ≡ nesting (view_expr x.0.value)) }
+    ensures within { IfOk result (λ x. x.1 ≤ inner + 1) }
+{
+    let behind = expect_key(Key::Of, tokens)?;
+    let (element, size, rest) = type_at(alloc, inner, behind)?;
+    let channel = Expr::Channel {
+        size: None,
+        element,
+        span,
+    };
+    let tree = boxed(alloc, channel)?;
+    Ok((tree, 1 + size, rest))
+}
+
+// init `{"," init}`
+#[cycle(exprs)]
+fn inits_at(
+    alloc: Global,
+    budget: u32,
+    tokens: &[Token],
+) -> Result<(Vec<Init>, u32, &[Token]), ReadError>
+    requires { budget < 1000 }
+    ensures same { Gives (λ x. (map view_init x.0.items, kinds x.2.now)) result (reading.inits_at (readers budget) (kinds tokens.now)) }
+    ensures size { IfOk result (λ x. x.1 ≡ inits_nesting (inits_of (map view_init x.0.items))) }
+    ensures within { IfOk result (λ x. x.1 ≤ budget) }
+{
+    let (first, mut size, mut rest) = init_at(alloc, budget, tokens)?;
+    let mut items = Vec::new(alloc);
+    items.push(Box::into_inner(first))?;
+    'all: while let Some(behind) = after_comma_inside(rest) {
+        let (item, item_size, after) = init_at(alloc, budget, behind)?;
+        items.push(Box::into_inner(item))?;
+        size = size.max(item_size);
+        rest = after;
+    }
+    Ok((items, size, rest))
+}
+
+// An item between the braces of an array.
+#[tactic(auto, unfolding(crate::specs::Exprs::init_at))]
+#[cycle(exprs)]
+fn init_at(
+    alloc: Global,
+    budget: u32,
+    tokens: &[Token],
+) -> Result<(Box<Init>, u32, &[Token]), ReadError>
+    requires { budget < 1000 }
+    ensures same { Gives (λ x. (view_init x.0.value, kinds x.2.now)) result (reading.init_at (readers budget) (kinds tokens.now)) }
+    ensures size { IfOk result (λ x. x.1 ≡ init_nesting (view_init x.0.value)) }
+    ensures within { IfOk result (λ x. x.1 ≤ budget) }
+{
+    if let Some(behind) = after_rest(tokens) {
+        let (value, size, rest) = expr_in(alloc, budget, behind)?;
+        let item = rest_init(alloc, value)?;
+        return Ok((item, size, rest));
+    }
+    let (index, index_size, rest) = expr_in(alloc, budget, tokens)?;
+    let Some(behind) = after_mark(Mark::FatArrow, rest) else {
+        let item = next_init(alloc, index)?;
+        return Ok((item, index_size, rest));
+    };
+    let (value, value_size, rest) = expr_in(alloc, budget, behind)?;
+    let item = init_with_index(alloc, index, value)?;
+    Ok((item, index_size.max(value_size), rest))
+}
+
+// What stands behind `* =>`.
+fn after_rest(tokens: &[Token]) -> Option<&[Token]>
+    ensures { MatchOption result (reading.after_rest (kinds tokens.now) ≡ None)
+        (λ rest. reading.after_rest (kinds tokens.now) ≡ Some (kinds rest.now)) }
+{
+    let behind = after_mark(Mark::Star, tokens)?;
+    after_mark(Mark::FatArrow, behind)
+}
+
+// What stands behind a comma, where no brace closes the items there.
+fn after_comma_inside(tokens: &[Token]) -> Option<&[Token]>
+    ensures { MatchOption result (reading.after_comma_inside (kinds tokens.now) ≡ None)
+        (λ rest. reading.after_comma_inside (kinds tokens.now) ≡ Some (kinds rest.now)) }
+{
+    let behind = after_mark(Mark::Comma, tokens)?;
+    match after_mark(Mark::CloseBrace, behind) {
+        Some(_) => None,
+        None => Some(behind),
+    }
+}
+
+// `[","] "}"`: whether the comma stands there.
+fn comma_and_brace(tokens: &[Token]) -> Result<(bool, &[Token]), ReadError>
+    ensures { Gives (λ x. (x.0, kinds x.1.now)) result (reading.comma_and_brace (kinds tokens.now)) }
+{
+    if let Some(behind) = after_mark(Mark::Comma, tokens) {
+        let rest = expect_mark(Mark::CloseBrace, behind)?;
+        return Ok((true, rest));
+    }
+    let rest = expect_mark(Mark::CloseBrace, tokens)?;
+    Ok((false, rest))
+}

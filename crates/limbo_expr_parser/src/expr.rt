@@ -1,0 +1,261 @@
+//! Expressions, read by recursive descent, and their operators by climbing.
+
+ghost use Rattle.std.specs.Prelude.{◌≡◌, ◌≤◌, ◌<◌, ◌+◌, None, Some, MatchOption, IfOk, length};
+ghost use Rattle.limbo_tree.specs.Exprs.{nesting, is_unary};
+ghost use Rattle.limbo_tree.specs.View.{view_expr};
+ghost use Rattle.limbo_reading.specs.Reading.{kinds, Gives};
+ghost use Rattle.limbo_expr_parser.specs.Exprs.{readers};
+ghost use Rattle.limbo_expr_parser.specs.Exprs as reading;
+
+use crate::arrays::{array_at, channel_at};
+use crate::boxes::boxed;
+use crate::lists::listed_at;
+use crate::operators::{assign_at_front, op_within, right_level, unary_at_front};
+use crate::postfix::postfixed_at;
+use inf_text::Span;
+use limbo_lexer::{Key, Token};
+use limbo_reading::{ReadError, after_key, expect_name, place, too_deep};
+use limbo_tree::{AssignOp, Expr};
+use std::alloc::Global;
+
+/// An expression of nesting up to the budget, its nesting, and what stands behind it.
+///
+/// # Errors
+/// `Syntax` or `TooDeep` at the first token that no expression goes on with; `NoMemory`.
+#[tactic(auto, using(crate::proofs::ExprSteps::expr_shorter))]
+pub fn expr_at(
+    alloc: Global,
+    budget: u32,
+    tokens: &[Token],
+) -> Result<(Expr, u32, &[Token]), ReadError>
+    requires { budget < 1000 }
+    ensures same { Gives (λ x. (view_expr x.0, kinds x.2.now)) result ((readers budget).expr (kinds tokens.now)) }
+    ensures size { IfOk result (λ x. x.1 ≡ nesting (view_expr x.0)) }
+    ensures within { IfOk result (λ x. x.1 ≤ budget) }
+    ensures shorter { IfOk result (λ x. length (kinds x.2.now) < length (kinds tokens.now)) }
+{
+    let (tree, size, rest) = expr_in(alloc, budget, tokens)?;
+    Ok((Box::into_inner(tree), size, rest))
+}
+
+/// A unary of nesting up to the budget, its nesting, and what stands behind it.
+///
+/// # Errors
+/// `Syntax` or `TooDeep` at the first token that no unary goes on with; `NoMemory`.
+#[tactic(auto, using(crate::proofs::ExprSteps::chain_shorter))]
+pub fn unary_at(
+    alloc: Global,
+    budget: u32,
+    tokens: &[Token],
+) -> Result<(Expr, u32, &[Token]), ReadError>
+    requires { budget < 1000 }
+    ensures same { Gives (λ x. (view_expr x.0, kinds x.2.now)) result ((readers budget).chain 0 (kinds tokens.now)) }
+    ensures size { IfOk result (λ x. x.1 ≡ nesting (view_expr x.0)) }
+    ensures within { IfOk result (λ x. x.1 ≤ budget) }
+    ensures shorter { IfOk result (λ x. length (kinds x.2.now) < length (kinds tokens.now)) }
+{
+    let (tree, size, rest) = chain_at(alloc, budget, 0, tokens)?;
+    Ok((Box::into_inner(tree), size, rest))
+}
+
+// An assignment's sign behind the tree, if it may be assigned to, and what follows the sign.
+fn assign_after<'a>(tree: &Expr, tokens: &'a [Token]) -> Option<(AssignOp, &'a [Token])>
+    ensures { MatchOption result (reading.assign_after (view_expr tree.now) (kinds tokens.now) ≡ None)
+        (λ x. reading.assign_after (view_expr tree.now) (kinds tokens.now) ≡ Some (x.0, kinds x.1.now)) }
+{
+    if is_unary(tree) {
+        assign_at_front(tokens)
+    } else {
+        None
+    }
+}
+
+// Whether the tree is a unary.
+#[tactic(auto, using(crate::proofs::View::the_views))]
+fn is_unary(tree: &Expr) -> bool
+    ensures { result ≡ is_unary (view_expr tree.now) }
+{
+    match tree {
+        Expr::Assign { .. } => false,
+        Expr::Load { .. } => false,
+        Expr::Binary { .. } => false,
+        Expr::Unary { .. } => true,
+        Expr::Bytes { .. } => true,
+        Expr::Filled { .. } => true,
+        Expr::Sized { .. } => true,
+        Expr::Channel { .. } => true,
+        Expr::Listed { .. } => true,
+        Expr::Call { .. } => true,
+        Expr::Index { .. } => true,
+        Expr::Slice { .. } => true,
+        Expr::Dot { .. } => true,
+        Expr::Arrow { .. } => true,
+        Expr::Postfix { .. } => true,
+        Expr::Number { .. } => true,
+        Expr::Chars { .. } => true,
+        Expr::Name { .. } => true,
+        Expr::Nil { .. } => true,
+        Expr::Group { .. } => true,
+    }
+}
+
+/// An expression of nesting up to the budget, its nesting, and what stands behind it.
+#[tactic(auto, using(crate::proofs::View::the_views, crate::proofs::ExprSteps::the_budget), unfolding(crate::specs::Exprs::expr, crate::specs::Exprs::assigned))]
+#[cycle(exprs)]
+pub fn expr_in(
+    alloc: Global,
+    budget: u32,
+    tokens: &[Token],
+) -> Result<(Box<Expr>, u32, &[Token]), ReadError>
+    requires { budget < 1000 }
+    ensures same { Gives (λ x. (view_expr x.0.value, kinds x.2.now)) result ((readers budget).expr (kinds tokens.now)) }
+    ensures size { IfOk result (λ x. x.1 ≡ nesting (view_expr x.0.value)) }
+    ensures within { IfOk result (λ x. x.1 ≤ budget) }
+{
+    if budget == 0 {
+        return Err(too_deep(tokens));
+    }
+    let inner = budget - 1;
+    let (left, size, rest) = chain_above(alloc, inner, 12, tokens)?;
+    let Some((op, behind)) = assign_after(&*left, rest) else {
+        return Ok((left, size, rest));
+    };
+    if size > inner {
+        return Err(too_deep(rest));
+    }
+    let (right, right_size, rest) = expr_in(alloc, inner, behind)?;
+    let span = place(tokens);
+    let tree = boxed(
+        alloc,
+        Expr::Assign {
+            op,
+            left,
+            right,
+            span,
+        },
+    )?;
+    Ok((tree, 1 + size.max(right_size), rest))
+}
+
+/// A tree of a level, of nesting up to the budget.
+#[tactic(auto, using(crate::proofs::ExprSteps::the_budget))]
+#[cycle(exprs)]
+pub fn chain_at(
+    alloc: Global,
+    budget: u32,
+    level: u32,
+    tokens: &[Token],
+) -> Result<(Box<Expr>, u32, &[Token]), ReadError>
+    requires { budget < 1000 }
+    ensures same { Gives (λ x. (view_expr x.0.value, kinds x.2.now)) result ((readers budget).chain level (kinds tokens.now)) }
+    ensures size { IfOk result (λ x. x.1 ≡ nesting (view_expr x.0.value)) }
+    ensures within { IfOk result (λ x. x.1 ≤ budget) }
+{
+    if budget == 0 {
+        return Err(too_deep(tokens));
+    }
+    chain_above(alloc, budget - 1, level, tokens)
+}
+
+// The same, whose parts nest up to the budget.
+#[tactic(auto, using(crate::proofs::View::the_views))]
+#[cycle(exprs)]
+fn chain_above(
+    alloc: Global,
+    inner: u32,
+    level: u32,
+    tokens: &[Token],
+) -> Result<(Box<Expr>, u32, &[Token]), ReadError>
+    requires { inner < 999 }
+    ensures same { Gives (λ x. (view_expr x.0.value, kinds x.2.now)) result (reading.chain (readers inner) inner level (kinds tokens.now)) }
+    ensures size { IfOk result (λ x. x.1 ≡ nesting (view_expr x.0.value)) }
+    ensures within { IfOk result (λ x. x.1 ≤ inner + 1) }
+{
+    let span = place(tokens);
+    if let Some(behind) = after_load(level, tokens) {
+        return load_at(alloc, inner, span, behind);
+    }
+    let (mut left, mut size, mut rest) = unary_above(alloc, inner, tokens)?;
+    'ops: while let Some((op, behind)) = op_within(level, rest) {
+        if size > inner {
+            return Err(too_deep(rest));
+        }
+        let (right, right_size, after) = chain_at(alloc, inner, right_level(op), behind)?;
+        let whole = boxed(
+            alloc,
+            Expr::Binary {
+                op,
+                left,
+                right,
+                span,
+            },
+        )?;
+        left = whole;
+        size = 1 + size.max(right_size);
+        rest = after;
+    }
+    Ok((left, size, rest))
+}
+
+// What stands behind `load`, where a tree of the level may be a load.
+fn after_load(level: u32, tokens: &[Token]) -> Option<&[Token]>
+    ensures { MatchOption result (reading.after_load level (kinds tokens.now) ≡ None)
+        (λ rest. reading.after_load level (kinds tokens.now) ≡ Some (kinds rest.now)) }
+{
+    if level < 12 {
+        None
+    } else {
+        after_key(Key::Load, tokens)
+    }
+}
+
+// A load, behind its keyword.
+#[tactic(auto, using(crate::proofs::View::the_views), unfolding(crate::specs::Exprs::load_at))]
+#[cycle(exprs)]
+fn load_at(
+    alloc: Global,
+    inner: u32,
+    span: Span,
+    tokens: &[Token],
+) -> Result<(Box<Expr>, u32, &[Token]), ReadError>
+    requires { inner < 999 }
+    ensures same { Gives (λ x. (view_expr x.0.value, kinds x.2.now)) result (reading.load_at (readers inner) (kinds tokens.now)) }
+    ensures size { IfOk result (λ x. x.1 ≡ nesting (view_expr x.0.value)) }
+    ensures within { IfOk result (λ x. x.1 ≤ inner + 1) }
+{
+    let (module, behind) = expect_name(tokens)?;
+    let (path, size, rest) = chain_at(alloc, inner, 12, behind)?;
+    let tree = boxed(alloc, Expr::Load { module, path, span })?;
+    Ok((tree, 1 + size, rest))
+}
+
+// A unary, whose parts nest up to the budget.
+#[tactic(auto, using(crate::proofs::View::the_views), unfolding(crate::specs::Exprs::unary))]
+#[cycle(exprs)]
+fn unary_above(
+    alloc: Global,
+    inner: u32,
+    tokens: &[Token],
+) -> Result<(Box<Expr>, u32, &[Token]), ReadError>
+    requires { inner < 999 }
+    ensures same { Gives (λ x. (view_expr x.0.value, kinds x.2.now)) result (reading.unary (readers inner) inner (kinds tokens.now)) }
+    ensures size { IfOk result (λ x. x.1 ≡ nesting (view_expr x.0.value)) }
+    ensures within { IfOk result (λ x. x.1 ≤ inner + 1) }
+{
+    let span = place(tokens);
+    if let Some((op, behind)) = unary_at_front(tokens) {
+        let (operand, size, rest) = chain_at(alloc, inner, 0, behind)?;
+        let tree = boxed(alloc, Expr::Unary { op, operand, span })?;
+        return Ok((tree, 1 + size, rest));
+    }
+    if let Some(behind) = after_key(Key::Array, tokens) {
+        return array_at(alloc, inner, span, behind);
+    }
+    if let Some(behind) = after_key(Key::List, tokens) {
+        return listed_at(alloc, inner, span, behind);
+    }
+    if let Some(behind) = after_key(Key::Chan, tokens) {
+        return channel_at(alloc, inner, span, behind);
+    }
+    postfixed_at(alloc, inner, tokens)
+}

@@ -1,0 +1,15 @@
+pub mod Fronts
+pub mod Deep
+pub mod Keep
+pub mod Shapes
+pub mod Sound
+pub mod Begins
+pub mod HeadsAgain
+pub mod Complete
+pub mod Trees
+pub mod View
+pub mod Going
+pub mod Tops
+pub mod Clauses
+pub mod Postfixes
+pub mod Budget

@@ -1,0 +1,5 @@
+pub mod Start
+pub mod Heads
+pub mod Stmts
+pub mod Sources
+pub mod Parsing

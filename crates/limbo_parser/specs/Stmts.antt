@@ -1,0 +1,180 @@
+-- Reading statements, from left to right, with the first fault that is met. The kind of a statement is chosen by its
+-- first tokens.
+use Rattle.std.specs.Prelude.{ℕ, zero, suc, List, length, Option, Some, None, Ok, Err, if◌then◌else◌}
+use Rattle.limbo_lexer.specs.declared.token.Mark.{Mark}
+use Rattle.limbo_lexer.specs.declared.token.Mark.TheVariants as mark
+use Rattle.limbo_lexer.specs.declared.token.Key.TheVariants as key
+use Rattle.limbo_tree.specs.Exprs.{Expr, is_postfix}
+use Rattle.limbo_tree.specs.Stmts.{Stmt, Stmts, Block, Empty, Nested, Declare, Eval, If, IfElse, While, Do, For, Case, Alt, Pick, Break, Continue, Return, Exit, Spawn, Raise, Plain, Handled}
+use Rattle.limbo_tree.specs.View.{Arm, stmts_of, arms_of}
+use Rattle.limbo_reading.specs.declared.fault.Fault.TheVariants.{Syntax, TooDeep}
+use Rattle.limbo_reading.specs.Reading.{◌>>=◌, Reader, choose, after_mark, after_key, after_name, expect_mark, expect_key, expect_name}
+use Rattle.limbo_reading.specs.Lists.{until}
+use Rattle.limbo_expr_parser.specs.Exprs.{readers}
+use Rattle.limbo_decl_parser.specs.Decls.{decl_at}
+use Rattle.limbo_parser.specs.declared.start.Branch.{Branch}
+use Rattle.limbo_parser.specs.declared.start.Branch.TheVariants as branch
+use Rattle.limbo_parser.specs.declared.start.Choice.TheVariants as choice
+use Rattle.limbo_parser.specs.declared.start.Loop.TheVariants as loop
+use Rattle.limbo_parser.specs.declared.start.Jump.{Jump}
+use Rattle.limbo_parser.specs.declared.start.Jump.TheVariants as jump
+use Rattle.limbo_parser.specs.declared.start.Region.{Region}
+use Rattle.limbo_parser.specs.declared.start.Region.TheVariants as region
+use Rattle.limbo_parser.specs.Start.{Start, AtEmpty, AtBlock, AtIf, AtBranch, AtLabelled, AtJump, AtDeclare, AtOther, start}
+use Rattle.limbo_parser.specs.Heads.{front_at, closing, ends}
+
+-- [ID]
+unfoldable pub label_at : Reader (Option (List ℕ))
+label_at ts = choose (after_name ts) (Ok (None, ts)) λ x. Ok (Some x.0, x.1)
+
+-- [expr] before a sign, and the sign
+unfoldable pub option_before : ℕ → Mark → Reader (Option Expr)
+option_before b m ts = choose (after_mark m ts) (do
+  e ← (readers b).expr ts
+  us ← expect_mark m e.1
+  Ok (Some e.0, us)) λ us. Ok (None, us)
+
+-- expr before a sign, and the sign
+unfoldable pub expr_before : ℕ → Mark → Reader Expr
+expr_before b m ts = do
+  e ← (readers b).expr ts
+  us ← expect_mark m e.1
+  Ok (e.0, us)
+
+-- {stmt} of a region
+unfoldable pub stmts_at : ℕ → Reader Stmt → Region → Reader (List Stmt)
+stmts_at b s r ts = until s (ends b r) (suc (length ts)) ts
+
+-- an arm, with its head and its statements
+unfoldable pub arm_at : ℕ → Reader Stmt → Region → Reader Arm
+arm_at b s r ts = do
+  h ← front_at b r ts
+  ss ← stmts_at b s r h.1
+  Ok (record { head = h.0; body = stmts_of ss.0 }, ss.1)
+
+-- {arm} "}"
+unfoldable pub arms_at : ℕ → Reader Stmt → Region → Reader (List Arm)
+arms_at b s r ts = do
+  arms ← until (arm_at b s r) closing (suc (length ts)) ts
+  us ← expect_mark mark.CloseBrace arms.1
+  Ok (arms.0, us)
+
+-- what handles the exceptions of a block's statements
+abbrev pub handler_at : ℕ → Reader Stmt → Stmts → Reader Block
+handler_at b s ss ts = do
+  n ← label_at ts
+  us ← expect_mark mark.OpenBrace n.1
+  arms ← arms_at b s region.Handler us
+  Ok (Handled ss n.0 (arms_of arms.0), arms.1)
+
+-- a block behind its "{"
+unfoldable pub block_above : ℕ → Reader Stmt → Reader Block
+block_above b s ts = do
+  ss ← stmts_at b s region.Block ts
+  us ← expect_mark mark.CloseBrace ss.1
+  choose (after_key key.Exception us) (Ok (Plain (stmts_of ss.0), us)) λ vs. handler_at b s (stmts_of ss.0) vs
+
+-- what stands behind "if"
+unfoldable pub if_above : ℕ → Reader Stmt → Reader Stmt
+if_above b s ts = do
+  us ← expect_mark mark.OpenParen ts
+  c ← expr_before b mark.CloseParen us
+  x ← s c.1
+  choose (after_key key.Else x.1) (Ok (If c.0 x.0, x.1)) λ vs. do
+    y ← s vs
+    Ok (IfElse c.0 x.0 y.0, y.1)
+
+-- what stands behind the keyword of a statement that may have a label
+unfoldable pub branch_above : ℕ → Reader Stmt → Option (List ℕ) → Branch → Reader Stmt
+branch_above b s l (branch.Loop loop.While) ts = do
+  us ← expect_mark mark.OpenParen ts
+  c ← option_before b mark.CloseParen us
+  x ← s c.1
+  Ok (While l c.0 x.0, x.1)
+branch_above b s l (branch.Loop loop.Do) ts = do
+  x ← s ts
+  us ← expect_key key.While x.1
+  vs ← expect_mark mark.OpenParen us
+  c ← option_before b mark.CloseParen vs
+  ws ← expect_mark mark.Semicolon c.1
+  Ok (Do l x.0 c.0, ws)
+branch_above b s l (branch.Loop loop.For) ts = do
+  us ← expect_mark mark.OpenParen ts
+  a ← option_before b mark.Semicolon us
+  c ← option_before b mark.Semicolon a.1
+  n ← option_before b mark.CloseParen c.1
+  x ← s n.1
+  Ok (For l a.0 c.0 n.0 x.0, x.1)
+branch_above b s l (branch.Choice choice.Case) ts = do
+  e ← expr_before b mark.OpenBrace ts
+  arms ← arms_at b s region.Case e.1
+  Ok (Case l e.0 (arms_of arms.0), arms.1)
+branch_above b s l (branch.Choice choice.Alt) ts = do
+  us ← expect_mark mark.OpenBrace ts
+  arms ← arms_at b s region.Alt us
+  Ok (Alt l (arms_of arms.0), arms.1)
+branch_above b s l (branch.Choice choice.Pick) ts = do
+  n ← expect_name ts
+  us ← expect_mark mark.Define n.1
+  e ← expr_before b mark.OpenBrace us
+  arms ← arms_at b s region.Pick e.1
+  Ok (Pick l n.0 e.0 (arms_of arms.0), arms.1)
+
+-- postfix ";"
+unfoldable pub spawned_at : ℕ → Reader Stmt
+spawned_at b ts = do
+  e ← (readers b).chain 0 ts
+  if is_postfix e.0 then (do
+    us ← expect_mark mark.Semicolon e.1
+    Ok (Spawn e.0, us)) else Err (Syntax (length ts))
+
+-- what stands behind the keyword of a statement that ends in a semicolon
+unfoldable pub jump_above : ℕ → Jump → Reader Stmt
+jump_above b jump.Break ts = do
+  l ← label_at ts
+  us ← expect_mark mark.Semicolon l.1
+  Ok (Break l.0, us)
+jump_above b jump.Continue ts = do
+  l ← label_at ts
+  us ← expect_mark mark.Semicolon l.1
+  Ok (Continue l.0, us)
+jump_above b jump.Return ts = do
+  e ← option_before b mark.Semicolon ts
+  Ok (Return e.0, e.1)
+jump_above b jump.Exit ts = do
+  us ← expect_mark mark.Semicolon ts
+  Ok (Exit, us)
+jump_above b jump.Spawn ts = spawned_at b ts
+jump_above b jump.Raise ts = do
+  e ← option_before b mark.Semicolon ts
+  Ok (Raise e.0, e.1)
+
+-- a statement that begins so, whose statements s reads and whose other parts nest up to b
+abbrev pub begun : ℕ → Reader Stmt → Start → Reader Stmt
+begun b s (AtEmpty us) ts = Ok (Empty, us)
+begun b s (AtBlock us) ts = do
+  x ← block_above b s us
+  Ok (Nested x.0, x.1)
+begun b s (AtIf us) ts = if_above b s us
+begun b s (AtBranch k us) ts = branch_above b s None k us
+begun b s (AtLabelled k us) ts = do
+  n ← expect_name ts
+  branch_above b s (Some n.0) k us
+begun b s (AtJump j us) ts = jump_above b j us
+begun b s AtDeclare ts = do
+  d ← decl_at b ts
+  Ok (Declare d.0, d.1)
+begun b s AtOther ts = do
+  e ← expr_before b mark.Semicolon ts
+  Ok (Eval e.0, e.1)
+
+-- statements of nesting up to a limit
+unfoldable pub stmt_at : ℕ → Reader Stmt
+stmt_at zero ts = Err (TooDeep (length ts))
+stmt_at (suc b) ts = begun b (stmt_at b) (start ts) ts
+
+-- a block whose statements nest up to a limit
+unfoldable pub block_at : ℕ → Reader Block
+block_at b ts = do
+  us ← expect_mark mark.OpenBrace ts
+  block_above b (stmt_at b) us

@@ -1,0 +1,142 @@
+//! Parts of statements that hold no statements, and the statements that end in a semicolon behind a keyword.
+
+ghost use Rattle.std.specs.Prelude.{◌≡◌, ◌<◌, true, IfOk, option_map};
+ghost use Rattle.limbo_tree.specs.Exprs.{is_postfix};
+ghost use Rattle.limbo_tree.specs.View.{view_expr, view_stmt, name_of};
+ghost use Rattle.limbo_reading.specs.Reading.{kinds, Gives};
+ghost use Rattle.limbo_parser.specs.Stmts as stmts;
+
+use crate::start::Jump;
+use inf_text::Span;
+use limbo_expr_parser::{expr_at, unary_at};
+use limbo_lexer::{Kind, Mark, Token};
+use limbo_reading::{ReadError, after_mark, expect_mark, expect_name, syntax};
+use limbo_tree::{Expr, Name, Stmt};
+use std::alloc::Global;
+
+/// `[ID]`
+#[tactic(auto, unfolding(crate::specs::Stmts::label_at))]
+pub fn label_at(tokens: &[Token]) -> Result<(Option<Name>, &[Token]), ReadError>
+    ensures { Gives (λ x. (name_of x.0, kinds x.1.now)) result (stmts.label_at (kinds tokens.now)) }
+{
+    match tokens {
+        [
+            Token {
+                kind: Kind::Name(_),
+                ..
+            },
+            ..
+        ] => {
+            let (name, rest) = expect_name(tokens)?;
+            Ok((Some(name), rest))
+        }
+        _ => Ok((None, tokens)),
+    }
+}
+
+/// `[expr]` before a sign, and the sign.
+#[tactic(auto, unfolding(crate::specs::Stmts::option_before))]
+pub fn option_before(
+    alloc: Global,
+    budget: u32,
+    mark: Mark,
+    tokens: &[Token],
+) -> Result<(Option<Expr>, &[Token]), ReadError>
+    requires { budget < 1000 }
+    ensures { Gives (λ x. (option_map view_expr x.0, kinds x.1.now)) result (stmts.option_before budget mark (kinds tokens.now)) }
+{
+    if let Some(rest) = after_mark(mark, tokens) {
+        return Ok((None, rest));
+    }
+    let (value, _, rest) = expr_at(alloc, budget, tokens)?;
+    let rest = expect_mark(mark, rest)?;
+    Ok((Some(value), rest))
+}
+
+/// `expr` before a sign, and the sign.
+#[tactic(auto, unfolding(crate::specs::Stmts::expr_before))]
+pub fn expr_before(
+    alloc: Global,
+    budget: u32,
+    mark: Mark,
+    tokens: &[Token],
+) -> Result<(Expr, &[Token]), ReadError>
+    requires { budget < 1000 }
+    ensures { Gives (λ x. (view_expr x.0, kinds x.1.now)) result (stmts.expr_before budget mark (kinds tokens.now)) }
+{
+    let (value, _, rest) = expr_at(alloc, budget, tokens)?;
+    let rest = expect_mark(mark, rest)?;
+    Ok((value, rest))
+}
+
+#[tactic(auto, using(crate::proofs::Postfixes::the_postfixes))]
+fn is_call(value: &Expr) -> bool
+    ensures { result ≡ is_postfix (view_expr value.now) }
+{
+    match value {
+        Expr::Assign { .. } | Expr::Load { .. } | Expr::Binary { .. } | Expr::Unary { .. } => false,
+        Expr::Bytes { .. } | Expr::Filled { .. } | Expr::Sized { .. } => false,
+        Expr::Channel { .. } | Expr::Listed { .. } => false,
+        Expr::Call { .. } | Expr::Index { .. } | Expr::Slice { .. } => true,
+        Expr::Dot { .. } | Expr::Arrow { .. } | Expr::Postfix { .. } => true,
+        Expr::Number { .. } | Expr::Chars { .. } | Expr::Name { .. } => true,
+        Expr::Nil { .. } | Expr::Group { .. } => true,
+    }
+}
+
+#[tactic(auto, using(crate::proofs::View::the_stmt_views), unfolding(crate::specs::Stmts::spawned_at))]
+fn spawned_at(
+    alloc: Global,
+    budget: u32,
+    span: Span,
+    tokens: &[Token],
+) -> Result<(Stmt, &[Token]), ReadError>
+    requires { budget < 1000 }
+    ensures { Gives (λ x. (view_stmt x.0, kinds x.1.now)) result (stmts.spawned_at budget (kinds tokens.now)) }
+{
+    let (call, _, rest) = unary_at(alloc, budget, tokens)?;
+    if !is_call(&call) {
+        return Err(syntax(tokens));
+    }
+    let rest = expect_mark(Mark::Semicolon, rest)?;
+    Ok((Stmt::Spawn { call, span }, rest))
+}
+
+/// What stands behind the keyword of a statement that ends in a semicolon.
+#[tactic(auto, using(crate::proofs::View::the_stmt_views), unfolding(crate::specs::Stmts::jump_above))]
+pub fn jump_at(
+    alloc: Global,
+    budget: u32,
+    span: Span,
+    jump: Jump,
+    tokens: &[Token],
+) -> Result<(Stmt, &[Token]), ReadError>
+    requires { budget < 1000 }
+    ensures { Gives (λ x. (view_stmt x.0, kinds x.1.now)) result (stmts.jump_above budget jump (kinds tokens.now)) }
+{
+    match jump {
+        Jump::Break => {
+            let (label, rest) = label_at(tokens)?;
+            let rest = expect_mark(Mark::Semicolon, rest)?;
+            Ok((Stmt::Break { label, span }, rest))
+        }
+        Jump::Continue => {
+            let (label, rest) = label_at(tokens)?;
+            let rest = expect_mark(Mark::Semicolon, rest)?;
+            Ok((Stmt::Continue { label, span }, rest))
+        }
+        Jump::Return => {
+            let (value, rest) = option_before(alloc, budget, Mark::Semicolon, tokens)?;
+            Ok((Stmt::Return { value, span }, rest))
+        }
+        Jump::Exit => {
+            let rest = expect_mark(Mark::Semicolon, tokens)?;
+            Ok((Stmt::Exit { span }, rest))
+        }
+        Jump::Spawn => spawned_at(alloc, budget, span, tokens),
+        Jump::Raise => {
+            let (value, rest) = option_before(alloc, budget, Mark::Semicolon, tokens)?;
+            Ok((Stmt::Raise { value, span }, rest))
+        }
+    }
+}
