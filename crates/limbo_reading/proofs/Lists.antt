@@ -101,7 +101,7 @@ others_took r separator spell k P sep one (suc n) ts =
     took_choose (separator ts) _ _ _ (λ e. (record { parts = refl; stands = tt }, e)) λ us e.
     took_bind (r us) _ _ _ (one us) λ x t.
     took_bind (others r separator n x.1) _ _ _ (others_took r separator spell k P sep one n x.1) λ xs q.
-      (record { parts = sep ts us e ∙ ap (λ (v : List Kind). k ∷ v) (t.parts ∙ ap (spell x.0) q.0.parts); stands = (t.stands, q.0.stands) }, q.1)
+    (record { parts = sep ts us e ∙ ap (λ (v : List Kind). k ∷ v) (t.parts ∙ ap (spell x.0) q.0.parts); stands = (t.stands, q.0.stands) }, q.1)
 
 -- item {separator item}: at least one
 pub record TookItems {A : Type 0} (spell : A → List Kind → List Kind) (k : Kind) (P : A → Type 0) (separator : List Kind → Option (List Kind)) (ts : List Kind) (xs : List A × List Kind) : Type 0 where
@@ -120,7 +120,7 @@ unfolding items
 items_took r separator spell k P sep one ts =
     took_bind (r ts) _ _ _ (one ts) λ x t.
     took_bind (others r separator (length x.1) x.1) _ _ _ (others_took r separator spell k P sep one (length x.1) x.1) λ xs q.
-      record { first = x.0; more = xs.0; all = refl; parts = t.parts ∙ ap (spell x.0) q.0.parts; stands = (t.stands, q.0.stands); ended = q.1 }
+    record { first = x.0; more = xs.0; all = refl; parts = t.parts ∙ ap (spell x.0) q.0.parts; stands = (t.stands, q.0.stands); ended = q.1 }
 
 pub until_took : {A : Type 0} (r : Reader A) (ends : List Kind → Result Bool Fault) (spell : A → List Kind → List Kind) (P : A → Type 0)
     → ((ts : List Kind) → IfOk (r ts) (Took spell P ts))
@@ -132,7 +132,7 @@ until_took r ends spell P one (suc n) ts =
     took_if e _ _ _ (λ y. (record { parts = refl; stands = tt }, is ∙ ap Ok y)) λ no.
     took_bind (r ts) _ _ _ (one ts) λ x t.
     took_bind (until r ends n x.1) _ _ _ (until_took r ends spell P one n x.1) λ xs q.
-      (record { parts = t.parts ∙ ap (spell x.0) q.0.parts; stands = (t.stands, q.0.stands) }, q.1)
+    (record { parts = t.parts ∙ ap (spell x.0) q.0.parts; stands = (t.stands, q.0.stands) }, q.1)
   where
     itself : {B : Type 0} (s : Result B Fault) → IfOk s (λ b. s ≡ Ok b)
     itself (Ok b) = refl
@@ -172,14 +172,14 @@ others_keeps b r separator sep one (suc n) ts =
     keeps_choose b 0 (length ts) (separator ts) _ _ (λ e. omega arith) λ us e.
     keeps_less b 0 0 (length us) (length ts) _
     (keeps_bind b 0 0 0 (length us) (r us) _ (one us) (λ x h.
-      keeps_bind b 0 0 0 (length x.1) (others r separator n x.1) _ (others_keeps b r separator sep one n x.1) (λ xs k. omega arith) (omega arith)) (omega arith))
+    keeps_bind b 0 0 0 (length x.1) (others r separator n x.1) _ (others_keeps b r separator sep one n x.1) (λ xs k. omega arith) (omega arith)) (omega arith))
     (omega (arith, sep ts us e)) (omega (arith, sep ts us e))
 
 pub items_keeps : {A : Type 0} (b c : ℕ) (r : Reader A) (separator : List Kind → Option (List Kind)) → ((ts us : List Kind) → separator ts ≡ Some us → length us + 1 ≡ length ts) → ((ts : List Kind) → Keeps b c (length ts) (r ts)) → ((ts : List Kind) → Keeps b 0 (length ts) (r ts)) → (ts : List Kind) → Keeps b c (length ts) (items r separator ts)
 unfolding items
 items_keeps b c r separator sep one none ts =
     keeps_bind b c 0 c (length ts) (r ts) _ (one ts) (λ x h.
-      keeps_bind b 0 0 0 (length x.1) (others r separator (length x.1) x.1) _ (others_keeps b r separator sep none (length x.1) x.1) (λ xs k. omega arith) (omega arith)) (omega arith)
+    keeps_bind b 0 0 0 (length x.1) (others r separator (length x.1) x.1) _ (others_keeps b r separator sep none (length x.1) x.1) (λ xs k. omega arith) (omega arith)) (omega arith)
 
 -- a test that tells a fault of depth where at least b tokens stand before it
 abbrev pub KeepsTest : ℕ → ℕ → Result Bool Fault → Type 0
@@ -199,4 +199,4 @@ until_keeps b r ends test one (suc n) ts =
     keeps_test b (length ts) (ends ts) _ (test ts) λ e.
     keeps_if b 0 (length ts) e _ _ (omega arith)
     (keeps_bind b 0 0 0 (length ts) (r ts) _ (one ts) (λ x h.
-      keeps_bind b 0 0 0 (length x.1) (until r ends n x.1) _ (until_keeps b r ends test one n x.1) (λ xs k. omega arith) (omega arith)) (omega arith))
+    keeps_bind b 0 0 0 (length x.1) (until r ends n x.1) _ (until_keeps b r ends test one n x.1) (λ xs k. omega arith) (omega arith)) (omega arith))

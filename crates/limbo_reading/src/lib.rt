@@ -11,5 +11,7 @@ mod look;
 mod names;
 
 pub use fault::{Fault, ReadError};
-pub use look::{after_key, after_mark, expect_key, expect_mark, expect_name, place, syntax, too_deep};
+pub use look::{
+    after_key, after_mark, expect_key, expect_mark, expect_name, place, syntax, too_deep,
+};
 pub use names::{expect_choices, expect_names};

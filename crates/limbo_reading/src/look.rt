@@ -27,7 +27,13 @@ pub fn after_mark(mark: Mark, tokens: &[Token]) -> Option<&[Token]>
         (λ rest. reading.after_mark mark (kinds tokens.now) ≡ Some (kinds rest.now)) }
 {
     match tokens {
-        [Token { kind: Kind::Mark(found), .. }, rest @ ..] if *found == mark => Some(rest),
+        [
+            Token {
+                kind: Kind::Mark(found),
+                ..
+            },
+            rest @ ..,
+        ] if *found == mark => Some(rest),
         _ => None,
     }
 }
@@ -38,7 +44,13 @@ pub fn after_key(key: Key, tokens: &[Token]) -> Option<&[Token]>
         (λ rest. reading.after_key key (kinds tokens.now) ≡ Some (kinds rest.now)) }
 {
     match tokens {
-        [Token { kind: Kind::Key(found), .. }, rest @ ..] if *found == key => Some(rest),
+        [
+            Token {
+                kind: Kind::Key(found),
+                ..
+            },
+            rest @ ..,
+        ] if *found == key => Some(rest),
         _ => None,
     }
 }
@@ -95,7 +107,13 @@ pub fn expect_name(tokens: &[Token]) -> Result<(Name, &[Token]), ReadError>
     ensures { Gives (λ x. (x.0.text, kinds x.1.now)) result (reading.expect_name (kinds tokens.now)) }
 {
     match tokens {
-        [Token { kind: Kind::Name(text), span }, rest @ ..] => Ok((
+        [
+            Token {
+                kind: Kind::Name(text),
+                span,
+            },
+            rest @ ..,
+        ] => Ok((
             Name {
                 text: text.clone()?,
                 span: *span,

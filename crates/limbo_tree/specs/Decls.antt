@@ -132,7 +132,7 @@ abbrev mutual
   spell_member (TypeMember ns t) ts = spell_names ns (mark.Colon ▸ key.TypeWord ▹ spell_ty t (mark.Semicolon ▸ ts))
   spell_member (AdtMember n ms pick) ts =
       kind.Name n ∷ (mark.Colon ▸ key.Adt ▹ mark.OpenBrace ▸
-        spell_members ms (spell_pick pick (mark.CloseBrace ▸ mark.Semicolon ▸ ts)))
+      spell_members ms (spell_pick pick (mark.CloseBrace ▸ mark.Semicolon ▸ ts)))
 
   pub spell_members : Members → List Kind → List Kind
   spell_members NoMembers ts = ts
@@ -158,10 +158,10 @@ spell_decl (Exception ns tys) ts =
     spell_names ns (mark.Colon ▸ key.Exception ▹ spell_values tys (mark.Semicolon ▸ ts))
 spell_decl (Module n ms) ts =
     kind.Name n ∷ (mark.Colon ▸ key.Module ▹ mark.OpenBrace ▸
-      spell_members ms (mark.CloseBrace ▸ mark.Semicolon ▸ ts))
+    spell_members ms (mark.CloseBrace ▸ mark.Semicolon ▸ ts))
 spell_decl (Adt n ms pick) ts =
     kind.Name n ∷ (mark.Colon ▸ key.Adt ▹ mark.OpenBrace ▸
-      spell_members ms (spell_pick pick (mark.CloseBrace ▸ mark.Semicolon ▸ ts)))
+    spell_members ms (spell_pick pick (mark.CloseBrace ▸ mark.Semicolon ▸ ts)))
 
 -- ---- nesting: an adt's declaration counts as a type
 

@@ -132,7 +132,7 @@ abbrev mutual
   spell (Bytes e) ts = key.Array ▹ key.Of ▹ key.Byte ▹ spell e ts
   spell (Filled n is comma) ts =
       key.Array ▹ mark.OpenBracket ▸ spell_part n (mark.CloseBracket ▸ key.Of ▹ mark.OpenBrace ▸
-        spell_inits is (spell_comma comma (mark.CloseBrace ▸ ts)))
+      spell_inits is (spell_comma comma (mark.CloseBrace ▸ ts)))
   spell (Sized e t) ts = key.Array ▹ mark.OpenBracket ▸ spell e (mark.CloseBracket ▸ key.Of ▹ spell_ty t ts)
   spell (Channel n t) ts = key.Chan ▹ key.Of ▹ spell_ty t ts
   spell (Listed es) ts = key.List ▹ key.Of ▹ mark.OpenBrace ▸ spell_exprs es (mark.CloseBrace ▸ ts)

@@ -120,17 +120,17 @@ abbrev mutual
       spell_mark_label l (key.While ▹ mark.OpenParen ▸ spell_option c (mark.CloseParen ▸ spell_stmt s ts))
   spell_stmt (Do l s c) ts =
       spell_mark_label l (key.Do ▹ spell_stmt s (key.While ▹ mark.OpenParen ▸
-        spell_option c (mark.CloseParen ▸ mark.Semicolon ▸ ts)))
+      spell_option c (mark.CloseParen ▸ mark.Semicolon ▸ ts)))
   spell_stmt (For l a c b s) ts =
       spell_mark_label l (key.For ▹ mark.OpenParen ▸ spell_option a (mark.Semicolon ▸
-        spell_option c (mark.Semicolon ▸ spell_option b (mark.CloseParen ▸ spell_stmt s ts))))
+      spell_option c (mark.Semicolon ▸ spell_option b (mark.CloseParen ▸ spell_stmt s ts))))
   spell_stmt (Case l e arms) ts =
       spell_mark_label l (key.Case ▹ spell e (mark.OpenBrace ▸ spell_arms arms (mark.CloseBrace ▸ ts)))
   spell_stmt (Alt l arms) ts =
       spell_mark_label l (key.Alt ▹ mark.OpenBrace ▸ spell_arms arms (mark.CloseBrace ▸ ts))
   spell_stmt (Pick l n e arms) ts =
       spell_mark_label l (key.Pick ▹ kind.Name n ∷ (mark.Define ▸ spell e (mark.OpenBrace ▸
-        spell_arms arms (mark.CloseBrace ▸ ts))))
+      spell_arms arms (mark.CloseBrace ▸ ts))))
   spell_stmt (Break l) ts = key.Break ▹ spell_label l (mark.Semicolon ▸ ts)
   spell_stmt (Continue l) ts = key.Continue ▹ spell_label l (mark.Semicolon ▸ ts)
   spell_stmt (Return e) ts = key.Return ▹ spell_option e (mark.Semicolon ▸ ts)
@@ -146,7 +146,7 @@ abbrev mutual
   spell_block (Plain ss) ts = mark.OpenBrace ▸ spell_stmts ss (mark.CloseBrace ▸ ts)
   spell_block (Handled ss n arms) ts =
       mark.OpenBrace ▸ spell_stmts ss (mark.CloseBrace ▸ key.Exception ▹ spell_label n (mark.OpenBrace ▸
-        spell_arms arms (mark.CloseBrace ▸ ts)))
+      spell_arms arms (mark.CloseBrace ▸ ts)))
 
   pub spell_arms : Arms → List Kind → List Kind
   spell_arms NoArms ts = ts

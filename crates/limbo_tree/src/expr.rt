@@ -34,7 +34,10 @@ pub enum Expr {
         span: Span,
     },
     /// `array of byte operand`: a string's bytes.
-    Bytes { operand: Box<Expr>, span: Span },
+    Bytes {
+        operand: Box<Expr>,
+        span: Span,
+    },
     /// `array [len] of { items }`: an array with its elements. `comma` says whether one stands behind the last item.
     Filled {
         len: Option<Box<Expr>>,
@@ -55,7 +58,10 @@ pub enum Expr {
         span: Span,
     },
     /// `list of { items }`
-    Listed { items: Vec<Expr>, span: Span },
+    Listed {
+        items: Vec<Expr>,
+        span: Span,
+    },
     /// `function(args)`
     Call {
         function: Box<Expr>,
@@ -94,15 +100,30 @@ pub enum Expr {
         span: Span,
     },
     /// A number: a `big` where it is wide, else an `int`.
-    Number { value: i64, wide: bool, span: Span },
+    Number {
+        value: i64,
+        wide: bool,
+        span: Span,
+    },
     /// A string constant.
-    Chars { text: Text, span: Span },
+    Chars {
+        text: Text,
+        span: Span,
+    },
     /// A name.
-    Name { name: Text, span: Span },
+    Name {
+        name: Text,
+        span: Span,
+    },
     /// `nil`
-    Nil { span: Span },
+    Nil {
+        span: Span,
+    },
     /// `(` expr `,` ... `)`: one item in parentheses, or a tuple of more.
-    Group { items: Vec<Expr>, span: Span },
+    Group {
+        items: Vec<Expr>,
+        span: Span,
+    },
 }
 
 /// An item between the braces of an array.

@@ -19,5 +19,7 @@ pub use expr::{Expr, Init};
 pub use name::{Name, Qual};
 pub use operators::{AssignOp, BinaryOp, PostfixOp, UnaryOp};
 pub use source::{Function, Source, Top};
-pub use stmt::{AltArm, Block, CaseArm, Handler, HandlerArm, HandlerPattern, Pattern, PickArm, Stmt};
+pub use stmt::{
+    AltArm, Block, CaseArm, Handler, HandlerArm, HandlerPattern, Pattern, PickArm, Stmt,
+};
 pub use types::TypeTree;

@@ -8,13 +8,24 @@ use inf_text::{Span, Text};
 #[cycle(statements)]
 pub enum Stmt {
     /// `;`
-    Empty { span: Span },
+    Empty {
+        span: Span,
+    },
     /// A block.
-    Block { block: Block, span: Span },
+    Block {
+        block: Block,
+        span: Span,
+    },
     /// A declaration.
-    Declare { decl: Decl, span: Span },
+    Declare {
+        decl: Decl,
+        span: Span,
+    },
     /// `value;`
-    Eval { value: Expr, span: Span },
+    Eval {
+        value: Expr,
+        span: Span,
+    },
     /// `if (condition) then`, or with `else otherwise`.
     If {
         condition: Expr,
@@ -67,17 +78,34 @@ pub enum Stmt {
         span: Span,
     },
     /// `break label;`
-    Break { label: Option<Name>, span: Span },
+    Break {
+        label: Option<Name>,
+        span: Span,
+    },
     /// `continue label;`
-    Continue { label: Option<Name>, span: Span },
+    Continue {
+        label: Option<Name>,
+        span: Span,
+    },
     /// `return value;`
-    Return { value: Option<Expr>, span: Span },
+    Return {
+        value: Option<Expr>,
+        span: Span,
+    },
     /// `exit;`
-    Exit { span: Span },
+    Exit {
+        span: Span,
+    },
     /// `spawn call;`
-    Spawn { call: Expr, span: Span },
+    Spawn {
+        call: Expr,
+        span: Span,
+    },
     /// `raise value;`
-    Raise { value: Option<Expr>, span: Span },
+    Raise {
+        value: Option<Expr>,
+        span: Span,
+    },
 }
 
 /// `{ statements }`, and perhaps what handles their exceptions.
