@@ -1,0 +1,14 @@
+pub mod Lists
+pub mod Chosen
+pub mod Totals
+pub mod Renamings
+pub mod Runs
+pub mod Parked
+pub mod Ranks
+pub mod Joined
+pub mod Meetings
+pub mod Waits
+pub mod Effects
+pub mod Replies
+pub mod Journals
+pub mod Steady

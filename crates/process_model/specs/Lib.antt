@@ -1,0 +1,9 @@
+pub mod Process
+pub mod Source
+pub mod Choice
+pub mod Machine
+pub mod Renaming
+pub mod Alone
+pub mod Follows
+pub mod Law
+pub mod Laws
