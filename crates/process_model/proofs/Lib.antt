@@ -12,3 +12,5 @@ pub mod Effects
 pub mod Replies
 pub mod Journals
 pub mod Steady
+pub mod Lifted
+pub mod Example

@@ -7,3 +7,4 @@ pub mod Alone
 pub mod Follows
 pub mod Law
 pub mod Laws
+pub mod Plain
