@@ -1,10 +1,10 @@
 -- A tiny language and a tiny machine, to show that the premises of the law can be met, and that a replay computes.
-use Rattle.std.proofs.Common.{◌≡◌, ℕ, zero, suc, ◌<◌, true, false, List, [], ◌∷◌, Option, Some, None, refl, sym, ap, ◌∙◌, subst, arith}
+use Rattle.std.proofs.Common.{◌≡◌, ℕ, zero, suc, ◌<◌, true, false, List, [], ◌∷◌, Option, Some, None, refl, subst, arith}
 use Rattle.std.specs.Prelude.{slice_get}
 use Rattle.process_model.specs.Process.{Branch, Effect, Went, Parks, Spawns, Asks, Ends, Rules, Entry, Requested, Replied, Passed, Over, given}
-use Rattle.process_model.specs.Machine.{State, Event, Quantum, Reply, replay}
+use Rattle.process_model.specs.Machine.{State, Quantum, Reply, replay}
 use Rattle.process_model.specs.Law.{begins_code}
-use Rattle.process_model.specs.Plain.{PlainSides, no_counts, plain_here, PlainWaits, PlainMatches, PlainHears, PlainFollows, PlainJournals}
+use Rattle.process_model.specs.Plain.{PlainSides, no_counts, plain_here, PlainWaits, PlainMatches, PlainMatchesReply, PlainFollows, PlainJournals}
 use Rattle.process_model.proofs.Lifted.{plain_journals}
 
 -- A task: it says a number to the outside until it is heard, sends one, receives one and says it, or starts another task.
@@ -137,7 +137,7 @@ each w t q (fresh (Start u t1) r) = record { world = suc w; own = u; after = t1;
 each w t q (to_say n t1) = record { world = w; after = Say n t1; comes = record { steps = 0; world = w; before = Say n t1; alone = plain_here; does = refl }; related = said n t1; worlds = refl }
 each w t q (to_send c n t1) = record { world = w; after = t1; comes = record { steps = 0; world = w; before = Send c n t1; alone = plain_here; does = refl }; waits = sends c n n t1; worlds = refl }
 
-answers : (a w : ℕ) (t : Task) (q : Frame) → Said t q → PlainHears toy (task_answer a w t) (frames.answer a w q)
+answers : (a w : ℕ) (t : Task) (q : Frame) → Said t q → PlainMatchesReply toy (task_answer a w t) (frames.answer a w q)
 answers zero w t q (said n t1) = record { world = w; after = Say n t1; does = refl; related = said n t1; worlds = refl }
 answers (suc a) w t q (said n t1) = record { world = w; after = t1; does = refl; related = fresh t1 n; worlds = refl }
 
@@ -148,7 +148,7 @@ follows = record {
   some = omega arith;
   within = within;
   each = λ w x t q r e. subst (λ x. PlainMatches toy place (place q) w t (frames.step x q)) e (each w t q r);
-  answers = λ a w x t q r e. subst (λ x. PlainHears toy (task_answer a w t) (frames.answer a x q)) e (answers a w t q r);
+  answers = λ a w x t q r e. subst (λ x. PlainMatchesReply toy (task_answer a w t) (frames.answer a x q)) e (answers a w t q r);
 }
 
 -- Every journal of the code of a task is a run of the task, and at most one instruction passes without a step.

@@ -1,11 +1,10 @@
 -- What was proved of languages without a heap is what the law asks.
-use Rattle.std.proofs.Common.{◌≡◌, ℕ, zero, suc, List, [], ◌∷◌, ◌++◌, Option, Some, None, refl, sym, ap, ◌∙◌, subst}
-use Rattle.std.specs.Prelude.{slice_get}
+use Rattle.std.proofs.Common.{◌≡◌, ℕ, List, [], ◌∷◌, refl, sym, ap, ◌∙◌, subst}
 use Rattle.process_model.specs.Process.{Branch, Effect, Went, Parks, Polls, Spawns, Asks, Ends, Entry, Requested, Replied, Passed, Over, Released, given}
 use Rattle.process_model.specs.Alone.{Alone, here, on, Comes}
 use Rattle.process_model.specs.Renaming.{Link, SameTable, SameNames, SameEntry, SameTrace}
-use Rattle.process_model.specs.Follows.{Matches, Hears, WaitsAlike, Follows}
-use Rattle.process_model.specs.Plain.{PlainSides, no_names, one_map, lifted, PlainAlone, plain_here, plain_on, PlainComes, PlainWaits, PlainMatches, PlainHears, PlainFollows, PlainBeside, PlainJournals}
+use Rattle.process_model.specs.Follows.{Matches, MatchesReply, WaitsAlike, Follows}
+use Rattle.process_model.specs.Plain.{PlainSides, no_names, one_map, lifted, PlainAlone, plain_here, plain_on, PlainComes, PlainWaits, PlainMatches, PlainMatchesReply, PlainFollows, PlainJournals}
 use Rattle.process_model.proofs.Journals.{every_journal}
 
 -- through one map what is the same is equal
@@ -50,8 +49,8 @@ module _ {W X P Q D M A H : Type 0} (s : PlainSides W X P Q D M A H) where
   waits bs p q h = record {
     table = table_self bs;
     wakes = λ now g j a b e f v u vu.
-      let same : a ≡ b = cc in
-      subst (λ (b : Branch D). s.ready (s.program.wake j (given a v) p) (s.code.wake j (given b u) q)) same
+        let same : a ≡ b = cc in
+        subst (λ (b : Branch D). s.ready (s.program.wake j (given a v) p) (s.code.wake j (given b u) q)) same
         (subst (λ (u : D). s.ready (s.program.wake j (given a v) p) (s.code.wake j (given a u) q)) vu (h j a v e));
   }
 
@@ -63,7 +62,7 @@ module _ {W X P Q D M A H : Type 0} (s : PlainSides W X P Q D M A H) where
   plain_matches i others place at w p (Asks x m q) h = record { now = tt; grown = tt; world = h.world; after = h.after; comes = comes i others w p _ h.comes; related = h.related; settles = record { worlds = h.worlds; gone = tt } }
   plain_matches i others place at w p (Ends x how) h = record { now = tt; grown = tt; world = h.world; comes = comes i others w p _ h.comes; settles = record { worlds = h.worlds; gone = tt } }
 
-  pub plain_hears : (others : ℕ → ℕ) (e : Effect W P D M H) (f : Effect X Q D M H) → PlainHears s e f → Hears (lifted s) tt others e f
+  pub plain_hears : (others : ℕ → ℕ) (e : Effect W P D M H) (f : Effect X Q D M H) → PlainMatchesReply s e f → MatchesReply (lifted s) tt others e f
   plain_hears others e (Went x q) h = record { now = tt; grown = tt; world = h.world; after = h.after; does = h.does; related = h.related; settles = record { worlds = h.worlds; gone = tt } }
   plain_hears others e (Asks x m q) h = record { now = tt; grown = tt; world = h.world; after = h.after; does = h.does; related = h.related; settles = record { worlds = h.worlds; gone = tt } }
   plain_hears others e (Ends x how) h = record { now = tt; grown = tt; world = h.world; does = h.does; settles = record { worlds = h.worlds; gone = tt } }

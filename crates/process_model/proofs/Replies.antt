@@ -8,7 +8,7 @@ use Rattle.process_model.specs.Source as source
 use Rattle.process_model.specs.Source.{beside, total, Config, settled}
 use Rattle.process_model.specs.Machine as machine
 use Rattle.process_model.specs.Machine.{State}
-use Rattle.process_model.specs.Follows.{Sides, Follows, Hears, Settles}
+use Rattle.process_model.specs.Follows.{Sides, Follows, MatchesReply, Settles}
 use Rattle.process_model.proofs.Lists.{set_held}
 use Rattle.process_model.proofs.Totals.{total_is}
 use Rattle.process_model.proofs.Parked.{stood_on, listed_on}
@@ -40,7 +40,7 @@ module _ {K W X P Q D U M A H : Type 0} (sides : Sides K W X P Q D U M A H) (fol
     | Some t ↦ Some (machine.freeing sides.counting i t)
   ]
 
-  answer_follows : (k : K) (c : Config W P D M A H) (s t : State X Q U M A H) (i : ℕ) (a : A) (p : P) (q : Q) → Joined sides follows k c s → slice_get c.processes i ≡ Some (Asking p) → slice_get s.processes i ≡ Some (Asking q) → (e : Effect X Q U M H) → Hears sides k (left sides follows c i) (sides.program.answer a c.world p) e → told s i a e ≡ Some t → Answered k c s i a t
+  answer_follows : (k : K) (c : Config W P D M A H) (s t : State X Q U M A H) (i : ℕ) (a : A) (p : P) (q : Q) → Joined sides follows k c s → slice_get c.processes i ≡ Some (Asking p) → slice_get s.processes i ≡ Some (Asking q) → (e : Effect X Q U M H) → MatchesReply sides k (left sides follows c i) (sides.program.answer a c.world p) e → told s i a e ≡ Some t → Answered k c s i a t
   answer_follows k c s t i a p q j m f (Went x q') h g =
       let ps = c.processes in
       let px : Doing P D = Ready h.after in

@@ -19,6 +19,7 @@ abbrev pub first_fit : {D : Type 0} → Branch D → ℕ → ℕ → List (Branc
 first_fit a pid l [] = None
 first_fit a pid l (b ∷ bs) = if fits a b then Some (record { pid = pid; theirs = l; branch = b }) else first_fit a pid (suc l) bs
 
+-- The first, where there is one, else the second.
 abbrev pub or_else : {T : Type 0} → Option T → Option T → Option T
 or_else None y = y
 or_else (Some x) y = Some x

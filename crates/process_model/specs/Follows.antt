@@ -144,11 +144,11 @@ module _ {K W X P Q D U M A H : Type 0} (s : Sides K W X P Q D U M A H) where
     pub settles : Settles now world x others
 
   -- The source does at a reply what the machine does at it. At another effect the machine's reply is not allowed.
-  abbrev pub Hears : K → (ℕ → ℕ) → Effect W P D M H → Effect X Q U M H → Type 0
-  Hears k others e (Went x q) = HeardOn k others e x q
-  Hears k others e (Asks x m q) = HeardAgain k others e x m q
-  Hears k others e (Ends x how) = HeardOver k others e x how
-  Hears k others e _ = Unit {0}
+  abbrev pub MatchesReply : K → (ℕ → ℕ) → Effect W P D M H → Effect X Q U M H → Type 0
+  MatchesReply k others e (Went x q) = HeardOn k others e x q
+  MatchesReply k others e (Asks x m q) = HeardAgain k others e x m q
+  MatchesReply k others e (Ends x how) = HeardOver k others e x how
+  MatchesReply k others e _ = Unit {0}
 
   -- What is to be proved of two languages: how far a process of the machine may be along without a step of the source; that
   -- related processes stay so while the map grows; what one process owes at each of its steps and replies; and that a meeting
@@ -162,7 +162,7 @@ module _ {K W X P Q D U M A H : Type 0} (s : Sides K W X P Q D U M A H) where
     pub grow : (a b : K) (p : P) (q : Q) → s.map.grows a b → s.ready a p q → s.ready b p q
     pub grow_asking : (a b : K) (p : P) (q : Q) → s.map.grows a b → s.asking a p q → s.asking b p q
     pub each : (k : K) (i : ℕ) (others : ℕ → ℕ) (w : W) (x : X) (p : P) (q : Q) → s.ready k p q → s.worlds k w x (beside s.naming (Ready p) others) → Matches k i others place (place q) w p (s.code.step x q)
-    pub answers : (k : K) (others : ℕ → ℕ) (a : A) (w : W) (x : X) (p : P) (q : Q) → s.asking k p q → s.worlds k w x (beside s.naming (Asking p) others) → Hears k others (s.program.answer a w p) (s.code.answer a x q)
+    pub answers : (k : K) (others : ℕ → ℕ) (a : A) (w : W) (x : X) (p : P) (q : Q) → s.asking k p q → s.worlds k w x (beside s.naming (Asking p) others) → MatchesReply k others (s.program.answer a w p) (s.code.answer a x q)
     pub meets : (k : K) (others : ℕ → ℕ) (w : W) (x : X)
         (bs : List (Branch D)) (cs : List (Branch U)) (p : P) (q : Q) (j : ℕ) (a : Branch D)
         (bs' : List (Branch D)) (cs' : List (Branch U)) (p' : P) (q' : Q) (l : ℕ) (b : Branch D) →

@@ -20,6 +20,7 @@ abbrev pub Paced : ℕ → (ℕ → ℕ) → List Turn → Type 0
 Paced bound z [] = Unit {0}
 Paced bound z (t ∷ ts) = ((j : ℕ) → idle z t j < bound) × Paced bound (idle z t) ts
 
+-- So many instructions of process i.
 abbrev pub repeated : ℕ → ℕ → List ℕ
 repeated i zero = []
 repeated i (suc n) = i ∷ repeated i n

@@ -1,6 +1,6 @@
 -- Languages without a heap: what one process owes is a simpler thing, with no names, and what is told is equal on both sides.
 -- `lifted` says how such a pair is one with a heap that is empty.
-use Rattle.std.specs.Prelude.{ℕ, zero, suc, ◌≡◌, ◌<◌, List, [], Some, slice_get}
+use Rattle.std.specs.Prelude.{ℕ, suc, ◌≡◌, ◌<◌, List, [], Some, slice_get}
 use Rattle.process_model.specs.Process.{Branch, Effect, Went, Parks, Polls, Spawns, Asks, Ends, Rules, given}
 use Rattle.process_model.specs.Source.{Naming, Config, Turn, Matched}
 use Rattle.process_model.specs.Machine.{Counting, State, Event, replay}
@@ -143,11 +143,11 @@ module _ {W X P Q D M A H : Type 0} (s : PlainSides W X P Q D M A H) where
     pub worlds : s.worlds world x
 
   -- The source does at a reply what the machine does at it.
-  abbrev pub PlainHears : Effect W P D M H → Effect X Q D M H → Type 0
-  PlainHears e (Went x q) = PlainHeardOn e x q
-  PlainHears e (Asks x m q) = PlainHeardAgain e x m q
-  PlainHears e (Ends x how) = PlainHeardOver e x how
-  PlainHears e _ = Unit {0}
+  abbrev pub PlainMatchesReply : Effect W P D M H → Effect X Q D M H → Type 0
+  PlainMatchesReply e (Went x q) = PlainHeardOn e x q
+  PlainMatchesReply e (Asks x m q) = PlainHeardAgain e x m q
+  PlainMatchesReply e (Ends x how) = PlainHeardOver e x how
+  PlainMatchesReply e _ = Unit {0}
 
   -- What is to be proved of two languages without a heap.
   pub record PlainFollows : Type 0 where
@@ -156,7 +156,7 @@ module _ {W X P Q D M A H : Type 0} (s : PlainSides W X P Q D M A H) where
     pub some : 0 < bound
     pub within : (p : P) (q : Q) → s.ready p q → place q < bound
     pub each : (w : W) (x : X) (p : P) (q : Q) → s.ready p q → s.worlds w x → PlainMatches place (place q) w p (s.code.step x q)
-    pub answers : (a : A) (w : W) (x : X) (p : P) (q : Q) → s.asking p q → s.worlds w x → PlainHears (s.program.answer a w p) (s.code.answer a x q)
+    pub answers : (a : A) (w : W) (x : X) (p : P) (q : Q) → s.asking p q → s.worlds w x → PlainMatchesReply (s.program.answer a w p) (s.code.answer a x q)
 
   -- A run of the source beside a journal: the turns are the journal's instructions, at the pace, and the same was told.
   pub record PlainBeside (w : W) (p : P) (bound : ℕ) (journal : List (Event A)) (t : State X Q D M A H) : Type 0 where

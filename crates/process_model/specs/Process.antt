@@ -48,12 +48,14 @@ pub data Entry (D M A H : Type 0) : Type 0 where
   Over : ℕ → H → Entry D M A H
   Released : ℕ → List ℕ → Entry D M A H
 
+-- One is true and the other is not.
 abbrev pub differ : Bool → Bool → Bool
 differ true true = false
 differ true false = true
 differ false true = true
 differ false false = false
 
+-- Both are true.
 abbrev pub both : Bool → Bool → Bool
 both true b = b
 both false b = false

@@ -45,6 +45,7 @@ module _ {K D U : Type 0} (map : Renaming K D U) where
   SameEntry k (Released i ns) (Released j ms) = (i ≡ j) × SameNames k ns ms
   SameEntry k _ _ = ⊥
 
+  -- The same is told, entry by entry.
   abbrev pub SameTrace : {M A H : Type 0} → K → List (Entry D M A H) → List (Entry U M A H) → Type 0
   SameTrace k [] [] = Unit {0}
   SameTrace k (e ∷ es) (f ∷ fs) = SameEntry k e f × SameTrace k es fs

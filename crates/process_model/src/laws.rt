@@ -1,8 +1,8 @@
-//! What holds of every language that is given by the steps of one process.
+//! What holds of every language that is given by the steps of one process, and of every two that follow one another.
 
-ghost use Rattle.process_model.specs.Laws.{OthersStay, PartnerWaited, TraceGrows};
-ghost use Rattle.process_model.specs.Follows.{Sides, Follows};
+ghost use Rattle.process_model.specs.Follows.{Follows, Sides};
 ghost use Rattle.process_model.specs.Law.{EveryJournal};
+ghost use Rattle.process_model.specs.Laws.{OthersStay, PartnerWaited, TraceGrows};
 
 /// A step of a process leaves each other process as it was, but for the one that it meets.
 pub fn others_stay<W, P, D, M, A, H>()
@@ -14,22 +14,22 @@ pub fn partner_waited<W, P, D, M, A, H>()
     ensures { PartnerWaited W P D M A H }
 {}
 
-/// What was told stays told.
+/// What was told stays told: a step only adds to the trace, and so does a run.
 pub fn trace_grows<W, P, D, M, A, H>()
     ensures { TraceGrows W P D M A H }
 {}
 
-/// Two languages, joined.
-pub trait Compiled {
-    ghost maps: { Type 0 };
+/// A source and a machine, and what joins them: the types of `Sides`, in its order, and the two sides.
+pub trait Joining {
+    ghost map: { Type 0 };
 
     ghost source_world: { Type 0 };
 
     ghost world: { Type 0 };
 
-    ghost source: { Type 0 };
+    ghost source_process: { Type 0 };
 
-    ghost machine: { Type 0 };
+    ghost process: { Type 0 };
 
     ghost source_value: { Type 0 };
 
@@ -37,16 +37,16 @@ pub trait Compiled {
 
     ghost request: { Type 0 };
 
-    ghost answer: { Type 0 };
+    ghost reply: { Type 0 };
 
-    ghost how: { Type 0 };
+    ghost ending: { Type 0 };
 
-    ghost sides: { Sides maps source_world world source machine source_value value request answer how };
-
-    ghost follows: { Follows sides };
+    ghost sides: { Sides map source_world world source_process process source_value value request reply ending };
 }
 
-/// Every journal is a run.
-pub fn every_journal<J: Compiled>()
-    ensures { (k : J.maps) (w : J.source_world) (x : J.world) (p : J.source) (q : J.machine) → J.sides.ready k p q → J.sides.worlds k w x (J.sides.naming.names p) → EveryJournal J.sides k w x p q J.follows.bound }
+/// The law of all processes: where one process of the machine follows one of the source, every journal of two related
+/// openings is a run of the source, with the same trace and at the pace.
+pub fn every_journal<J: Joining>()
+    ensures { (follows : Follows J.sides) (k : J.map) (w : J.source_world) (x : J.world) (p : J.source_process) (q : J.process) →
+        J.sides.ready k p q → J.sides.worlds k w x (J.sides.naming.names p) → EveryJournal J.sides k w x p q follows.bound }
 {}
