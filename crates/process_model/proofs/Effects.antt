@@ -9,13 +9,13 @@ use Rattle.process_model.specs.Choice.{choose}
 use Rattle.process_model.specs.Machine as machine
 use Rattle.process_model.specs.Machine.{State}
 use Rattle.process_model.specs.Renaming.{SameTrace}
-use Rattle.process_model.specs.Follows.{Sides, Follows, Matches, Settles}
+use Rattle.process_model.specs.Follows.{Sides, StandsAlike, Follows, Matches, Settles}
 use Rattle.process_model.proofs.Lists.{set_same, set_set, set_held, each_more}
 use Rattle.process_model.proofs.Totals.{total_is, total_more}
 use Rattle.process_model.proofs.Runs.{at_place, alone_runs, comes_runs}
 use Rattle.process_model.proofs.Parked.{stood_on, stood_more, listed_on, listed_more}
 use Rattle.process_model.proofs.Ranks.{rank, rank_set, rank_more}
-use Rattle.process_model.proofs.Joined.{At, no_more, no_less, ready_of, both_set, Joined, Burst}
+use Rattle.process_model.proofs.Joined.{no_more, no_less, ready_of, both_set, Joined, Burst}
 use Rattle.process_model.proofs.Renamings.{trace_grow, trace_append, released_same}
 use Rattle.process_model.proofs.Waits.{left, park_follows, poll_follows}
 
@@ -59,7 +59,7 @@ module _ {K W X P Q D U M A H : Type 0} (sides : Sides K W X P Q D U M A H) (fol
         steps = suc n;
         run = subst (λ l. Run sides.program sides.naming i c (suc n) (settled sides.naming i (l ++ Ready h.own ∷ []) h.world c.trace)) (set_set ps i (Ready h.comes.before) (Ready h.after)) r1;
         joined = record {
-          each = each_more (At sides follows h.now) (no_more sides follows h.now) (no_less sides follows h.now) (set ps i (Ready h.after)) (set s.processes i (Ready q)) (Ready h.own) (Ready child) (both_set sides follows k h.now c s i (Ready h.after) (Ready q) h.grown j h.related) h.related_child;
+          each = each_more (StandsAlike sides h.now) (no_more sides follows h.now) (no_less sides follows h.now) (set ps i (Ready h.after)) (set s.processes i (Ready q)) (Ready h.own) (Ready child) (both_set sides follows k h.now c s i (Ready h.after) (Ready q) h.grown j h.related) h.related_child;
           stood = stood_more (set s.processes i (Ready q)) s.waiters (Ready child) (stood_on s.processes s.waiters i (Ready q0) (Ready q) f tt j.stood);
           listed = listed_more (set s.processes i (Ready q)) s.waiters child (listed_on s.processes s.waiters i (Ready q0) (Ready q) f tt j.listed);
           worlds = st.worlds;
@@ -113,7 +113,7 @@ module _ {K W X P Q D U M A H : Type 0} (sides : Sides K W X P Q D U M A H) (fol
   -- an instruction of a process that is ready
   pub instruction : (k : K) (c : Config W P D M A H) (s : State X Q U M A H) (i : ℕ) (q : Q) → Joined sides follows k c s → slice_get s.processes i ≡ Some (Ready q) → Burst sides follows k c s i (machine.freeing sides.counting i (machine.does sides.code sides.counting s i (sides.code.step s.world q)))
   instruction k c s i q j f =
-      let r = ready_of sides follows k (slice_get c.processes i) q (subst (λ u. At sides follows k (slice_get c.processes i) u) f (j.each i)) in
+      let r = ready_of sides follows k (slice_get c.processes i) q (subst (λ u. StandsAlike sides k (slice_get c.processes i) u) f (j.each i)) in
       let same : total sides.naming c.processes ≡ beside sides.naming (Ready r.0) (left sides follows c i) =
       ap (λ l. total sides.naming l) (sym (set_held c.processes i (Ready r.0) r.1)) ∙ total_is sides.naming c.processes i (Ready r.0) (Ready r.0) r.1 in
       does_follows k c s i r.0 q j r.1 f (sides.code.step s.world q)

@@ -5,11 +5,11 @@ use Rattle.process_model.specs.Process.{Branch, Doing, Ready, Waiting, Asking, G
 use Rattle.process_model.specs.Source.{Config, Turn, Matched, begun, turn, reply}
 use Rattle.process_model.specs.Machine as machine
 use Rattle.process_model.specs.Machine.{State, Event, Quantum, Reply}
-use Rattle.process_model.specs.Follows.{Sides, Follows}
+use Rattle.process_model.specs.Follows.{Sides, StandsAlike, Follows}
 use Rattle.process_model.specs.Law.{idle, Paced, repeated, instructions, makers, begins, begins_code, EveryJournal, JournalsAreRuns}
 use Rattle.process_model.proofs.Totals.{total_first}
 use Rattle.process_model.proofs.Ranks.{rank, idle_all, idle_more, paced_more, makers_more, idle_moves}
-use Rattle.process_model.proofs.Joined.{At, rank_within, Joined, Burst}
+use Rattle.process_model.proofs.Joined.{rank_within, Joined, Burst}
 use Rattle.process_model.proofs.Effects.{instruction}
 use Rattle.process_model.proofs.Replies.{reply_follows}
 
@@ -131,7 +131,7 @@ module _ {K W X P Q D U M A H : Type 0} (sides : Sides K W X P Q D U M A H) (fol
     trace = tt;
   }
     where
-      at : (j : ℕ) → At sides follows k (slice_get (Ready p ∷ []) j) (slice_get (Ready q ∷ []) j)
+      at : (j : ℕ) → StandsAlike sides k (slice_get (Ready p ∷ []) j) (slice_get (Ready q ∷ []) j)
       at zero = r
       at (suc j) = tt
 
@@ -143,7 +143,7 @@ module _ {K W X P Q D U M A H : Type 0} (sides : Sides K W X P Q D U M A H) (fol
   every_journal k w x p q r e longest journal t f =
       let first : Reaches k (begins w p) [] (begins_code x q) = record { now = k; grown = follows.link.same k; config = begins w p; turns = []; run = begun; joined = first_joined k w x p q r e; makes = refl; paced = tt; idles = λ j. omega arith } in
       let h = journal_follows longest journal k (begins w p) [] (begins_code x q) t first f in
-      record { now = h.now; grown = h.grown; config = h.config; turns = h.turns; run = h.run; makers = h.makes; paced = h.paced; trace = h.joined.trace; worlds = h.joined.worlds }
+      record { now = h.now; grown = h.grown; config = h.config; turns = h.turns; run = h.run; makers = h.makes; paced = h.paced; trace = h.joined.trace; processes = h.joined.each; worlds = h.joined.worlds }
 
 pub journals_are_runs : JournalsAreRuns
 journals_are_runs = record { every = λ s follows k w x p q r e. every_journal s follows k w x p q r e }

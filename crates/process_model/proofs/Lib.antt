@@ -14,3 +14,6 @@ pub mod Journals
 pub mod Steady
 pub mod Lifted
 pub mod Example
+pub mod Cells
+pub mod CellsSwept
+pub mod CellsFollow

@@ -89,4 +89,4 @@ module _ {W X P Q D M A H : Type 0} (s : PlainSides W X P Q D M A H) where
   unfolding plain_follows
   plain_journals h w x p q r e longest journal t f =
       let k = every_journal (lifted s) (plain_follows h) tt w x p q r e longest journal t f in
-      record { config = k.config; turns = k.turns; run = k.run; makers = k.makers; paced = k.paced; trace = trace_equal k.config.trace t.trace k.trace; worlds = k.worlds }
+      record { config = k.config; turns = k.turns; run = k.run; makers = k.makers; paced = k.paced; trace = trace_equal k.config.trace t.trace k.trace; processes = k.processes; worlds = k.worlds }

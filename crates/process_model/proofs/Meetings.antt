@@ -8,13 +8,13 @@ use Rattle.process_model.specs.Choice.{Choice, choose}
 use Rattle.process_model.specs.Machine as machine
 use Rattle.process_model.specs.Machine.{State}
 use Rattle.process_model.specs.Renaming.{SameBranch, SameTrace}
-use Rattle.process_model.specs.Follows.{Sides, Follows, WaitsAlike, Settles}
+use Rattle.process_model.specs.Follows.{Sides, StandsAlike, Follows, WaitsAlike, Settles}
 use Rattle.process_model.proofs.Lists.{set_other, set_set, set_held, each_set}
 use Rattle.process_model.proofs.Chosen.{choose_found}
 use Rattle.process_model.proofs.Totals.{total_two}
 use Rattle.process_model.proofs.Parked.{Stood, Listed, stood_on, stood_wake, listed_on, listed_wake}
 use Rattle.process_model.proofs.Ranks.{rank_two}
-use Rattle.process_model.proofs.Joined.{At, no_more, no_less, waiting_of, Burst}
+use Rattle.process_model.proofs.Joined.{no_more, no_less, waiting_of, Burst}
 use Rattle.process_model.proofs.Renamings.{table_at, fits_back, passing_same, trace_append, told_same, released_same}
 
 module _ {K W X P Q D U M A H : Type 0} (sides : Sides K W X P Q D U M A H) (follows : Follows sides) where
@@ -24,7 +24,7 @@ module _ {K W X P Q D U M A H : Type 0} (sides : Sides K W X P Q D U M A H) (fol
     pub held : slice_get ps i ≡ Some mine
     pub its : Q
     pub holds : slice_get s.processes i ≡ Some (Ready its)
-    pub each : (j : ℕ) → At sides follows k (slice_get ps j) (slice_get s.processes j)
+    pub each : (j : ℕ) → StandsAlike sides k (slice_get ps j) (slice_get s.processes j)
     pub stood : Stood s.processes s.waiters
     pub listed : Listed s.processes s.waiters
     pub trace : SameTrace sides.map k t s.trace
@@ -61,7 +61,7 @@ module _ {K W X P Q D U M A H : Type 0} (sides : Sides K W X P Q D U M A H) (fol
       let own : slice_get cs c.mine ≡ Some c.own = subst (λ n. slice_get cs n ≡ Some c.own) n_at f.at in
       let st = h.stood c.met.pid f.found.branches f.found.stands in
       let hi = h.holds in
-      let o = waiting_of sides follows k (slice_get ps c.met.pid) f.found.branches st.0 (subst (λ y. At sides follows k (slice_get ps c.met.pid) y) st.1 (h.each c.met.pid)) in
+      let o = waiting_of sides follows k (slice_get ps c.met.pid) f.found.branches st.0 (subst (λ y. StandsAlike sides k (slice_get ps c.met.pid) y) st.1 (h.each c.met.pid)) in
       let mine = table_at sides.map follows.link k bs cs c.mine c.own h.waits.table own in
       let theirs = table_at sides.map follows.link k o.0 f.found.branches c.met.theirs c.met.branch o.3.table f.found.at in
       record {
@@ -118,9 +118,9 @@ module _ {K W X P Q D U M A H : Type 0} (sides : Sides K W X P Q D U M A H) (fol
         steps = suc n;
         run = r;
         joined = record {
-          each = subst (λ l. (z : ℕ) → At sides follows k (slice_get (set l c.met.pid py) z) (slice_get (set (set s.processes i qx) c.met.pid qy) z)) (sym (set_set ps i (Waiting bs p) px))
-              (each_set (At sides follows k) (no_more sides follows k) (no_less sides follows k) (set ps i px) (set s.processes i qx) c.met.pid py qy
-              (each_set (At sides follows k) (no_more sides follows k) (no_less sides follows k) ps s.processes i px qx h.each (h.waits.wakes k (follows.link.same k) c.mine m.mine c.own m.mine_at m.own_at v u vu))
+          each = subst (λ l. (z : ℕ) → StandsAlike sides k (slice_get (set l c.met.pid py) z) (slice_get (set (set s.processes i qx) c.met.pid qy) z)) (sym (set_set ps i (Waiting bs p) px))
+              (each_set (StandsAlike sides k) (no_more sides follows k) (no_less sides follows k) (set ps i px) (set s.processes i qx) c.met.pid py qy
+              (each_set (StandsAlike sides k) (no_more sides follows k) (no_less sides follows k) ps s.processes i px qx h.each (h.waits.wakes k (follows.link.same k) c.mine m.mine c.own m.mine_at m.own_at v u vu))
               (m.waits.wakes k (follows.link.same k) c.met.theirs m.branch c.met.branch m.branch_at m.met_at v u vu));
           stood = stood_wake (set s.processes i qx) s.waiters c.met.pid qy (stood_on s.processes s.waiters i (Ready h.its) qx h.holds tt h.stood);
           listed = listed_wake (set s.processes i qx) s.waiters c.met.pid (Waiting m.theirs m.its) qy (set_other s.processes i c.met.pid qx m.other ∙ m.there_too) tt (listed_on s.processes s.waiters i (Ready h.its) qx h.holds tt h.listed);

@@ -12,7 +12,7 @@ module _ {K D U : Type 0} (map : Renaming K D U) (link : Link map) where
   table_grow a b [] (y ∷ cs) g h = absurd h
   table_grow a b (x ∷ bs) [] g h = absurd h
 
-  names_grow : (a b : K) (ns ms : List ℕ) → map.grows a b → SameNames map a ns ms → SameNames map b ns ms
+  pub names_grow : (a b : K) (ns ms : List ℕ) → map.grows a b → SameNames map a ns ms → SameNames map b ns ms
   names_grow a b [] [] g h = tt
   names_grow a b (n ∷ ns) (m ∷ ms) g h = (link.name_on a b n m g h.0, names_grow a b ns ms g h.1)
   names_grow a b [] (m ∷ ms) g h = absurd h

@@ -8,12 +8,12 @@ use Rattle.process_model.specs.Source as source
 use Rattle.process_model.specs.Source.{beside, total, Config, settled}
 use Rattle.process_model.specs.Machine as machine
 use Rattle.process_model.specs.Machine.{State}
-use Rattle.process_model.specs.Follows.{Sides, Follows, MatchesReply, Settles}
+use Rattle.process_model.specs.Follows.{Sides, StandsAlike, Follows, MatchesReply, Settles}
 use Rattle.process_model.proofs.Lists.{set_held}
 use Rattle.process_model.proofs.Totals.{total_is}
 use Rattle.process_model.proofs.Parked.{stood_on, listed_on}
 use Rattle.process_model.proofs.Ranks.{rank, rank_set}
-use Rattle.process_model.proofs.Joined.{At, asking_of, both_set, Joined}
+use Rattle.process_model.proofs.Joined.{asking_of, both_set, Joined}
 use Rattle.process_model.proofs.Effects.{told_on}
 use Rattle.process_model.proofs.Waits.{left}
 
@@ -102,7 +102,7 @@ module _ {K W X P Q D U M A H : Type 0} (sides : Sides K W X P Q D U M A H) (fol
 
   pub reply_follows : (k : K) (c : Config W P D M A H) (s t : State X Q U M A H) (i : ℕ) (a : A) → Joined sides follows k c s → (o : Option (Doing Q U)) → slice_get s.processes i ≡ o → machine.replied sides.code sides.counting s i a o ≡ Some t → Answered k c s i a t
   reply_follows k c s t i a j (Some (Asking q)) f e =
-      let r = asking_of sides follows k (slice_get c.processes i) q (subst (λ u. At sides follows k (slice_get c.processes i) u) f (j.each i)) in
+      let r = asking_of sides follows k (slice_get c.processes i) q (subst (λ u. StandsAlike sides k (slice_get c.processes i) u) f (j.each i)) in
       let same : total sides.naming c.processes ≡ beside sides.naming (Asking r.0) (left sides follows c i) =
       ap (λ l. total sides.naming l) (sym (set_held c.processes i (Asking r.0) r.1)) ∙ total_is sides.naming c.processes i (Asking r.0) (Asking r.0) r.1 in
       answer_follows k c s t i a r.0 q j r.1 f (sides.code.answer a s.world q)

@@ -9,14 +9,14 @@ use Rattle.process_model.specs.Choice.{Choice, choose}
 use Rattle.process_model.specs.Machine as machine
 use Rattle.process_model.specs.Machine.{State}
 use Rattle.process_model.specs.Renaming.{SameTrace}
-use Rattle.process_model.specs.Follows.{Sides, Follows, Parking, Polling, Settles}
+use Rattle.process_model.specs.Follows.{Sides, StandsAlike, Follows, Parking, Polling, Settles}
 use Rattle.process_model.proofs.Lists.{set_same, set_other, set_set}
 use Rattle.process_model.proofs.Chosen.{choose_none}
 use Rattle.process_model.proofs.Totals.{total_is}
 use Rattle.process_model.proofs.Runs.{at_place, comes_runs}
 use Rattle.process_model.proofs.Parked.{stood_on, stood_park, listed_on, listed_park}
 use Rattle.process_model.proofs.Ranks.{rank_set}
-use Rattle.process_model.proofs.Joined.{At, at_grow, waiting_to, both_set, Joined, Burst}
+use Rattle.process_model.proofs.Joined.{at_grow, waiting_to, both_set, Joined, Burst}
 use Rattle.process_model.proofs.Renamings.{table_to, fits_on, trace_grow, trace_append, released_same}
 use Rattle.process_model.proofs.Meetings.{offer, meet_follows}
 
@@ -98,7 +98,7 @@ module _ {K W X P Q D U M A H : Type 0} (sides : Sides K W X P Q D U M A H) (fol
           let tot = total_is sides.naming ps i by (Ready p0) m in
           let nobody : NoneFits cb i h.branches = λ l theirs z ne e1 n a at l2 b at2.
           let e2 : slice_get ps l ≡ Some (Waiting theirs z) = sym (set_other ps i l (Ready h.comes.before) ne) ∙ e1 in
-          let o = waiting_to sides follows h.now theirs z (slice_get s.processes l) (subst (λ y. At sides follows h.now y (slice_get s.processes l)) e2 (at_grow sides follows k h.now (slice_get ps l) (slice_get s.processes l) h.grown (j.each l))) in
+          let o = waiting_to sides follows h.now theirs z (slice_get s.processes l) (subst (λ y. StandsAlike sides h.now y (slice_get s.processes l)) e2 (at_grow sides follows k h.now (slice_get ps l) (slice_get s.processes l) h.grown (j.each l))) in
           let a' = table_to sides.map follows.link h.now h.branches cs n a h.waits.table at in
           let b' = table_to sides.map follows.link h.now theirs o.0 l2 b o.3 at2 in
           fits_on sides.map follows.link h.now a b a'.0 b'.0 a'.2 b'.2 (choose_none 0 cs s.waiters e n a'.0 a'.1 l o.0 (j.listed l o.0 o.1 o.2) l2 b'.0 b'.1) in

@@ -1,7 +1,7 @@
 -- What one process of a machine owes to one of a source: whatever it does next, the other does too, after some steps of its
 -- own. Only one process is spoken of, beside whatever the others name; the law of all processes follows once for all.
-use Rattle.std.specs.Prelude.{ℕ, ◌≡◌, ◌<◌, true, List, [], Some, slice_get}
-use Rattle.process_model.specs.Process.{Branch, Effect, Went, Parks, Polls, Spawns, Asks, Ends, Ready, Waiting, Asking, Rules, Entry, released, fits, passing, given}
+use Rattle.std.specs.Prelude.{ℕ, ◌≡◌, ◌<◌, true, List, [], Option, Some, None, slice_get}
+use Rattle.process_model.specs.Process.{Branch, Effect, Went, Parks, Polls, Spawns, Asks, Ends, Doing, Ready, Waiting, Asking, Gone, Rules, Entry, released, fits, passing, given}
 use Rattle.process_model.specs.Source.{Naming, beside}
 use Rattle.process_model.specs.Machine.{Counting}
 use Rattle.process_model.specs.Alone.{Alone, Comes}
@@ -31,6 +31,15 @@ module _ {K W X P Q D U M A H : Type 0} (s : Sides K W X P Q D U M A H) where
   pub record WaitsAlike (k : K) (bs : List (Branch D)) (cs : List (Branch U)) (p : P) (q : Q) : Type 0 where
     pub table : SameTable s.map k bs cs
     pub wakes : (now : K) → s.map.grows k now → (j : ℕ) (a : Branch D) (b : Branch U) → slice_get bs j ≡ Some a → slice_get cs j ≡ Some b → (v : D) (u : U) → s.map.value now v u → s.ready now (s.program.wake j (given a v) p) (s.code.wake j (given b u) q)
+
+  -- Two processes, or two places where none is, stand alike.
+  abbrev pub StandsAlike : K → Option (Doing P D) → Option (Doing Q U) → Type 0
+  StandsAlike k None None = Unit {0}
+  StandsAlike k (Some (Ready p)) (Some (Ready q)) = s.ready k p q
+  StandsAlike k (Some (Waiting bs p)) (Some (Waiting cs q)) = WaitsAlike k bs cs p q
+  StandsAlike k (Some (Asking p)) (Some (Asking q)) = s.asking k p q
+  StandsAlike k (Some Gone) (Some Gone) = Unit {0}
+  StandsAlike k _ _ = ⊥
 
   -- The machine went on: the source took so many steps, of which at most one told that something went. If it took none, the
   -- machine's place rose from what it was.

@@ -1,10 +1,10 @@
 -- The law: whatever journal a machine keeps, its replay is a run of the source, with the same trace, and at the pace.
-use Rattle.std.specs.Prelude.{ℕ, zero, suc, ◌≡◌, ◌<◌, nat_eq, if◌then◌else◌, List, [], ◌∷◌, ◌++◌, Some}
+use Rattle.std.specs.Prelude.{ℕ, zero, suc, ◌≡◌, ◌<◌, nat_eq, if◌then◌else◌, List, [], ◌∷◌, ◌++◌, Some, slice_get}
 use Rattle.process_model.specs.Process.{Ready}
 use Rattle.process_model.specs.Source.{Config, Turn, Matched, total}
 use Rattle.process_model.specs.Machine.{State, Event, Quantum, Reply, replay}
 use Rattle.process_model.specs.Renaming.{SameTrace}
-use Rattle.process_model.specs.Follows.{Sides, Follows}
+use Rattle.process_model.specs.Follows.{Sides, Follows, StandsAlike}
 
 -- One turn more without a step, or the count begins anew.
 abbrev pub idled : ℕ → ℕ → ℕ
@@ -46,8 +46,8 @@ begins_code x q = record { processes = Ready q ∷ []; world = x; waiters = []; 
 
 module _ {K W X P Q D U M A H : Type 0} (s : Sides K W X P Q D U M A H) where
   -- A run of the source beside a journal: its turns are the journal's instructions, process by process, each with the steps
-  -- that it stands for; no process has as many turns without a step as the bound; and at the end the same was told and the
-  -- worlds are alike, through a map that grew from the opening's.
+  -- that it stands for; no process has as many turns without a step as the bound; and at the end the same was told, each
+  -- process stands alike and so do the worlds, through a map that grew from the opening's.
   pub record Beside (k : K) (w : W) (p : P) (bound : ℕ) (journal : List (Event A)) (t : State X Q U M A H) : Type 0 where
     pub now : K
     pub grown : s.map.grows k now
@@ -57,6 +57,7 @@ module _ {K W X P Q D U M A H : Type 0} (s : Sides K W X P Q D U M A H) where
     pub makers : makers turns ≡ instructions journal
     pub paced : Paced bound (λ j. 0) turns
     pub trace : SameTrace s.map now config.trace t.trace
+    pub processes : (j : ℕ) → StandsAlike s now (slice_get config.processes j) (slice_get t.processes j)
     pub worlds : s.worlds now config.world t.world (total s.naming config.processes)
 
   -- Every journal whose replay stands has such a run, whatever the longest quantum is.

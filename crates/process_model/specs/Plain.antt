@@ -5,7 +5,7 @@ use Rattle.process_model.specs.Process.{Branch, Effect, Went, Parks, Polls, Spaw
 use Rattle.process_model.specs.Source.{Naming, Config, Turn, Matched}
 use Rattle.process_model.specs.Machine.{Counting, State, Event, replay}
 use Rattle.process_model.specs.Renaming.{Renaming}
-use Rattle.process_model.specs.Follows.{Sides}
+use Rattle.process_model.specs.Follows.{Sides, StandsAlike}
 use Rattle.process_model.specs.Law.{Paced, makers, instructions, begins, begins_code}
 
 -- The two sides, and three relations: of processes that are ready, of processes that wait for a reply, and of worlds.
@@ -166,6 +166,7 @@ module _ {W X P Q D M A H : Type 0} (s : PlainSides W X P Q D M A H) where
     pub makers : makers turns ≡ instructions journal
     pub paced : Paced bound (λ j. 0) turns
     pub trace : config.trace ≡ t.trace
+    pub processes : (j : ℕ) → StandsAlike (lifted s) tt (slice_get config.processes j) (slice_get t.processes j)
     pub worlds : s.worlds config.world t.world
 
   -- Every journal whose replay stands has such a run.
