@@ -30,7 +30,10 @@ module _ {K W X P Q D U M A H : Type 0} (s : Sides K W X P Q D U M A H) where
   -- under any later map.
   pub record WaitsAlike (k : K) (bs : List (Branch D)) (cs : List (Branch U)) (p : P) (q : Q) : Type 0 where
     pub table : SameTable s.map k bs cs
-    pub wakes : (now : K) → s.map.grows k now → (j : ℕ) (a : Branch D) (b : Branch U) → slice_get bs j ≡ Some a → slice_get cs j ≡ Some b → (v : D) (u : U) → s.map.value now v u → s.ready now (s.program.wake j (given a v) p) (s.code.wake j (given b u) q)
+    pub wakes : (now : K) → s.map.grows k now →
+        (j : ℕ) (a : Branch D) (b : Branch U) → slice_get bs j ≡ Some a → slice_get cs j ≡ Some b →
+        (v : D) (u : U) → s.map.value now v u →
+        s.ready now (s.program.wake j (given a v) p) (s.code.wake j (given b u) q)
 
   -- Two processes, or two places where none is, stand alike.
   abbrev pub StandsAlike : K → Option (Doing P D) → Option (Doing Q U) → Type 0
@@ -170,8 +173,12 @@ module _ {K W X P Q D U M A H : Type 0} (s : Sides K W X P Q D U M A H) where
     pub within : (k : K) (p : P) (q : Q) → s.ready k p q → place q < bound
     pub grow : (a b : K) (p : P) (q : Q) → s.map.grows a b → s.ready a p q → s.ready b p q
     pub grow_asking : (a b : K) (p : P) (q : Q) → s.map.grows a b → s.asking a p q → s.asking b p q
-    pub each : (k : K) (i : ℕ) (others : ℕ → ℕ) (w : W) (x : X) (p : P) (q : Q) → s.ready k p q → s.worlds k w x (beside s.naming (Ready p) others) → Matches k i others place (place q) w p (s.code.step x q)
-    pub answers : (k : K) (others : ℕ → ℕ) (a : A) (w : W) (x : X) (p : P) (q : Q) → s.asking k p q → s.worlds k w x (beside s.naming (Asking p) others) → MatchesReply k others (s.program.answer a w p) (s.code.answer a x q)
+    pub each : (k : K) (i : ℕ) (others : ℕ → ℕ) (w : W) (x : X) (p : P) (q : Q) →
+        s.ready k p q → s.worlds k w x (beside s.naming (Ready p) others) →
+        Matches k i others place (place q) w p (s.code.step x q)
+    pub answers : (k : K) (others : ℕ → ℕ) (a : A) (w : W) (x : X) (p : P) (q : Q) →
+        s.asking k p q → s.worlds k w x (beside s.naming (Asking p) others) →
+        MatchesReply k others (s.program.answer a w p) (s.code.answer a x q)
     pub meets : (k : K) (others : ℕ → ℕ) (w : W) (x : X)
         (bs : List (Branch D)) (cs : List (Branch U)) (p : P) (q : Q) (j : ℕ) (a : Branch D)
         (bs' : List (Branch D)) (cs' : List (Branch U)) (p' : P) (q' : Q) (l : ℕ) (b : Branch D) →

@@ -62,8 +62,12 @@ module _ {K W X P Q D U M A H : Type 0} (s : Sides K W X P Q D U M A H) where
 
   -- Every journal whose replay stands has such a run, whatever the longest quantum is.
   abbrev pub EveryJournal : K → W → X → P → Q → ℕ → Type 0
-  EveryJournal k w x p q bound = (longest : ℕ) (journal : List (Event A)) (t : State X Q U M A H) → replay s.code s.counting longest (begins_code x q) journal ≡ Some t → Beside k w p bound journal t
+  EveryJournal k w x p q bound =
+      (longest : ℕ) (journal : List (Event A)) (t : State X Q U M A H) →
+      replay s.code s.counting longest (begins_code x q) journal ≡ Some t →
+      Beside k w p bound journal t
 
 -- The law of every two languages: where one process follows the other, every journal of two related openings is a run.
 pub record JournalsAreRuns : Type 1 where
-  pub every : {K W X P Q D U M A H : Type 0} (s : Sides K W X P Q D U M A H) (follows : Follows s) (k : K) (w : W) (x : X) (p : P) (q : Q) → s.ready k p q → s.worlds k w x (s.naming.names p) → EveryJournal s k w x p q follows.bound
+  pub every : {K W X P Q D U M A H : Type 0} (s : Sides K W X P Q D U M A H) (follows : Follows s) (k : K) (w : W) (x : X) (p : P) (q : Q) →
+      s.ready k p q → s.worlds k w x (s.naming.names p) → EveryJournal s k w x p q follows.bound

@@ -19,7 +19,8 @@ partner_of (ends i p w how at does) = None
 abbrev pub OthersStay : (W P D M A H : Type 0) → Type 0
 OthersStay W P D M A H =
     (rules : Rules W P D M A H) (naming : Naming W P D) (c e : Config W P D M A H) (i : ℕ) (step : Steps rules naming c i e)
-    (j : ℕ) (d : Doing P D) → (j ≡ i → ⊥) → (partner_of step ≡ Some j → ⊥) → slice_get c.processes j ≡ Some d → slice_get e.processes j ≡ Some d
+    (j : ℕ) (d : Doing P D) → (j ≡ i → ⊥) → (partner_of step ≡ Some j → ⊥) →
+    slice_get c.processes j ≡ Some d → slice_get e.processes j ≡ Some d
 
 -- Process j is another one, which waited and now goes on.
 pub record Met {W P D M A H : Type 0} (c e : Config W P D M A H) (i j : ℕ) : Type 0 where
@@ -43,6 +44,9 @@ pub record Extends {E : Type 0} (before after : List E) : Type 0 where
 
 -- What was told stays told: a step only adds to the trace, and so does a run.
 pub record TraceGrows (W P D M A H : Type 0) : Type 0 where
-  pub step : (rules : Rules W P D M A H) (naming : Naming W P D) (c e : Config W P D M A H) (i : ℕ) → Steps rules naming c i e → Extends c.trace e.trace
-  pub run : (rules : Rules W P D M A H) (naming : Naming W P D) (c e : Config W P D M A H) (i n : ℕ) → Run rules naming i c n e → Extends c.trace e.trace
-  pub matched : (rules : Rules W P D M A H) (naming : Naming W P D) (c e : Config W P D M A H) (turns : List Turn) → Matched rules naming c turns e → Extends c.trace e.trace
+  pub step : (rules : Rules W P D M A H) (naming : Naming W P D) (c e : Config W P D M A H) (i : ℕ) →
+      Steps rules naming c i e → Extends c.trace e.trace
+  pub run : (rules : Rules W P D M A H) (naming : Naming W P D) (c e : Config W P D M A H) (i n : ℕ) →
+      Run rules naming i c n e → Extends c.trace e.trace
+  pub matched : (rules : Rules W P D M A H) (naming : Naming W P D) (c e : Config W P D M A H) (turns : List Turn) →
+      Matched rules naming c turns e → Extends c.trace e.trace

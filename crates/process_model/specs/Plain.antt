@@ -45,7 +45,8 @@ module _ {W X P Q D M A H : Type 0} (s : PlainSides W X P Q D M A H) where
   -- So many steps of one process.
   pub data PlainAlone : ℕ → W → P → W → P → Type 0 where
     plain_here : {w : W} {p : P} → PlainAlone 0 w p w p
-    plain_on : {n : ℕ} {w w1 w2 : W} {p p1 p2 : P} → s.program.step w p ≡ Went w1 p1 → PlainAlone n w1 p1 w2 p2 → PlainAlone (suc n) w p w2 p2
+    plain_on : {n : ℕ} {w w1 w2 : W} {p p1 p2 : P} →
+        s.program.step w p ≡ Went w1 p1 → PlainAlone n w1 p1 w2 p2 → PlainAlone (suc n) w p w2 p2
 
   -- After some steps the process does this.
   pub record PlainComes (w : W) (p : P) (e : Effect W P D M H) : Type 0 where
@@ -57,7 +58,9 @@ module _ {W X P Q D M A H : Type 0} (s : PlainSides W X P Q D M A H) where
 
   -- Two that wait with this table are related again by whichever branch they go on, with whatever value.
   abbrev pub PlainWaits : List (Branch D) → P → Q → Type 0
-  PlainWaits bs p q = (j : ℕ) (a : Branch D) (v : D) → slice_get bs j ≡ Some a → s.ready (s.program.wake j (given a v) p) (s.code.wake j (given a v) q)
+  PlainWaits bs p q =
+      (j : ℕ) (a : Branch D) (v : D) → slice_get bs j ≡ Some a →
+      s.ready (s.program.wake j (given a v) p) (s.code.wake j (given a v) q)
 
   -- The machine went on: the source took so many steps. If it took none, the machine's place rose from what it was.
   pub record PlainMoves (place : Q → ℕ) (at : ℕ) (w : W) (p : P) (x : X) (q : Q) : Type 0 where
@@ -155,8 +158,10 @@ module _ {W X P Q D M A H : Type 0} (s : PlainSides W X P Q D M A H) where
     pub bound : ℕ
     pub some : 0 < bound
     pub within : (p : P) (q : Q) → s.ready p q → place q < bound
-    pub each : (w : W) (x : X) (p : P) (q : Q) → s.ready p q → s.worlds w x → PlainMatches place (place q) w p (s.code.step x q)
-    pub answers : (a : A) (w : W) (x : X) (p : P) (q : Q) → s.asking p q → s.worlds w x → PlainMatchesReply (s.program.answer a w p) (s.code.answer a x q)
+    pub each : (w : W) (x : X) (p : P) (q : Q) →
+        s.ready p q → s.worlds w x → PlainMatches place (place q) w p (s.code.step x q)
+    pub answers : (a : A) (w : W) (x : X) (p : P) (q : Q) →
+        s.asking p q → s.worlds w x → PlainMatchesReply (s.program.answer a w p) (s.code.answer a x q)
 
   -- A run of the source beside a journal: the turns are the journal's instructions, at the pace, and the same was told.
   pub record PlainBeside (w : W) (p : P) (bound : ℕ) (journal : List (Event A)) (t : State X Q D M A H) : Type 0 where
@@ -171,4 +176,7 @@ module _ {W X P Q D M A H : Type 0} (s : PlainSides W X P Q D M A H) where
 
   -- Every journal whose replay stands has such a run.
   abbrev pub PlainJournals : W → X → P → Q → ℕ → Type 0
-  PlainJournals w x p q bound = (longest : ℕ) (journal : List (Event A)) (t : State X Q D M A H) → replay s.code no_counts longest (begins_code x q) journal ≡ Some t → PlainBeside w p bound journal t
+  PlainJournals w x p q bound =
+      (longest : ℕ) (journal : List (Event A)) (t : State X Q D M A H) →
+      replay s.code no_counts longest (begins_code x q) journal ≡ Some t →
+      PlainBeside w p bound journal t

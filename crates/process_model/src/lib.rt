@@ -13,7 +13,9 @@
 //! a heap, which owe less).
 //!
 //! In `proofs/` what a compiler's proof takes is `Journals` (the law, for types of specs too), `Lifted` (`plain_follows` and
-//! `plain_journals`) and `Steady` (the laws of steps). `Example` has a tiny language and machine that meet the premises.
+//! `plain_journals`) and `Steady` (the laws of steps). Two examples meet the premises, and their replays compute: `Example`
+//! has a tiny language without a heap, two of whose instructions may stand for one step; in `Cells` and `CellsFollow` a machine
+//! counts the names of cells, numbers them otherwise than the source, and tells which go.
 #![tactic(auto)]
 
 mod laws;
