@@ -13,6 +13,7 @@ pub mod Replies
 pub mod Journals
 pub mod Steady
 pub mod Lifted
+pub mod Itself
 pub mod Example
 pub mod Cells
 pub mod CellsSwept

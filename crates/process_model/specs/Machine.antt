@@ -30,7 +30,8 @@ module _ {W P D M A H : Type 0} (counting : Counting W D) where
   freeing i s = record { processes = s.processes; world = s.world; waiters = s.waiters; trace = s.trace ++ released i (counting.freed s.world) }
 
 module _ {W P D M A H : Type 0} (rules : Rules W P D M A H) (counting : Counting W D) where
-  -- Process i, with its table, meets the process that was chosen for it, and both go on.
+  -- Process i, with its table, meets the process that was chosen for it, and both go on. Whoever is chosen waits, in each
+  -- state that a machine comes to.
   abbrev pub meet : State W P D M A H → ℕ → W → List (Branch D) → P → Choice D → Option (Doing P D) → State W P D M A H
   meet s i w bs p c (Some (Waiting theirs q)) = record {
     processes = both_go rules s.processes i c.mine c.own p c.met.pid c.met.theirs c.met.branch q;

@@ -41,6 +41,10 @@ lifted s = record {
   worlds = λ k w x named. s.worlds w x;
 }
 
+-- A machine as its own source: what no compiler made is judged by the same law.
+abbrev pub itself : {W P D M A H : Type 0} → Rules W P D M A H → PlainSides W W P P D M A H
+itself rules = record { program = rules; code = rules; ready = λ p q. p ≡ q; asking = λ p q. p ≡ q; worlds = λ w x. w ≡ x }
+
 module _ {W X P Q D M A H : Type 0} (s : PlainSides W X P Q D M A H) where
   -- So many steps of one process.
   pub data PlainAlone : ℕ → W → P → W → P → Type 0 where
