@@ -18,3 +18,4 @@ pub mod Example
 pub mod Cells
 pub mod CellsSwept
 pub mod CellsFollow
+pub mod Waiters

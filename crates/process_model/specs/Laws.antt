@@ -1,6 +1,10 @@
--- What holds of every step of every source: who is left as it was, and that what was told stays told.
+-- What holds of every step of every source, who is left as it was and that what was told stays told; and of every machine, that
+-- its waiters are those that wait.
 use Rattle.std.specs.Prelude.{ℕ, ◌≡◌, List, ◌++◌, Option, Some, None, slice_get}
 use Rattle.process_model.specs.Process.{Branch, Doing, Ready, Waiting, Rules}
+use Rattle.process_model.specs.Choice.{Stands}
+use Rattle.process_model.specs.Machine.{State, Counting, Event, replay}
+use Rattle.process_model.specs.Law.{begins_code}
 use Rattle.process_model.specs.Source.{Naming, Config, Steps, goes, waits, meets, polls, passes, spawns, asks, takes, ends, Run, Turn, Matched}
 
 -- The process that is met in a step, in the two kinds of step in which one is.
@@ -50,3 +54,14 @@ pub record TraceGrows (W P D M A H : Type 0) : Type 0 where
       Run rules naming i c n e → Extends c.trace e.trace
   pub matched : (rules : Rules W P D M A H) (naming : Naming W P D) (c e : Config W P D M A H) (turns : List Turn) →
       Matched rules naming c turns e → Extends c.trace e.trace
+
+-- The list of waiters has the processes that wait, each with its table, and no others.
+pub record WaitersWait {W P D M A H : Type 0} (s : State W P D M A H) : Type 0 where
+  pub waits : (j : ℕ) (branches : List (Branch D)) → Stands s.waiters j branches → (p : P) × (slice_get s.processes j ≡ Some (Waiting branches p))
+  pub listed : (j : ℕ) (branches : List (Branch D)) (p : P) → slice_get s.processes j ≡ Some (Waiting branches p) → Stands s.waiters j branches
+
+-- So it is when a machine opens, and after every journal.
+pub record WaitersKept (W P D M A H : Type 0) : Type 0 where
+  pub opening : (w : W) (p : P) → WaitersWait {M = M} {A = A} {H = H} (begins_code {D = D} w p)
+  pub after : (rules : Rules W P D M A H) (counting : Counting W D) (longest : ℕ) (journal : List (Event A)) (s t : State W P D M A H) →
+      WaitersWait s → replay rules counting longest s journal ≡ Some t → WaitersWait t

@@ -2,7 +2,7 @@
 
 ghost use Rattle.process_model.specs.Follows.{Follows, Sides};
 ghost use Rattle.process_model.specs.Law.{EveryJournal};
-ghost use Rattle.process_model.specs.Laws.{OthersStay, PartnerWaited, TraceGrows};
+ghost use Rattle.process_model.specs.Laws.{OthersStay, PartnerWaited, TraceGrows, WaitersKept};
 
 /// A step of a process leaves each other process as it was, but for the one that it meets.
 pub fn others_stay<W, P, D, M, A, H>()
@@ -17,6 +17,11 @@ pub fn partner_waited<W, P, D, M, A, H>()
 /// What was told stays told: a step only adds to the trace, and so does a run.
 pub fn trace_grows<W, P, D, M, A, H>()
     ensures { TraceGrows W P D M A H }
+{}
+
+/// A machine's waiters are the processes that wait, after every journal.
+pub fn waiters_kept<W, P, D, M, A, H>()
+    ensures { WaitersKept W P D M A H }
 {}
 
 /// A source and a machine, and what joins them: the types of `Sides`, in its order, and the two sides.
