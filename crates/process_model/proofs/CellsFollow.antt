@@ -1,16 +1,14 @@
 -- The machine with counts follows the source without.
-use Rattle.std.proofs.Common.{◌≡◌, ℕ, zero, suc, ◌+◌, ◌-◌, ◌≤◌, Bool, true, false, List, [], ◌∷◌, length, Option, Some, None, refl, ap, ◌∙◌, subst, arith}
+use Rattle.std.proofs.Common.{◌≡◌, ℕ, zero, suc, ◌+◌, ◌-◌, ◌≤◌, Bool, true, false, List, [], ◌∷◌, length, Some, None, refl, ap, ◌∙◌, subst, arith}
 use Rattle.std.specs.Prelude.{nat_eq, if◌then◌else◌, slice_get}
 use Rattle.process_model.specs.Process.{Branch, Went, Parks, Polls, Spawns, Asks, Ends, fits, both, differ, passing, given}
-use Rattle.process_model.specs.Process.{Entry, Requested, Replied, Passed, Over, Released}
-use Rattle.process_model.specs.Machine.{State, Quantum, Reply, replay}
-use Rattle.process_model.specs.Law.{begins_code, EveryJournal}
+use Rattle.process_model.specs.Law.{EveryJournal}
 use Rattle.process_model.proofs.Journals.{every_journal}
 use Rattle.process_model.specs.Alone.{here, on}
 use Rattle.process_model.specs.Renaming.{SameTable, SameNames}
 use Rattle.process_model.specs.Follows.{Matches, MatchesReply, Follows}
 use Rattle.process_model.proofs.Renamings.{names_grow, table_to, passing_same}
-use Rattle.process_model.proofs.Cells.{Op, New, Copy, Drop, Give, Take, Peek, Tell, Fork, Holder, holder, take, acts, hears, woken, rules, one, times, held_by, lose, Cells, source_heap, naming, Counted, counts, sweep, machine_heap, passed, counting, cells, Alike, sides}
+use Rattle.process_model.proofs.Cells.{Op, New, Copy, Drop, Give, Take, Peek, Tell, Fork, Holder, holder, take, acts, hears, woken, one, times, held_by, lose, Cells, source_heap, naming, Counted, counts, sweep, machine_heap, passed, cells, Alike, sides}
 use Rattle.process_model.proofs.CellsSwept.{link, one_same, times_same, length_same, table_same, none_lost, none_too, swept, told_same, waits}
 
 module _ (k i : ℕ) (others : ℕ → ℕ) (w : Cells) (x : Counted) (vs us : List ℕ) (s : SameNames cells k vs us) (h : Alike k w x (λ n. times vs n + others n)) where
@@ -224,42 +222,14 @@ follows = record {
       omega arith);
 }
 
-empty : Cells
+abbrev empty : Cells
 empty = record { next = 0; live = [] }
 
 -- The machine's numbers begin with 1.
-empty_too : Counted
+abbrev pub empty_too : Counted
 empty_too = record { next = 1; live = []; count = λ n. 0; lost = [] }
 
 -- Every journal of these processes is a run of those without counts, from no cells at all.
-law : (ops : List Op) → EveryJournal sides 0 empty empty_too (holder [] ops) (holder [] ops) 1
-unfolding empty empty_too follows
+pub law : (ops : List Op) → EveryJournal sides 0 empty empty_too (holder [] ops) (holder [] ops) 1
+unfolding follows
 law ops = every_journal sides follows 0 empty empty_too (holder [] ops) (holder [] ops) (tt, refl) (record { made = refl; next = refl; live = tt; exact = λ n. refl; all = tt })
-
-abbrev told : Option (State Counted Holder ℕ ℕ ℕ ℕ) → Option (List (Entry ℕ ℕ ℕ ℕ))
-told None = None
-told (Some s) = Some s.trace
-
--- It makes cell 1 and a copy, drops both names one by one, and the cell goes with the second; then it ends.
-drops : told (replay (rules machine_heap) counting 9 (begins_code empty_too (holder [] (New ∷ Copy ∷ Drop ∷ Drop ∷ []))) (Quantum 0 5 ∷ [])) ≡ Some (Released 0 (1 ∷ []) ∷ Over 0 0 ∷ [])
-unfolding empty_too
-drops = refl
-
--- It asks how many it holds, is asked again at 0, and drops the cell in the event of the reply.
-asked : told (replay (rules machine_heap) counting 9 (begins_code empty_too (holder [] (New ∷ Tell ∷ []))) (Quantum 0 2 ∷ Reply 0 0 ∷ Reply 0 7 ∷ Quantum 0 1 ∷ [])) ≡ Some (Requested 0 1 ∷ Replied 0 0 ∷ Requested 0 1 ∷ Replied 0 7 ∷ Released 0 (1 ∷ []) ∷ Over 0 0 ∷ [])
-unfolding empty_too
-asked = refl
-
--- The child sends cell 2 over cell 1 to its parent, which waits. Both end, and the cells go with the last.
-passes : told (replay (rules machine_heap) counting 9 (begins_code empty_too (holder [] (New ∷ New ∷ Fork ∷ Drop ∷ Take ∷ []))) (Quantum 0 5 ∷ Quantum 1 2 ∷ Quantum 0 1 ∷ [])) ≡ Some (Passed 1 2 1 0 0 0 ∷ Over 1 0 ∷ Over 0 0 ∷ Released 0 (2 ∷ 1 ∷ []) ∷ [])
-unfolding empty_too
-passes = refl
-
--- It looks round and nobody is there, so it goes on; a process that waits can't go on.
-looks : told (replay (rules machine_heap) counting 9 (begins_code empty_too (holder [] (New ∷ Peek ∷ Take ∷ []))) (Quantum 0 3 ∷ [])) ≡ Some []
-unfolding empty_too
-looks = refl
-
-stuck : told (replay (rules machine_heap) counting 9 (begins_code empty_too (holder [] (New ∷ Peek ∷ Take ∷ []))) (Quantum 0 3 ∷ Quantum 0 1 ∷ [])) ≡ None
-unfolding empty_too
-stuck = refl

@@ -18,4 +18,5 @@ pub mod Example
 pub mod Cells
 pub mod CellsSwept
 pub mod CellsFollow
+pub mod CellsRun
 pub mod Waiters

@@ -9,13 +9,13 @@
 //!
 //! `specs/` in the order of reading: `Process` (one process, and what is told), `Source` (many of a source: steps and runs),
 //! `Choice` and `Machine` (many of a machine: events and replay), `Renaming` (numbers on both sides), `Alone` (one process by
-//! itself), `Follows` (what it owes), `Law` (the law of all), `Laws` (of every step of a source, and of machines), `Plain` (languages without
-//! a heap, which owe less).
+//! itself), `Follows` (what it owes), `Law` (the law of all), `Laws` (of every step of a source, and of machines), `Plain`
+//! (languages without a heap, which owe less).
 //!
 //! In `proofs/` what a compiler's proof takes is `Journals` (the law, for types of specs too), `Lifted` (`plain_follows` and
 //! `plain_journals`), `Itself` (a machine as its own source), `Steady` and `Waiters` (the laws of steps and of machines). Two
 //! examples meet the premises, and their replays compute: `Example` has a tiny language without a heap, two of whose
-//! instructions may stand for one step; in `Cells` and `CellsFollow` a machine counts the names of cells, numbers them
+//! instructions may stand for one step; in `Cells`, `CellsFollow` and `CellsRun` a machine counts the names of cells, numbers them
 //! otherwise than the source, and tells which go.
 #![tactic(auto)]
 
