@@ -1,7 +1,8 @@
 -- One quantum and the exchange behind it, as the machine, the console and the output are told of it.
-use Rattle.std.proofs.Common.{◌≡◌, ◌⊎◌, ℕ, ◌+◌, ◌<◌, List, [], ◌∷◌, Bool, false, Option, Some, None, Result, Ok, Err, refl, sym, ap, ◌∙◌, subst, arith, inl, inr}
+use Rattle.std.proofs.Common.{◌≡◌, ◌⊎◌, ℕ, ◌+◌, ◌<◌, List, [], ◌∷◌, Bool, true, false, Option, Some, None, Result, Ok, Err, refl, sym, ap, ◌∙◌, subst, arith, inl, inr}
 use Rattle.std.specs.Prelude.{OnErr}
 use Rattle.std.specs.Io.KnownBytes.{Appends, Keeps}
+use Rattle.inf_ports.specs.Outside.{Rose}
 use Rattle.dis_file.specs.declared.object.Object.{Object}
 use Rattle.styx_msg.specs.declared.message.Tmsg.TheVariants as t
 use Rattle.styx_msg.specs.Styx.{t_row, r_row, Fits}
@@ -95,13 +96,13 @@ went_asking first texts start m0 m1 m2 now failed count k place talk e full same
     (asking first texts start m0.state m1.state m0.journal now failed count k place talk e.happened full d))
 
 -- a quantum that was refused memory
-pub stopped_quantum : (o : Object) (first : State) (texts : List (List ℕ)) (start : Option (List ℕ)) (m0 m1 : Journaled) (now : Option (List ℕ)) (failed : Bool)
+pub stopped_quantum : (o : Object) (first : State) (texts : List (List ℕ)) (start : Option (List ℕ)) (m0 m1 : Journaled) (now : Option (List ℕ)) (failed : Bool) (begun faults : ℕ)
     → ((m1.journal ≡ m0.journal) × (m1.state ≡ m0.state)) ⊎ ((count : ℕ) × Entered m0 m1 (event.Quantum 1 count)) → m1.state.doing ≡ doing.Ready
-    → initial o ≡ Some first → Talk first texts start m0.state m0.journal now failed → Conversation o texts m1.journal start now false
-stopped_quantum o first texts start m0 m1 now failed (inl same) ready i talk =
-    subst (λ (l : List Event). Conversation o texts l start now false) (sym same.0) (stopped_before o first texts start m0.state m0.journal now failed i talk)
-stopped_quantum o first texts start m0 m1 now failed (inr entered) ready i talk =
-    subst (λ (l : List Event). Conversation o texts l start now false) (sym entered.1.entered) (stopped_within o first texts start m0.state m1.state m0.journal now failed entered.0 i talk entered.1.happened ready)
+    → initial o ≡ Some first → Talk first texts start m0.state m0.journal now failed → (failed ≡ true → Rose begun faults) → Conversation o texts m1.journal start now begun faults false
+stopped_quantum o first texts start m0 m1 now failed begun faults (inl same) ready i talk cause =
+    subst (λ (l : List Event). Conversation o texts l start now begun faults false) (sym same.0) (stopped_before o first texts start m0.state m0.journal now failed begun faults i talk cause)
+stopped_quantum o first texts start m0 m1 now failed begun faults (inr entered) ready i talk cause =
+    subst (λ (l : List Event). Conversation o texts l start now begun faults false) (sym entered.1.entered) (stopped_within o first texts start m0.state m1.state m0.journal now failed begun faults entered.0 i talk cause entered.1.happened ready)
 
 -- ---- the exchange
 
@@ -185,8 +186,8 @@ kept_grown (Some xs) None new bytes a k = absurd a
 kept_grown (Some xs) (Some ys) None bytes a k = absurd k
 kept_grown (Some xs) (Some ys) (Some zs) bytes a k = k ∙ a
 
-pub stopped_kept : (o : Object) (texts : List (List ℕ)) (events : List Event) (start now new : Option (List ℕ)) → Keeps now new → Conversation o texts events start now false → Conversation o texts events start new false
-stopped_kept o texts events start now new k c = record {
+pub stopped_kept : (o : Object) (texts : List (List ℕ)) (events : List Event) (start now new : Option (List ℕ)) (begun faults : ℕ) → Keeps now new → Conversation o texts events start now begun faults false → Conversation o texts events start new begun faults false
+stopped_kept o texts events start now new begun faults k c = record {
   state = c.state;
   requests = c.requests;
   journal = c.journal;
@@ -199,6 +200,7 @@ stopped_kept o texts events start now new k c = record {
   answers = c.answers;
   bytes = c.bytes;
   failed = c.failed;
+  cause = c.cause;
   served = c.served;
   entered = c.entered;
   near = c.near;

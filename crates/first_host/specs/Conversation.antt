@@ -3,6 +3,7 @@
 use Rattle.std.specs.Prelude.{◌≡◌, ◌≤◌, ℕ, ◌+◌, ◌-◌, ◌^◌, min, List, [], ◌∷◌, ◌++◌, length, take, Bool, true, false, Option}
 use Rattle.std.specs.List.{concat}
 use Rattle.std.specs.Io.KnownBytes.{Appends}
+use Rattle.inf_ports.specs.Outside.{Rose}
 use Rattle.dis_file.specs.declared.object.Object.{Object}
 use Rattle.styx_msg.specs.declared.message.Rmsg.{Rmsg}
 use Rattle.styx_msg.specs.declared.message.Rmsg.TheVariants as r
@@ -42,8 +43,9 @@ bytes_of texts = concat texts
 -- the journal's replies. The console served the first of these requests: the journal's replies are its answers to them,
 -- except that the last answer may not have been entered; and the output took the bytes that it wrote, which
 -- are a front of the texts. Where the run was done, its process has ended, all texts were asked for, all requests were
--- served and all answers entered, and unless the sink failed all bytes were taken.
-pub record Conversation (o : Object) (texts : List (List ℕ)) (events : List Event) (old new : Option (List ℕ)) (done : Bool) : Type 0 where
+-- served and all answers entered, and unless the sink failed all bytes were taken. The sink failed only where its count
+-- of faults rose over the run, so only there the console answers `i/o error`.
+pub record Conversation (o : Object) (texts : List (List ℕ)) (events : List Event) (old new : Option (List ℕ)) (faults_before faults_after : ℕ) (done : Bool) : Type 0 where
   pub state : State
   pub requests : List (List ℕ)
   pub journal : IsJournal o events state requests
@@ -56,6 +58,7 @@ pub record Conversation (o : Object) (texts : List (List ℕ)) (events : List Ev
   pub answers : List (List ℕ)
   pub bytes : List ℕ
   pub failed : Bool
+  pub cause : failed ≡ true → Rose faults_before faults_after
   pub served : Serves false (take (length answers) requests) answers bytes failed
   pub entered : replies_of events ≡ take (length (replies_of events)) answers
   pub near : length answers ≤ length (replies_of events) + 1

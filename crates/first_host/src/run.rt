@@ -55,10 +55,11 @@ fn go_on<K: Sink>(
     ensures went { OnOk result ((first : State) (texts : List (List ℕ)) (start : Option (List ℕ))
         → Talk first texts start machine.old.state machine.old.journal (K.held out.old) console.old.failed
         → Talk first texts start machine.new.state machine.new.journal (K.held out.new) console.new.failed) }
-    ensures stopped { OnErr result ((o : AnyObject) (first : State) (texts : List (List ℕ)) (start : Option (List ℕ))
+    ensures stopped { OnErr result ((o : AnyObject) (first : State) (texts : List (List ℕ)) (start : Option (List ℕ)) (begun : ℕ)
         → initial o ≡ Some first
         → Talk first texts start machine.old.state machine.old.journal (K.held out.old) console.old.failed
-        → Conversation o texts machine.new.journal start (K.held out.new) false) }
+        → (console.new.failed ≡ true → Rose begun (K.faults out.new))
+        → Conversation o texts machine.new.journal start (K.held out.new) begun (K.faults out.new) false) }
     ensures still { OnOk result ((machine.new.outbox ≡ None) × ((texts : List (List ℕ)) × Saying machine.new.state texts)) }
     ensures free { OnOk result ((machine.new.state.doing ≡ doing.Ready) ⊎ (machine.new.state.doing ≡ doing.Ended)) }
     ensures less { OnOk result (work machine.new.state < work machine.old.state) }
@@ -94,10 +95,11 @@ fn converse<K: Sink>(
     ensures went { OnOk result ((first : State) (texts : List (List ℕ)) (start : Option (List ℕ))
         → Talk first texts start machine.old.state machine.old.journal (K.held out.old) console.old.failed
         → Talk first texts start machine.new.state machine.new.journal (K.held out.new) console.new.failed) }
-    ensures stopped { OnErr result ((o : AnyObject) (first : State) (texts : List (List ℕ)) (start : Option (List ℕ))
+    ensures stopped { OnErr result ((o : AnyObject) (first : State) (texts : List (List ℕ)) (start : Option (List ℕ)) (begun : ℕ)
         → initial o ≡ Some first
         → Talk first texts start machine.old.state machine.old.journal (K.held out.old) console.old.failed
-        → Conversation o texts machine.new.journal start (K.held out.new) false) }
+        → (console.new.failed ≡ true → Rose begun (K.faults out.new))
+        → Conversation o texts machine.new.journal start (K.held out.new) begun (K.faults out.new) false) }
     ensures ended { OnOk result (machine.new.state.doing ≡ doing.Ended) }
     ensures object { machine.new.state.object ≡ machine.old.state.object }
     ensures failed { console.new.failed ≡ true → (console.old.failed ≡ true) ⊎ Rose (K.faults out.old) (K.faults out.new) }
@@ -118,7 +120,8 @@ pub fn run_machine<K: Sink>(alloc: Global, machine: Machine, out: &mut K) -> Ran
     requires fresh { (machine.journal ≡ []) × (machine.outbox ≡ None) }
     requires runs { (texts : List (List ℕ)) × Prints machine.state.object texts }
     ensures conversation { (texts : List (List ℕ)) → Prints machine.state.object texts
-        → Conversation machine.state.object texts result.journal.events (K.held out.old) (K.held out.new) (is_done result.end) }
+        → Conversation machine.state.object texts result.journal.events (K.held out.old) (K.held out.new)
+        (K.faults out.old) (K.faults out.new) (is_done result.end) }
     ensures printed { (texts : List (List ℕ)) → Prints machine.state.object texts → IsDone result.end
         → (Rose (K.faults out.old) (K.faults out.new) → ⊥) → Appends (K.held out.old) (K.held out.new) (bytes_of texts) }
     ensures ends { IsDone result.end ⊎ (result.end ≡ RunEnd.NoMemory) }

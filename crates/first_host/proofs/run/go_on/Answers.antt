@@ -11,8 +11,9 @@ use Rattle.first_host.proofs.Steps.{no_frame, a_frame, waits_request, is_free, w
 use Rattle.first_host.proofs.run.go_on.Goals as goal
 
 pub returns-in_err-quantum-clause-stopped : goal.returns-in_err-quantum-clause-stopped
-returns-in_err-quantum-clause-stopped g c = on_fault c.from_residual.result _ (λ o first texts start i talk.
-    stopped_quantum o first texts start c.args.machine.now c.quantum.new.self (g.K.Sink.held c.args.out.now) c.args.console.now.failed c.in_err-quantum.ensures.stopped c.in_err-quantum.ensures.ready_still i talk)
+returns-in_err-quantum-clause-stopped g c = on_fault c.from_residual.result _ (λ o first texts start begun i talk cause.
+    stopped_quantum o first texts start c.args.machine.now c.quantum.new.self (g.K.Sink.held c.args.out.now) c.args.console.now.failed begun (g.K.Sink.faults c.args.out.now)
+    c.in_err-quantum.ensures.stopped c.in_err-quantum.ensures.ready_still i talk cause)
 
 pub returns-in_err-quantum-clause-object : goal.returns-in_err-quantum-clause-object
 returns-in_err-quantum-clause-object g c = stopped_object c.args.machine.now c.quantum.new.self c.requires.says.0 c.requires.says.1 c.in_err-quantum.ensures.stopped
@@ -75,11 +76,14 @@ returns-in_err-reply-clause-stopped g c =
     let message = t.Write 2 m2.state.taken (content_of m2.state.object w.item) in
     let asked : IsRequest c.as_slice.result.now 0 message = subst (λ (l : List ℕ). IsRequest l 0 message) (sym c.as_slice.ensures.value) (waits_request m2.state frame w (next_fits m1 m2 taken c.in_ok-quantum.ensures.fits)) in
     let held0 = g.K.Sink.held c.args.out.now in
-    on_fault c.from_residual-in_err-reply.result _ (λ o first texts start i talk.
+    let faults = g.K.Sink.faults c.answer.new.out in
+    on_fault c.from_residual-in_err-reply.result _ (λ o first texts start begun i talk cause.
     let a = went_asking first texts start m0 m1 m2 held0 c.args.console.now.failed q.0 w.item w.place talk q.1 q.2 taken (ap (λ m. m.state.doing) (sym taken) ∙ w.doing) in
     elim (c.in_err-reply.ensures.stopped 0 message asked) [
-      | inl same ↦ stopped_kept o texts m2.journal start held0 (g.K.Sink.held c.answer.new.out) same.1 (stopped_asking o first texts start m2.state m2.journal held0 c.args.console.now.failed w.item w.place i a)
-      | inr served ↦ stopped_served o first texts start m2.state m2.journal held0 (g.K.Sink.held c.answer.new.out) c.args.console.now.failed c.answer.new.console.failed w.item w.place served.0 i a served.1
+      | inl same ↦
+          stopped_kept o texts m2.journal start held0 (g.K.Sink.held c.answer.new.out) begun faults same.1
+          (stopped_asking o first texts start m2.state m2.journal held0 c.args.console.now.failed begun faults w.item w.place i a (λ f. cause (ap (λ k. k.failed) same.0 ∙ f)))
+      | inr served ↦ stopped_served o first texts start m2.state m2.journal held0 (g.K.Sink.held c.answer.new.out) c.args.console.now.failed c.answer.new.console.failed begun faults w.item w.place served.0 i a served.1 cause
     ])
 
 pub returns-in_err-reply-clause-object : goal.returns-in_err-reply-clause-object
@@ -187,7 +191,7 @@ returns-in-Ok-clause-object g c =
     b.object ∙ next_object m0 m1 m2 q.0 c.requires.says.0 q.1 c.requires.says.1 taken
 
 pub returns-in-Err-NoMemory-clause-stopped : goal.returns-in-Err-NoMemory-clause-stopped
-returns-in-Err-NoMemory-clause-stopped g c o first texts start i talk =
+returns-in-Err-NoMemory-clause-stopped g c o first texts start begun i talk cause =
     let q = c.in_ok-quantum.ensures.went in
     let m0 = c.args.machine.now in
     let m1 = c.quantum.new.self in
@@ -202,8 +206,9 @@ returns-in-Err-NoMemory-clause-stopped g c o first texts start i talk =
     let held0 = g.K.Sink.held c.args.out.now in
     let served = c.in_ok-reply.ensures.answered 0 message asked in
     let a = went_asking first texts start m0 m1 m2 held0 c.args.console.now.failed q.0 w.item w.place talk q.1 q.2 taken (ap (λ m. m.state.doing) (sym taken) ∙ w.doing) in
-    let stopped = stopped_served o first texts start m2.state m2.journal held0 (g.K.Sink.held c.answer.new.out) c.args.console.now.failed c.answer.new.console.failed w.item w.place c.in_ok-reply.reply.items i a served.0 in
-    subst (λ l. Conversation o texts l start (g.K.Sink.held c.answer.new.out) false) (sym (ap (λ m. m.journal) c.in-Err-NoMemory.ensures.kept)) stopped
+    let faults = g.K.Sink.faults c.answer.new.out in
+    let stopped = stopped_served o first texts start m2.state m2.journal held0 (g.K.Sink.held c.answer.new.out) c.args.console.now.failed c.answer.new.console.failed begun faults w.item w.place c.in_ok-reply.reply.items i a served.0 cause in
+    subst (λ l. Conversation o texts l start (g.K.Sink.held c.answer.new.out) begun faults false) (sym (ap (λ m. m.journal) c.in-Err-NoMemory.ensures.kept)) stopped
 
 pub returns-in-Err-NoMemory-clause-object : goal.returns-in-Err-NoMemory-clause-object
 returns-in-Err-NoMemory-clause-object g c =
