@@ -21,7 +21,7 @@ use Rattle.limbo_parser.specs.declared.start.Region.{Region}
 use Rattle.limbo_parser.specs.declared.start.Region.TheVariants as region
 use Rattle.limbo_parser.specs.Start.{start, may_head}
 use Rattle.limbo_parser.specs.Heads.{front_at, is_read, ends, closing}
-use Rattle.limbo_parser.specs.Stmts.{label_at, option_before, expr_before, stmts_at, arm_at, arms_at, block_above, if_above, branch_above, spawned_at, jump_above, stmt_at, block_at}
+use Rattle.limbo_parser.specs.Stmts.{label_at, option_before, expr_before, for_head_at, stmts_at, arm_at, arms_at, block_above, if_above, branch_above, spawned_at, jump_above, stmt_at, block_at}
 use Rattle.limbo_expr_parser.specs.Strength.{begins_expr}
 use Rattle.limbo_expr_parser.proofs.Laws.{spell_begins, expr_again, unary_again}
 use Rattle.limbo_decl_parser.proofs.Laws.{decl_again}
@@ -263,7 +263,7 @@ do_again s b p k l x c ts h d =
     rw (k.again x (key.While ▹ mark.OpenParen ▸ spell_option c (mark.CloseParen ▸ mark.Semicolon ▸ ts)) h.0 (omega arith) ((λ o. refl), refl), paren_again b c (mark.Semicolon ▸ ts) h.1 (omega arith)) refl
 
 for_again : (s : Reader Stmt) (b p : ℕ) → Reads s b p → (l : Option (List ℕ)) (a c n : Option Expr) (x : Stmt) (ts : List Kind) → IsStmt (For l a c n x) → stmt_nesting (For l a c n x) ≤ suc b → Closes x ts → branch_above b s l (branch.Loop loop.For) (spell_behind (For l a c n x) ts) ≡ Ok (For l a c n x, ts)
-unfolding branch_above
+unfolding branch_above for_head_at
 for_again s b p k l a c n x ts h d f =
     rw (semicolon_again b a (spell_option c (mark.Semicolon ▸ spell_option n (mark.CloseParen ▸ spell_stmt x ts))) h.0 (omega arith), semicolon_again b c (spell_option n (mark.CloseParen ▸ spell_stmt x ts)) h.1 (omega arith), paren_again b n (spell_stmt x ts) h.2 (omega arith), k.again x ts h.3 (omega arith) f) refl
 

@@ -22,7 +22,7 @@ use Rattle.limbo_parser.specs.declared.start.Region.{Region}
 use Rattle.limbo_parser.specs.declared.start.Region.TheVariants as region
 use Rattle.limbo_parser.specs.Start.{Start, AtEmpty, AtBlock, AtIf, AtBranch, AtLabelled, AtJump, AtDeclare, AtOther, start, may_head}
 use Rattle.limbo_parser.specs.Heads.{star_alone, case_pattern_at, head_at, front_at, is_read, ends, closing}
-use Rattle.limbo_parser.specs.Stmts.{label_at, option_before, expr_before, stmts_at, arm_at, arms_at, handler_at, block_above, if_above, branch_above, spawned_at, jump_above, begun, stmt_at, block_at}
+use Rattle.limbo_parser.specs.Stmts.{label_at, option_before, expr_before, for_head_at, stmts_at, arm_at, arms_at, handler_at, block_above, if_above, branch_above, spawned_at, jump_above, begun, stmt_at, block_at}
 use Rattle.limbo_parser.specs.Sources.{defines, part_at, defined_at, top_at, tops_at, implements_at, tree_at}
 use Rattle.limbo_expr_parser.proofs.Laws.{expr_deepens, unary_deepens}
 use Rattle.limbo_decl_parser.proofs.Laws.{fn_deepens, decl_deepens}
@@ -114,6 +114,14 @@ if_deepens b c s t ts le d =
     deepens_choose (after_key key.Else x.1) _ _ _ _ refl λ vs.
     deepens_bind (s vs) (t vs) _ _ (d vs) λ y. refl
 
+for_head_deepens : (b c : ℕ) (ts : List Kind) → b ≤ c → Deepens (for_head_at b ts) (for_head_at c ts)
+unfolding for_head_at
+for_head_deepens b c ts le =
+    deepens_bind _ _ _ _ (deepens_same (expect_mark mark.OpenParen ts)) λ us.
+    deepens_bind (option_before b mark.Semicolon us) (option_before c mark.Semicolon us) _ _ (option_deepens b c mark.Semicolon us le) λ a.
+    deepens_bind (option_before b mark.Semicolon a.1) (option_before c mark.Semicolon a.1) _ _ (option_deepens b c mark.Semicolon a.1 le) λ e.
+    deepens_bind (option_before b mark.CloseParen e.1) (option_before c mark.CloseParen e.1) _ _ (option_deepens b c mark.CloseParen e.1 le) λ n. refl
+
 branch_deepens : (b c : ℕ) (s t : Reader Stmt) (l : Option (List ℕ)) (k : Branch) (ts : List Kind) → b ≤ c → Deeper s t → Deepens (branch_above b s l k ts) (branch_above c t l k ts)
 unfolding branch_above
 branch_deepens b c s t l (branch.Loop loop.While) ts le d =
@@ -126,11 +134,8 @@ branch_deepens b c s t l (branch.Loop loop.Do) ts le d =
     deepens_bind _ _ _ _ (deepens_same (expect_mark mark.OpenParen us)) λ vs.
     deepens_bind (option_before b mark.CloseParen vs) (option_before c mark.CloseParen vs) _ _ (option_deepens b c mark.CloseParen vs le) λ e. deepens_same _
 branch_deepens b c s t l (branch.Loop loop.For) ts le d =
-    deepens_bind _ _ _ _ (deepens_same (expect_mark mark.OpenParen ts)) λ us.
-    deepens_bind (option_before b mark.Semicolon us) (option_before c mark.Semicolon us) _ _ (option_deepens b c mark.Semicolon us le) λ a.
-    deepens_bind (option_before b mark.Semicolon a.1) (option_before c mark.Semicolon a.1) _ _ (option_deepens b c mark.Semicolon a.1 le) λ e.
-    deepens_bind (option_before b mark.CloseParen e.1) (option_before c mark.CloseParen e.1) _ _ (option_deepens b c mark.CloseParen e.1 le) λ n.
-    deepens_bind (s n.1) (t n.1) _ _ (d n.1) λ x. refl
+    deepens_bind (for_head_at b ts) (for_head_at c ts) _ _ (for_head_deepens b c ts le) λ h.
+    deepens_bind (s h.1) (t h.1) _ _ (d h.1) λ x. refl
 branch_deepens b c s t l (branch.Choice choice.Case) ts le d =
     deepens_bind (expr_before b mark.OpenBrace ts) (expr_before c mark.OpenBrace ts) _ _ (before_deepens b c mark.OpenBrace ts le) λ e.
     deepens_bind (arms_at b s region.Case e.1) (arms_at c t region.Case e.1) _ _ (arms_deepen b c s t region.Case e.1 le d) λ arms. refl

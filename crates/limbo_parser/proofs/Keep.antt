@@ -25,7 +25,7 @@ use Rattle.limbo_parser.specs.declared.start.Region.{Region}
 use Rattle.limbo_parser.specs.declared.start.Region.TheVariants as region
 use Rattle.limbo_parser.specs.Start.{Start, AtEmpty, AtBlock, AtIf, AtBranch, AtLabelled, AtJump, AtDeclare, AtOther, start, may_head}
 use Rattle.limbo_parser.specs.Heads.{star_alone, case_pattern_at, handler_pattern_at, head_at, front_at, is_read, ends, closing}
-use Rattle.limbo_parser.specs.Stmts.{label_at, option_before, expr_before, stmts_at, arm_at, arms_at, handler_at, block_above, if_above, branch_above, spawned_at, jump_above, begun, stmt_at, block_at}
+use Rattle.limbo_parser.specs.Stmts.{label_at, option_before, expr_before, for_head_at, stmts_at, arm_at, arms_at, handler_at, block_above, if_above, branch_above, spawned_at, jump_above, begun, stmt_at, block_at}
 use Rattle.limbo_parser.specs.Sources.{defines, part_at, defined_at, expect_chars, top_at, is_last, at_end, tops_at, implements_at, tree_at}
 use Rattle.limbo_expr_parser.proofs.Laws.{expr_keeps, unary_keeps}
 use Rattle.limbo_decl_parser.proofs.Laws.{fn_keeps, decl_keeps}
@@ -172,6 +172,14 @@ if_kept b p s ts le k =
     (keeps_bind p 1 0 0 (length vs) (s vs) _ (k vs) (λ y l. omega arith) (omega arith))
     (omega (arith, after_key_length key.Else x.1 vs j)) (omega (arith, after_key_length key.Else x.1 vs j))) (omega arith)) (omega arith)
 
+for_head_kept : (b p : ℕ) (ts : List Kind) → p ≤ b → Keeps p 1 (length ts) (for_head_at b ts)
+unfolding for_head_at
+for_head_kept b p ts le =
+    keeps_sign p 0 mark.OpenParen ts _ λ us.
+    keeps_bind p 1 0 0 (length us) (option_before b mark.Semicolon us) _ (option_kept b p mark.Semicolon us le) (λ a h.
+    keeps_bind p 1 0 0 (length a.1) (option_before b mark.Semicolon a.1) _ (option_kept b p mark.Semicolon a.1 le) (λ c i.
+    keeps_bind p 1 0 0 (length c.1) (option_before b mark.CloseParen c.1) _ (option_kept b p mark.CloseParen c.1 le) (λ n j. omega arith) (omega arith)) (omega arith)) (omega arith)
+
 branch_kept : (b p : ℕ) (s : Reader Stmt) (l : Option (List ℕ)) (w : Branch) (ts : List Kind) → p ≤ b → Kept p s → Keeps p 1 (length ts) (branch_above b s l w ts)
 unfolding branch_above
 branch_kept b p s l (branch.Loop loop.While) ts le k =
@@ -185,11 +193,8 @@ branch_kept b p s l (branch.Loop loop.Do) ts le k =
     keeps_bind p 1 0 0 (length vs) (option_before b mark.CloseParen vs) _ (option_kept b p mark.CloseParen vs le) (λ c j.
     keeps_less p 1 0 (length c.1) (length c.1) _ (keeps_sign p 0 mark.Semicolon c.1 _ λ ws. omega arith) (omega arith) (omega arith)) (omega arith)) (omega arith) (omega arith)) (omega arith)) (omega arith)
 branch_kept b p s l (branch.Loop loop.For) ts le k =
-    keeps_sign p 0 mark.OpenParen ts _ λ us.
-    keeps_bind p 1 0 0 (length us) (option_before b mark.Semicolon us) _ (option_kept b p mark.Semicolon us le) (λ a h.
-    keeps_bind p 1 0 0 (length a.1) (option_before b mark.Semicolon a.1) _ (option_kept b p mark.Semicolon a.1 le) (λ c i.
-    keeps_bind p 1 0 0 (length c.1) (option_before b mark.CloseParen c.1) _ (option_kept b p mark.CloseParen c.1 le) (λ n j.
-    keeps_bind p 1 0 0 (length n.1) (s n.1) _ (k n.1) (λ x m. omega arith) (omega arith)) (omega arith)) (omega arith)) (omega arith)
+    keeps_bind p 1 0 1 (length ts) (for_head_at b ts) _ (for_head_kept b p ts le) (λ h i.
+    keeps_bind p 1 0 0 (length h.1) (s h.1) _ (k h.1) (λ x m. omega arith) (omega arith)) (omega arith)
 branch_kept b p s l (branch.Choice choice.Case) ts le k =
     keeps_bind p 2 0 1 (length ts) (expr_before b mark.OpenBrace ts) _ (before_kept b p mark.OpenBrace ts le) (λ e h.
     keeps_bind p 1 0 0 (length e.1) (arms_at b s region.Case e.1) _ (arms_kept b p s region.Case e.1 le k) (λ arms i. omega arith) (omega arith)) (omega arith)

@@ -29,7 +29,7 @@ use Rattle.limbo_parser.specs.declared.start.Region.{Region}
 use Rattle.limbo_parser.specs.declared.start.Region.TheVariants as region
 use Rattle.limbo_parser.specs.Start.{Start, AtEmpty, AtBlock, AtIf, AtBranch, AtLabelled, AtJump, AtDeclare, AtOther, start}
 use Rattle.limbo_parser.specs.Heads.{star_alone, case_pattern_at, handler_pattern_at, head_at, front_at, ends, closing}
-use Rattle.limbo_parser.specs.Stmts.{label_at, option_before, expr_before, stmts_at, arm_at, arms_at, block_above, if_above, branch_above, spawned_at, jump_above, begun, stmt_at, block_at}
+use Rattle.limbo_parser.specs.Stmts.{ForHead, label_at, option_before, expr_before, for_head_at, stmts_at, arm_at, arms_at, block_above, if_above, branch_above, spawned_at, jump_above, begun, stmt_at, block_at}
 use Rattle.limbo_expr_parser.proofs.Laws.{expr_took, unary_took}
 use Rattle.limbo_decl_parser.proofs.Laws.{decl_took}
 use Rattle.limbo_parser.proofs.Fronts.{star_is, branch_key, jump_key, StartIs, start_is}
@@ -190,6 +190,24 @@ if_took s b k ts =
       closed = w.closed;
     }
 
+-- the head of a "for" as it is spelled, and one that is well formed and nests up to b
+abbrev spell_for_head : ForHead → List Kind → List Kind
+spell_for_head h us = mark.OpenParen ▸ spell_option h.first (mark.Semicolon ▸ spell_option h.condition (mark.Semicolon ▸ spell_option h.next (mark.CloseParen ▸ us)))
+
+abbrev GoodForHead : ℕ → ForHead → Type 0
+GoodForHead b h = (IsOption h.first × IsOption h.condition × IsOption h.next) × ((option_nesting h.first ≤ b) × (option_nesting h.condition ≤ b) × (option_nesting h.next ≤ b))
+
+for_head_took : (b : ℕ) (ts : List Kind) → IfOk (for_head_at b ts) (Took spell_for_head (GoodForHead b) ts)
+unfolding for_head_at
+for_head_took b ts =
+    took_bind (expect_mark mark.OpenParen ts) _ _ _ (took_mark mark.OpenParen ts) λ us o.
+    took_bind (option_before b mark.Semicolon us) _ _ _ (option_took b mark.Semicolon us) λ a h.
+    took_bind (option_before b mark.Semicolon a.1) _ _ _ (option_took b mark.Semicolon a.1) λ c i.
+    took_bind (option_before b mark.CloseParen c.1) _ _ _ (option_took b mark.CloseParen c.1) λ n j. record {
+      parts = o ∙ ap (λ (v : List Kind). mark.OpenParen ▸ v) (h.parts ∙ ap (λ (v : List Kind). spell_option a.0 (mark.Semicolon ▸ v)) (i.parts ∙ ap (λ (v : List Kind). spell_option c.0 (mark.Semicolon ▸ v)) j.parts));
+      stands = ((h.stands.0, i.stands.0, j.stands.0), (h.stands.1, i.stands.1, j.stands.1));
+    }
+
 branch_took : (s : Reader Stmt) (b : ℕ) → SoundStmt s b → (l : Option (List ℕ)) (w : Branch) (ts : List Kind) → IfOk (branch_above b s l w ts) (TookStmt (suc b) (spell_mark_label l (branch_key w ▹ ts)))
 unfolding branch_above
 branch_took s b k l (branch.Loop loop.While) ts =
@@ -213,14 +231,11 @@ branch_took s b k l (branch.Loop loop.Do) ts =
       closed = λ p. absurd cc;
     }
 branch_took s b k l (branch.Loop loop.For) ts =
-    took_bind (expect_mark mark.OpenParen ts) _ _ _ (took_mark mark.OpenParen ts) λ us o.
-    took_bind (option_before b mark.Semicolon us) _ _ _ (option_took b mark.Semicolon us) λ a h.
-    took_bind (option_before b mark.Semicolon a.1) _ _ _ (option_took b mark.Semicolon a.1) λ c i.
-    took_bind (option_before b mark.CloseParen c.1) _ _ _ (option_took b mark.CloseParen c.1) λ n j.
-    took_bind (s n.1) _ _ _ (k n.1) λ x q. record {
-      parts = ap (λ (v : List Kind). spell_mark_label l (key.For ▹ v)) (o ∙ ap (λ (v : List Kind). mark.OpenParen ▸ v) (h.parts ∙ ap (λ (v : List Kind). spell_option a.0 (mark.Semicolon ▸ v)) (i.parts ∙ ap (λ (v : List Kind). spell_option c.0 (mark.Semicolon ▸ v)) (j.parts ∙ ap (λ (v : List Kind). spell_option n.0 (mark.CloseParen ▸ v)) q.parts))));
-      stands = (h.stands.0, i.stands.0, j.stands.0, q.stands);
-      within = omega (arith, h.stands.1, i.stands.1, j.stands.1, q.within);
+    took_bind (for_head_at b ts) _ _ _ (for_head_took b ts) λ h t.
+    took_bind (s h.1) _ _ _ (k h.1) λ x q. record {
+      parts = ap (λ (v : List Kind). spell_mark_label l (key.For ▹ v)) (t.parts ∙ ap (spell_for_head h.0) q.parts);
+      stands = (t.stands.0.0, t.stands.0.1, t.stands.0.2, q.stands);
+      within = omega (arith, t.stands.1.0, t.stands.1.1, t.stands.1.2, q.within);
       closed = q.closed;
     }
 branch_took s b k l (branch.Choice choice.Case) ts =

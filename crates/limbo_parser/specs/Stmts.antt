@@ -1,12 +1,12 @@
 -- Reading statements, from left to right, with the first fault that is met. The kind of a statement is chosen by its
 -- first tokens.
-use Rattle.std.specs.Prelude.{ℕ, zero, suc, List, length, Option, Some, None, Ok, Err, if◌then◌else◌}
+use Rattle.std.specs.Prelude.{ℕ, zero, suc, List, length, Option, Some, None, Ok, Err, if◌then◌else◌, option_map}
 use Rattle.limbo_lexer.specs.declared.token.Mark.{Mark}
 use Rattle.limbo_lexer.specs.declared.token.Mark.TheVariants as mark
 use Rattle.limbo_lexer.specs.declared.token.Key.TheVariants as key
 use Rattle.limbo_tree.specs.Exprs.{Expr, is_postfix}
 use Rattle.limbo_tree.specs.Stmts.{Stmt, Stmts, Block, Empty, Nested, Declare, Eval, If, IfElse, While, Do, For, Case, Alt, Pick, Break, Continue, Return, Exit, Spawn, Raise, Plain, Handled}
-use Rattle.limbo_tree.specs.View.{Arm, stmts_of, arms_of}
+use Rattle.limbo_tree.specs.View.{Arm, stmts_of, arms_of, view_expr}
 use Rattle.limbo_reading.specs.declared.fault.Fault.TheVariants.{Syntax, TooDeep}
 use Rattle.limbo_reading.specs.Reading.{◌>>=◌, Reader, choose, after_mark, after_key, after_name, expect_mark, expect_key, expect_name}
 use Rattle.limbo_reading.specs.Lists.{until}
@@ -20,6 +20,7 @@ use Rattle.limbo_parser.specs.declared.start.Jump.{Jump}
 use Rattle.limbo_parser.specs.declared.start.Jump.TheVariants as jump
 use Rattle.limbo_parser.specs.declared.start.Region.{Region}
 use Rattle.limbo_parser.specs.declared.start.Region.TheVariants as region
+use Rattle.limbo_parser.specs.declared.jump.ForHead as code_head
 use Rattle.limbo_parser.specs.Start.{Start, AtEmpty, AtBlock, AtIf, AtBranch, AtLabelled, AtJump, AtDeclare, AtOther, start}
 use Rattle.limbo_parser.specs.Heads.{front_at, closing, ends}
 
@@ -40,6 +41,24 @@ expr_before b m ts = do
   e ← (readers b).expr ts
   us ← expect_mark m e.1
   Ok (e.0, us)
+
+-- the expressions between the brackets of a "for"
+pub record ForHead : Type 0 where
+  pub first : Option Expr
+  pub condition : Option Expr
+  pub next : Option Expr
+
+abbrev pub view_for_head : code_head.ForHead → ForHead
+view_for_head h = record { first = option_map view_expr h.first; condition = option_map view_expr h.condition; next = option_map view_expr h.next }
+
+-- what stands between "for" and its statement
+unfoldable pub for_head_at : ℕ → Reader ForHead
+for_head_at b ts = do
+  us ← expect_mark mark.OpenParen ts
+  a ← option_before b mark.Semicolon us
+  c ← option_before b mark.Semicolon a.1
+  n ← option_before b mark.CloseParen c.1
+  Ok (record { first = a.0; condition = c.0; next = n.0 }, n.1)
 
 -- {stmt} of a region
 unfoldable pub stmts_at : ℕ → Reader Stmt → Region → Reader (List Stmt)
@@ -99,12 +118,9 @@ branch_above b s l (branch.Loop loop.Do) ts = do
   ws ← expect_mark mark.Semicolon c.1
   Ok (Do l x.0 c.0, ws)
 branch_above b s l (branch.Loop loop.For) ts = do
-  us ← expect_mark mark.OpenParen ts
-  a ← option_before b mark.Semicolon us
-  c ← option_before b mark.Semicolon a.1
-  n ← option_before b mark.CloseParen c.1
-  x ← s n.1
-  Ok (For l a.0 c.0 n.0 x.0, x.1)
+  h ← for_head_at b ts
+  x ← s h.1
+  Ok (For l h.0.first h.0.condition h.0.next x.0, x.1)
 branch_above b s l (branch.Choice choice.Case) ts = do
   e ← expr_before b mark.OpenBrace ts
   arms ← arms_at b s region.Case e.1

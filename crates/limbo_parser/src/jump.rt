@@ -69,6 +69,36 @@ pub fn expr_before(
     Ok((value, rest))
 }
 
+/// What stands between the brackets of a `for`.
+#[derive(Drop)]
+pub struct ForHead {
+    pub first: Option<Expr>,
+    pub condition: Option<Expr>,
+    pub next: Option<Expr>,
+}
+
+/// `"(" [expr] ";" [expr] ";" [expr] ")"`
+#[tactic(auto, unfolding(crate::specs::Stmts::for_head_at))]
+pub fn for_head_at(
+    alloc: Global,
+    budget: u32,
+    tokens: &[Token],
+) -> Result<(ForHead, &[Token]), ReadError>
+    requires { budget < 1000 }
+    ensures { Gives (λ x. (stmts.view_for_head x.0, kinds x.1.now)) result (stmts.for_head_at budget (kinds tokens.now)) }
+{
+    let rest = expect_mark(Mark::OpenParen, tokens)?;
+    let (first, rest) = option_before(alloc, budget, Mark::Semicolon, rest)?;
+    let (condition, rest) = option_before(alloc, budget, Mark::Semicolon, rest)?;
+    let (next, rest) = option_before(alloc, budget, Mark::CloseParen, rest)?;
+    let head = ForHead {
+        first,
+        condition,
+        next,
+    };
+    Ok((head, rest))
+}
+
 #[tactic(auto, using(crate::proofs::Postfixes::the_postfixes))]
 fn is_call(value: &Expr) -> bool
     ensures { result ≡ is_postfix (view_expr value.now) }

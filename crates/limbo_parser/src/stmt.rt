@@ -5,11 +5,13 @@ ghost use Rattle.std.specs.Prelude.{◌≡◌, ◌<◌, map};
 ghost use Rattle.limbo_tree.specs.View.{view_stmt, view_block, view_case_arm, view_alt_arm, view_pick_arm, view_handler_arm, name_of};
 ghost use Rattle.limbo_reading.specs.Reading.{kinds, Gives};
 ghost use Rattle.limbo_parser.specs.declared.start.Branch.TheVariants as branch;
+ghost use Rattle.limbo_parser.specs.declared.start.Choice.TheVariants as choice;
+ghost use Rattle.limbo_parser.specs.declared.start.Loop.TheVariants as loop;
 ghost use Rattle.limbo_parser.specs.declared.start.Region.TheVariants as region;
 ghost use Rattle.limbo_parser.specs.Stmts as stmts;
 
 use crate::heads::{alt_front_at, case_front_at, ends, handler_front_at, pick_front_at};
-use crate::jump::{expr_before, jump_at, label_at, option_before};
+use crate::jump::{ForHead, expr_before, for_head_at, jump_at, label_at, option_before};
 use crate::start::{Branch, Choice, Loop, Region, Start, beginning};
 use inf_text::Span;
 use limbo_decl_parser::decl_at;
@@ -107,128 +109,162 @@ fn branch_at(
     ensures { Gives (λ x. (view_stmt x.0, kinds x.1.now)) result (stmts.branch_above inner (stmts.stmt_at inner) (name_of label) branch (kinds tokens.now)) }
 {
     match branch {
-        Branch::Loop(kind) => loop_at(alloc, inner, span, label, kind, tokens),
-        Branch::Choice(kind) => choice_at(alloc, inner, span, label, kind, tokens),
+        Branch::Loop(Loop::While) => while_at(alloc, inner, span, label, tokens),
+        Branch::Loop(Loop::Do) => do_at(alloc, inner, span, label, tokens),
+        Branch::Loop(Loop::For) => for_at(alloc, inner, span, label, tokens),
+        Branch::Choice(Choice::Case) => case_at(alloc, inner, span, label, tokens),
+        Branch::Choice(Choice::Alt) => alt_at(alloc, inner, span, label, tokens),
+        Branch::Choice(Choice::Pick) => pick_at(alloc, inner, span, label, tokens),
     }
 }
 
 #[tactic(auto, using(crate::proofs::View::the_stmt_views), unfolding(crate::specs::Stmts::branch_above))]
 #[cycle(statements)]
-fn loop_at(
+fn while_at(
     alloc: Global,
     inner: u32,
     span: Span,
     label: Option<Name>,
-    kind: Loop,
     tokens: &[Token],
 ) -> Result<(Stmt, &[Token]), ReadError>
     requires { inner < 1000 }
-    ensures { Gives (λ x. (view_stmt x.0, kinds x.1.now)) result (stmts.branch_above inner (stmts.stmt_at inner) (name_of label) (branch.Loop kind) (kinds tokens.now)) }
+    ensures { Gives (λ x. (view_stmt x.0, kinds x.1.now)) result (stmts.branch_above inner (stmts.stmt_at inner) (name_of label) (branch.Loop loop.While) (kinds tokens.now)) }
 {
-    match kind {
-        Loop::While => {
-            let rest = expect_mark(Mark::OpenParen, tokens)?;
-            let (condition, rest) = option_before(alloc, inner, Mark::CloseParen, rest)?;
-            let (body, rest) = stmt_at(alloc, inner, rest)?;
-            let body = Box::new(alloc, body)?;
-            Ok((
-                Stmt::While {
-                    label,
-                    condition,
-                    body,
-                    span,
-                },
-                rest,
-            ))
-        }
-        Loop::Do => {
-            let (body, rest) = stmt_at(alloc, inner, tokens)?;
-            let rest = expect_key(Key::While, rest)?;
-            let rest = expect_mark(Mark::OpenParen, rest)?;
-            let (condition, rest) = option_before(alloc, inner, Mark::CloseParen, rest)?;
-            let rest = expect_mark(Mark::Semicolon, rest)?;
-            let body = Box::new(alloc, body)?;
-            Ok((
-                Stmt::Do {
-                    label,
-                    body,
-                    condition,
-                    span,
-                },
-                rest,
-            ))
-        }
-        Loop::For => {
-            let rest = expect_mark(Mark::OpenParen, tokens)?;
-            let (first, rest) = option_before(alloc, inner, Mark::Semicolon, rest)?;
-            let (condition, rest) = option_before(alloc, inner, Mark::Semicolon, rest)?;
-            let (next, rest) = option_before(alloc, inner, Mark::CloseParen, rest)?;
-            let (body, rest) = stmt_at(alloc, inner, rest)?;
-            let body = Box::new(alloc, body)?;
-            Ok((
-                Stmt::For {
-                    label,
-                    first,
-                    condition,
-                    next,
-                    body,
-                    span,
-                },
-                rest,
-            ))
-        }
-    }
+    let rest = expect_mark(Mark::OpenParen, tokens)?;
+    let (condition, rest) = option_before(alloc, inner, Mark::CloseParen, rest)?;
+    let (body, rest) = stmt_at(alloc, inner, rest)?;
+    let body = Box::new(alloc, body)?;
+    let tree = Stmt::While {
+        label,
+        condition,
+        body,
+        span,
+    };
+    Ok((tree, rest))
 }
 
 #[tactic(auto, using(crate::proofs::View::the_stmt_views), unfolding(crate::specs::Stmts::branch_above))]
 #[cycle(statements)]
-fn choice_at(
+fn do_at(
     alloc: Global,
     inner: u32,
     span: Span,
     label: Option<Name>,
-    kind: Choice,
     tokens: &[Token],
 ) -> Result<(Stmt, &[Token]), ReadError>
     requires { inner < 1000 }
-    ensures { Gives (λ x. (view_stmt x.0, kinds x.1.now)) result (stmts.branch_above inner (stmts.stmt_at inner) (name_of label) (branch.Choice kind) (kinds tokens.now)) }
+    ensures { Gives (λ x. (view_stmt x.0, kinds x.1.now)) result (stmts.branch_above inner (stmts.stmt_at inner) (name_of label) (branch.Loop loop.Do) (kinds tokens.now)) }
 {
-    match kind {
-        Choice::Case => {
-            let (value, rest) = expr_before(alloc, inner, Mark::OpenBrace, tokens)?;
-            let (arms, rest) = case_arms_at(alloc, inner, rest)?;
-            Ok((
-                Stmt::Case {
-                    label,
-                    value,
-                    arms,
-                    span,
-                },
-                rest,
-            ))
-        }
-        Choice::Alt => {
-            let rest = expect_mark(Mark::OpenBrace, tokens)?;
-            let (arms, rest) = alt_arms_at(alloc, inner, rest)?;
-            Ok((Stmt::Alt { label, arms, span }, rest))
-        }
-        Choice::Pick => {
-            let (name, rest) = expect_name(tokens)?;
-            let rest = expect_mark(Mark::Define, rest)?;
-            let (value, rest) = expr_before(alloc, inner, Mark::OpenBrace, rest)?;
-            let (arms, rest) = pick_arms_at(alloc, inner, rest)?;
-            Ok((
-                Stmt::Pick {
-                    label,
-                    name,
-                    value,
-                    arms,
-                    span,
-                },
-                rest,
-            ))
-        }
-    }
+    let (body, rest) = stmt_at(alloc, inner, tokens)?;
+    let rest = expect_key(Key::While, rest)?;
+    let rest = expect_mark(Mark::OpenParen, rest)?;
+    let (condition, rest) = option_before(alloc, inner, Mark::CloseParen, rest)?;
+    let rest = expect_mark(Mark::Semicolon, rest)?;
+    let body = Box::new(alloc, body)?;
+    let tree = Stmt::Do {
+        label,
+        body,
+        condition,
+        span,
+    };
+    Ok((tree, rest))
+}
+
+#[tactic(auto, using(crate::proofs::View::the_stmt_views), unfolding(crate::specs::Stmts::branch_above))]
+#[cycle(statements)]
+fn for_at(
+    alloc: Global,
+    inner: u32,
+    span: Span,
+    label: Option<Name>,
+    tokens: &[Token],
+) -> Result<(Stmt, &[Token]), ReadError>
+    requires { inner < 1000 }
+    ensures { Gives (λ x. (view_stmt x.0, kinds x.1.now)) result (stmts.branch_above inner (stmts.stmt_at inner) (name_of label) (branch.Loop loop.For) (kinds tokens.now)) }
+{
+    let (head, rest) = for_head_at(alloc, inner, tokens)?;
+    let (body, rest) = stmt_at(alloc, inner, rest)?;
+    let body = Box::new(alloc, body)?;
+    let ForHead {
+        first,
+        condition,
+        next,
+    } = head;
+    let tree = Stmt::For {
+        label,
+        first,
+        condition,
+        next,
+        body,
+        span,
+    };
+    Ok((tree, rest))
+}
+
+#[tactic(auto, using(crate::proofs::View::the_stmt_views), unfolding(crate::specs::Stmts::branch_above))]
+#[cycle(statements)]
+fn case_at(
+    alloc: Global,
+    inner: u32,
+    span: Span,
+    label: Option<Name>,
+    tokens: &[Token],
+) -> Result<(Stmt, &[Token]), ReadError>
+    requires { inner < 1000 }
+    ensures { Gives (λ x. (view_stmt x.0, kinds x.1.now)) result (stmts.branch_above inner (stmts.stmt_at inner) (name_of label) (branch.Choice choice.Case) (kinds tokens.now)) }
+{
+    let (value, rest) = expr_before(alloc, inner, Mark::OpenBrace, tokens)?;
+    let (arms, rest) = case_arms_at(alloc, inner, rest)?;
+    let tree = Stmt::Case {
+        label,
+        value,
+        arms,
+        span,
+    };
+    Ok((tree, rest))
+}
+
+#[tactic(auto, using(crate::proofs::View::the_stmt_views), unfolding(crate::specs::Stmts::branch_above))]
+#[cycle(statements)]
+fn alt_at(
+    alloc: Global,
+    inner: u32,
+    span: Span,
+    label: Option<Name>,
+    tokens: &[Token],
+) -> Result<(Stmt, &[Token]), ReadError>
+    requires { inner < 1000 }
+    ensures { Gives (λ x. (view_stmt x.0, kinds x.1.now)) result (stmts.branch_above inner (stmts.stmt_at inner) (name_of label) (branch.Choice choice.Alt) (kinds tokens.now)) }
+{
+    let rest = expect_mark(Mark::OpenBrace, tokens)?;
+    let (arms, rest) = alt_arms_at(alloc, inner, rest)?;
+    Ok((Stmt::Alt { label, arms, span }, rest))
+}
+
+#[tactic(auto, using(crate::proofs::View::the_stmt_views), unfolding(crate::specs::Stmts::branch_above))]
+#[cycle(statements)]
+fn pick_at(
+    alloc: Global,
+    inner: u32,
+    span: Span,
+    label: Option<Name>,
+    tokens: &[Token],
+) -> Result<(Stmt, &[Token]), ReadError>
+    requires { inner < 1000 }
+    ensures { Gives (λ x. (view_stmt x.0, kinds x.1.now)) result (stmts.branch_above inner (stmts.stmt_at inner) (name_of label) (branch.Choice choice.Pick) (kinds tokens.now)) }
+{
+    let (name, rest) = expect_name(tokens)?;
+    let rest = expect_mark(Mark::Define, rest)?;
+    let (value, rest) = expr_before(alloc, inner, Mark::OpenBrace, rest)?;
+    let (arms, rest) = pick_arms_at(alloc, inner, rest)?;
+    let tree = Stmt::Pick {
+        label,
+        name,
+        value,
+        arms,
+        span,
+    };
+    Ok((tree, rest))
 }
 
 // A block behind its `{`.

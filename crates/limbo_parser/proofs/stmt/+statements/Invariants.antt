@@ -15,11 +15,23 @@ decreases-if_at l = l.inner * 8 + 7
 abbrev pub decreases-branch_at : goal.decreases-branch_at
 decreases-branch_at l = l.inner * 8 + 7
 
-abbrev pub decreases-loop_at : goal.decreases-loop_at
-decreases-loop_at l = l.inner * 8 + 6
+abbrev pub decreases-while_at : goal.decreases-while_at
+decreases-while_at l = l.inner * 8 + 6
 
-abbrev pub decreases-choice_at : goal.decreases-choice_at
-decreases-choice_at l = l.inner * 8 + 6
+abbrev pub decreases-do_at : goal.decreases-do_at
+decreases-do_at l = l.inner * 8 + 6
+
+abbrev pub decreases-for_at : goal.decreases-for_at
+decreases-for_at l = l.inner * 8 + 6
+
+abbrev pub decreases-case_at : goal.decreases-case_at
+decreases-case_at l = l.inner * 8 + 6
+
+abbrev pub decreases-alt_at : goal.decreases-alt_at
+decreases-alt_at l = l.inner * 8 + 6
+
+abbrev pub decreases-pick_at : goal.decreases-pick_at
+decreases-pick_at l = l.inner * 8 + 6
 
 abbrev pub decreases-block_above : goal.decreases-block_above
 decreases-block_above l = l.budget * 8 + 5
