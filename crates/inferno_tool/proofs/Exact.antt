@@ -2,13 +2,14 @@
 use Rattle.std.proofs.Common.{◌≡◌, ◌≤◌, ℕ, List, ◌⊎◌, inl, inr, refl, subst, sym, ◌∙◌, true, false, arith}
 use Rattle.std.specs.Prelude.{Option, Some, None}
 use Rattle.inf_ports.specs.Outside.{Told, Has, Lacks, Rose}
-use Rattle.thin_source.specs.Thin.{Program}
+use Rattle.first_part.specs.Part.{Program}
 use Rattle.inferno_tool.specs.Built.{IsBuilt}
-use Rattle.inferno_tool.specs.Outcome.{Course, HasProgram, IsAccepted, IsCause, IsRunEnd, IsSinkFault, Tells, TellsProgram, IsUnlessMemory}
+use Rattle.inferno_tool.specs.Outcome.{Course, HasProgram, IsAccepted, IsCause, IsRunEnd, IsSinkFault, IsSourceRefusal, Tells, TellsProgram, IsUnlessMemory}
 use Rattle.inferno_tool.specs.Words.{named_file}
 use Rattle.inferno_tool.specs.declared.cause.Cause.{Cause}
 use Rattle.inferno_tool.specs.declared.cause.Cause.TheVariants.{Done, Usage, BadSource, Host, SinkFault, NoMemory}
-use Rattle.inferno_tool.specs.declared.cause.SourceFault.TheVariants.{Unbuilt}
+use Rattle.inferno_tool.specs.Faults.{IsFault}
+use Rattle.inferno_tool.proofs.Faults.{faulty}
 
 -- closing keeps the cause, or it is want of memory
 pub closed : (c : Course) (before after : Cause) → IsCause c before → (after ≡ before) ⊎ (after ≡ NoMemory) → IsCause c after
@@ -37,16 +38,20 @@ refused_accepted c a file source named tells outside =
     let same : source ≡ a.accepted.read.source = same_bytes c.told file source a.accepted.read.source tells there in
     absurd (outside a.accepted.read.program (let P : List ℕ → Type 0 = λ x. IsBuilt x a.accepted.read.program in subst P (sym same) a.accepted.read.built))
 
-pub refused : (c : Course) (cause : Cause) → IsCause c cause → (file source : List ℕ) → named_file c.words ≡ Some file → Tells c.told file (Some source) → ((program : Program) → IsBuilt source program → ⊥) → (Rose c.files_before c.files_after → ⊥) → IsUnlessMemory cause (BadSource file Unbuilt)
+pub refused : (c : Course) (cause : Cause) → IsCause c cause → (file source : List ℕ) → named_file c.words ≡ Some file → Tells c.told file (Some source) → ((program : Program) → IsBuilt source program → ⊥) → (Rose c.files_before c.files_after → ⊥) → IsSourceRefusal file source cause
 refused c Done is file source named tells outside calm = refused_accepted c is.0 file source named tells outside
 refused c Usage is file source named tells outside calm = no_file c.words file is named
-refused c (BadSource other Unbuilt) is file source named tells outside calm = inl (let same : other ≡ file = one_file c.words other file is.0 named in cc)
+refused c (BadSource other fault) is file source named tells outside calm =
+    let here : other ≡ file = one_file c.words other file is.0 named in
+    let there : Has c.told file is.1.source = (let P : List ℕ → Type 0 = λ x. Has c.told x is.1.source in subst P here is.1.stands) in
+    let same : source ≡ is.1.source = same_bytes c.told file source is.1.source tells there in
+    (here, (let P : List ℕ → Type 0 = λ x. IsFault x fault in subst P (sym same) is.1.because))
 refused c (Host path true) is file source named tells outside calm =
     told_not_lacking c.told file source tells
     (let P : List ℕ → Type 0 = λ x. Lacks c.told x in subst P (one_file c.words path file is.0 named) is.1)
 refused c (Host path false) is file source named tells outside calm = absurd (calm is.1)
 refused c (SinkFault out err) is file source named tells outside calm = refused_accepted c is.0 file source named tells outside
-refused c NoMemory is file source named tells outside calm = inr refl
+refused c NoMemory is file source named tells outside calm = tt
 
 -- a count that has risen has risen still when it is higher
 risen_further : (before now later : ℕ) → now ≤ later → Rose before now → Rose before later
@@ -58,7 +63,7 @@ done c Usage is program t calm quiet silent = no_file c.words t.file is t.named
 done c (BadSource other fault) is program t calm quiet silent =
     let there : Has c.told t.file is.1.source = (let P : List ℕ → Type 0 = λ x. Has c.told x is.1.source in subst P (one_file c.words other t.file is.0 t.named) is.1.stands) in
     let same : t.source ≡ is.1.source = same_bytes c.told t.file t.source is.1.source t.tells there in
-    absurd (is.1.outside program (let P : List ℕ → Type 0 = λ x. IsBuilt x program in subst P same t.built))
+    absurd (faulty is.1.source fault is.1.because program (let P : List ℕ → Type 0 = λ x. IsBuilt x program in subst P same t.built))
 done c (Host path true) is program t calm quiet silent =
     told_not_lacking c.told t.file t.source t.tells
     (let P : List ℕ → Type 0 = λ x. Lacks c.told x in subst P (one_file c.words path t.file is.0 t.named) is.1)
@@ -119,7 +124,7 @@ failed c Usage is program t calm rose = no_file c.words t.file is t.named
 failed c (BadSource other fault) is program t calm rose =
     let there : Has c.told t.file is.1.source = (let P : List ℕ → Type 0 = λ x. Has c.told x is.1.source in subst P (one_file c.words other t.file is.0 t.named) is.1.stands) in
     let same : t.source ≡ is.1.source = same_bytes c.told t.file t.source is.1.source t.tells there in
-    absurd (is.1.outside program (let P : List ℕ → Type 0 = λ x. IsBuilt x program in subst P same t.built))
+    absurd (faulty is.1.source fault is.1.because program (let P : List ℕ → Type 0 = λ x. IsBuilt x program in subst P same t.built))
 failed c (Host path true) is program t calm rose =
     told_not_lacking c.told t.file t.source t.tells
     (let P : List ℕ → Type 0 = λ x. Lacks c.told x in subst P (one_file c.words path t.file is.0 t.named) is.1)

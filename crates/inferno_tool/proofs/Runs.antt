@@ -36,15 +36,15 @@ started_prints path name prints machine base s = subst (λ (x : Object). Prints 
 pub all_printed : (prints : Option (List (List ℕ))) (old new : Option (List ℕ)) → Appends old new (conversation.bytes_of (asked_texts (literals prints))) → Appends old new (bytes_of prints)
 all_printed prints old new a = subst (λ (l : List ℕ). Appends old new l) (asked_all prints) a
 
-pub part_printed : (o : Object) (prints : Option (List (List ℕ))) (events : List Event) (old new : Option (List ℕ)) (done : Bool) → Conversation o (asked_texts (literals prints)) events old new done → AppendsPart old new (bytes_of prints)
-part_printed o prints events old new done c = record {
+pub part_printed : (o : Object) (prints : Option (List (List ℕ))) (events : List Event) (old new : Option (List ℕ)) (before after : ℕ) (done : Bool) → Conversation o (asked_texts (literals prints)) events old new before after done → AppendsPart old new (bytes_of prints)
+part_printed o prints events old new before after done c = record {
   count = c.front.0;
   grown = subst (λ (l : List ℕ). Appends old new l) (c.front.1 ∙ ap (take c.front.0) (asked_all prints)) c.grown;
 }
 
 -- what is known of a run that was done is known of it where the end is told as another
-undone : (o : Object) (texts : List (List ℕ)) (events : List Event) (old new : Option (List ℕ)) (done : Bool) → Conversation o texts events old new done → Conversation o texts events old new false
-undone o texts events old new done c = record {
+undone : (o : Object) (texts : List (List ℕ)) (events : List Event) (old new : Option (List ℕ)) (before after : ℕ) (done : Bool) → Conversation o texts events old new before after done → Conversation o texts events old new before after false
+undone o texts events old new before after done c = record {
   state = c.state;
   requests = c.requests;
   journal = c.journal;
@@ -57,6 +57,7 @@ undone o texts events old new done c = record {
   answers = c.answers;
   bytes = c.bytes;
   failed = c.failed;
+  cause = c.cause;
   served = c.served;
   entered = c.entered;
   near = c.near;
@@ -66,6 +67,6 @@ undone o texts events old new done c = record {
   whole = λ d. absurd (let bad : false ≡ true = d in cc);
 }
 
-pub run_undone : (path name : List ℕ) (prints : Option (List (List ℕ))) (journal : Option Journal) (objects : List (List ℕ × Object)) (old new : Option (List ℕ)) (done : Bool) → IsRun path name prints journal objects old new done → IsRun path name prints journal objects old new false
-run_undone path name prints None objects old new done r = (r.0, r.1, refl)
-run_undone path name prints (Some journal) objects old new done r = (r.0, undone (compiled name prints) (asked_texts (literals prints)) journal.events old new done r.1)
+pub run_undone : (path name : List ℕ) (prints : Option (List (List ℕ))) (journal : Option Journal) (objects : List (List ℕ × Object)) (old new : Option (List ℕ)) (before after : ℕ) (done : Bool) → IsRun path name prints journal objects old new before after done → IsRun path name prints journal objects old new before after false
+run_undone path name prints None objects old new before after done r = (r.0, r.1, refl)
+run_undone path name prints (Some journal) objects old new before after done r = (r.0, undone (compiled name prints) (asked_texts (literals prints)) journal.events old new before after done r.1)

@@ -1,9 +1,10 @@
 -- What each cause of an end says: of the words, of the files as they are told, and of which counts of faults rose.
 use Rattle.std.specs.Prelude.{ℕ, ◌≡◌, ◌≤◌, ◌⊎◌, List, Option, None, Some, Bool, true, false}
 use Rattle.inf_ports.specs.Outside.{Told, Lacks, Rose}
-use Rattle.thin_source.specs.Thin.{Program}
+use Rattle.first_part.specs.Part.{Program}
 use Rattle.inferno_tool.specs.Built.{IsBuilt}
-use Rattle.inferno_tool.specs.Reading.{IsRead, IsOutside}
+use Rattle.inferno_tool.specs.Reading.{IsRead, IsFaulty}
+use Rattle.inferno_tool.specs.Faults.{IsFault}
 use Rattle.inferno_tool.specs.Words.{named_file}
 use Rattle.inferno_tool.specs.declared.cause.Cause.{Cause}
 use Rattle.inferno_tool.specs.declared.cause.Cause.TheVariants.{Done, Usage, BadSource, Host, SinkFault, NoMemory}
@@ -47,7 +48,7 @@ pub record TellsProgram (words : List (List ℕ)) (told : Told) (program : Progr
 -- where a command is refused before it runs
 abbrev pub IsRefusal : List (List ℕ) → Told → ℕ → ℕ → Cause → Type 0
 IsRefusal words told before after Usage = named_file words ≡ None
-IsRefusal words told before after (BadSource file fault) = (named_file words ≡ Some file) × IsOutside told file
+IsRefusal words told before after (BadSource file fault) = (named_file words ≡ Some file) × IsFaulty told file fault
 IsRefusal words told before after (Host path true) = (named_file words ≡ Some path) × Lacks told path
 IsRefusal words told before after (Host path false) = (named_file words ≡ Some path) × Rose before after
 IsRefusal words told before after NoMemory = Unit {0}
@@ -75,6 +76,12 @@ IsCause c cause = IsRefusal c.words c.told c.files_before c.files_after cause
 -- the cause is this one, or want of memory
 abbrev pub IsUnlessMemory : Cause → Cause → Type 0
 IsUnlessMemory cause wanted = (cause ≡ wanted) ⊎ (cause ≡ NoMemory)
+
+-- the cause is a refusal that the source has, or want of memory
+abbrev pub IsSourceRefusal : List ℕ → List ℕ → Cause → Type 0
+IsSourceRefusal file source (BadSource other fault) = (other ≡ file) × IsFault source fault
+IsSourceRefusal file source NoMemory = Unit {0}
+IsSourceRefusal file source _ = ⊥
 
 -- the command ended before a program ran
 abbrev pub IsUnrun : Cause → Type 0

@@ -11,11 +11,11 @@ use Rattle.inferno_tool.specs.Words.{base_name}
 -- A run of the program of this name, with these prints, from the file at the path. Where no machine was started nothing is
 -- written. Else the objects are the file's base name and the program's object, and what the journal, the requests, the
 -- console's replies and the output's bytes are is their conversation.
-abbrev pub IsRun : List ℕ → List ℕ → Option (List (List ℕ)) → Option Journal → List (List ℕ × Object) → Option (List ℕ) → Option (List ℕ) → Bool → Type 0
-IsRun path name prints None objects old new done = (objects ≡ []) × (new ≡ old) × (done ≡ false)
-IsRun path name prints (Some journal) objects old new done =
+abbrev pub IsRun : List ℕ → List ℕ → Option (List (List ℕ)) → Option Journal → List (List ℕ × Object) → Option (List ℕ) → Option (List ℕ) → ℕ → ℕ → Bool → Type 0
+IsRun path name prints None objects old new faults_before faults_after done = (objects ≡ []) × (new ≡ old) × (done ≡ false)
+IsRun path name prints (Some journal) objects old new faults_before faults_after done =
     (objects ≡ (base_name path, compiled name prints) ∷ [])
-    × Conversation (compiled name prints) (asked_texts (literals prints)) journal.events old new done
+    × Conversation (compiled name prints) (asked_texts (literals prints)) journal.events old new faults_before faults_after done
 
 -- A machine that was started on the program's object, under the file's base name.
 pub record IsStarted (path name : List ℕ) (prints : Option (List (List ℕ))) (machine : Journaled) (base : List ℕ) : Type 0 where

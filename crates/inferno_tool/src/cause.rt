@@ -1,15 +1,100 @@
 ghost use Rattle.std.specs.Prelude.{◌≡◌};
 ghost use Rattle.inferno_tool.specs.Closing.{status_of};
+ghost use Rattle.inferno_tool.specs.Faults.{lex_number, parse_number, number_of, place_of};
 
 use dis_file::Object;
 use first_machine::Journal;
-use inf_text::Text;
+use inf_text::{Span, Text};
+use limbo_lexer::LexFault;
+use limbo_parser::ParseFault;
 
 /// Why a source was refused.
 #[derive(Clone, Copy, Debug)]
 pub enum SourceFault {
-    /// Refusal 25: the source is outside the part of the language that is built so far.
+    /// Refusals 1 and 20 to 24: the bytes are no text, or it has no tokens.
+    Lex { fault: LexFault },
+    /// Refusals 30 and 31: the tokens have no tree. The span is that of the token where this was met.
+    Parse { fault: ParseFault, span: Span },
+    /// Refusal 25: the tree is outside the part of the language that is built so far.
     Unbuilt,
+}
+
+/// The number of a refusal of bytes and tokens; 0 for want of memory, which is none.
+fn lex_number(fault: LexFault) -> u8
+    ensures { result ≡ lex_number fault }
+{
+    match fault {
+        LexFault::NoMemory => 0,
+        LexFault::BadUtf8 { .. } => 1,
+        LexFault::BadChar(_) => 20,
+        LexFault::BadEscape(_) => 21,
+        LexFault::NumberTooWide(_) => 22,
+        LexFault::Unclosed(_) => 23,
+        LexFault::SourceTooLong => 24,
+    }
+}
+
+/// The number of a refusal of the grammar; 0 for want of memory, which is none.
+fn parse_number(fault: ParseFault) -> u8
+    ensures { result ≡ parse_number fault }
+{
+    match fault {
+        ParseFault::NoMemory => 0,
+        ParseFault::Syntax { .. } => 30,
+        ParseFault::TooDeep { .. } => 31,
+    }
+}
+
+/// A line and a column of a source, counted from 1.
+#[derive(Clone, Copy)]
+pub struct Place {
+    pub line: u32,
+    pub col: u32,
+}
+
+impl Place {
+    /// Where a refusal stands that has no place of its own.
+    const START: Place = Place { line: 1, col: 1 };
+
+    /// Where a span begins.
+    fn at(span: Span) -> Place
+        ensures { (result.line ≡ span.line) × (result.col ≡ span.col) }
+    {
+        Place {
+            line: span.line,
+            col: span.col,
+        }
+    }
+}
+
+impl SourceFault {
+    /// The refusal's number.
+    pub fn number(self) -> u8
+        ensures { result ≡ number_of self }
+    {
+        match self {
+            SourceFault::Lex { fault } => lex_number(fault),
+            SourceFault::Parse { fault, .. } => parse_number(fault),
+            SourceFault::Unbuilt => 25,
+        }
+    }
+
+    /// Where the refusal stands: at line 1, column 1 where it has no place of its own.
+    pub fn place(self) -> Place
+        ensures line { result.line ≡ (place_of self).line }
+        ensures col { result.col ≡ (place_of self).col }
+    {
+        match self {
+            SourceFault::Lex {
+                fault: LexFault::BadChar(span)
+                | LexFault::BadEscape(span)
+                | LexFault::NumberTooWide(span)
+                | LexFault::Unclosed(span),
+            }
+            | SourceFault::Parse { span, .. } => Place::at(span),
+            SourceFault::Lex { .. } | SourceFault::Unbuilt => Place::START,
+        }
+    }
 }
 
 /// Why a command ended.

@@ -1,5 +1,5 @@
-ghost use Rattle.std.specs.Prelude.{◌≡◌, ◌≤◌, ◌⊎◌, ◌++◌, ◌∷◌, [], IfOk, OnOk, codes, encode_utf8_all};
-ghost use Rattle.inferno_tool.specs.Closing.{line, closing_line, place_of, IsWritten};
+ghost use Rattle.std.specs.Prelude.{◌≡◌, ◌≤◌, ◌⊎◌, ◌++◌, ◌∷◌, [], IfOk, string_bytes, decimal, codes, encode_utf8_all};
+ghost use Rattle.inferno_tool.specs.Closing.{line, closing_line, told, IsWritten};
 
 use crate::cause::{Cause, SourceFault};
 use inf_ports::{Sink, write_whole};
@@ -24,23 +24,41 @@ fn line_with(
     Ok(bytes)
 }
 
-/// Where a refusal stands, and its number.
-fn place(fault: SourceFault) -> &'static [u8]
-    ensures { result.now ≡ place_of fault }
+/// The decimal digits of a number.
+fn digits(alloc: Global, number: u32) -> Result<String, AllocError>
+    ensures { IfOk result (λ text. string_bytes text ≡ decimal number) }
 {
-    match fault {
-        SourceFault::Unbuilt => b":1:1: fault 25",
-    }
+    format!(in alloc; "{number}")
 }
 
-/// The line about the cause. Only a path takes memory.
+/// What stands behind the file of a refusal: its line and column, and its number.
+fn told(alloc: Global, fault: SourceFault) -> Result<Vec<u8>, AllocError>
+    ensures { IfOk result (λ bytes. bytes.items ≡ told fault) }
+{
+    let place = fault.place();
+    let line = digits(alloc, place.line)?;
+    let col = digits(alloc, place.col)?;
+    let number = digits(alloc, u32::from(fault.number()))?;
+    let mut bytes = Vec::from_slice(alloc, b":")?;
+    bytes.extend_from_slice(line.as_bytes())?;
+    bytes.extend_from_slice(b":")?;
+    bytes.extend_from_slice(col.as_bytes())?;
+    bytes.extend_from_slice(b": fault ")?;
+    bytes.extend_from_slice(number.as_bytes())?;
+    Ok(bytes)
+}
+
+/// The line about the cause.
 fn closing_line(alloc: Global, cause: &Cause) -> Result<Vec<u8>, AllocError>
     ensures { IfOk result (λ bytes. bytes.items ≡ closing_line cause.now) }
 {
     match cause {
         Cause::Done => Ok(Vec::new(alloc)),
         Cause::Usage => Vec::from_slice(alloc, b"inferno: usage\n"),
-        Cause::BadSource { file, fault } => line_with(alloc, b"", file, place(*fault)),
+        Cause::BadSource { file, fault } => {
+            let told = told(alloc, *fault)?;
+            line_with(alloc, b"", file, told.as_slice())
+        }
         Cause::Host { path, .. } => line_with(alloc, b"file ", path, b""),
         Cause::SinkFault { .. } => Vec::from_slice(alloc, b"inferno: output failed\n"),
         Cause::NoMemory => Vec::from_slice(alloc, b"inferno: no memory\n"),

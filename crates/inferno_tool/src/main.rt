@@ -1,11 +1,14 @@
 //! The command `inferno`: it compiles Limbo to Dis objects and runs them.
 //!
 //! One public call, `inferno` in `top`, does all that the program does, over words, a tree of files and two sinks; its
-//! contract cites `specs/Outcome.antt` (where each cause comes), `specs/Closing.antt` (the status and the closing line)
-//! and `specs/Built.antt` (the part of the language that is built). `main` hands it the real files and streams.
+//! contract cites `specs/Outcome.antt` (where each cause comes), `specs/Closing.antt` (the status and the closing line),
+//! `specs/Built.antt` (which programs are built) and `specs/Faults.antt` (why a source is refused). `main` hands it the
+//! real files and streams.
 #![tactic(auto)]
 
-ghost use Rattle.std.specs.Prelude.{◌≡◌, ◌⊎◌, IfErr};
+ghost use Rattle.std.specs.Prelude.{◌≡◌, ◌≢◌, ◌⊎◌, ◌↔◌, IfOk, IfErr, IsOkAnd, IsErrAnd, IsErrOf, map, drop, string_bytes, encode_utf8_all};
+ghost use Rattle.std.specs.IoError.{error_kind};
+ghost use Rattle.std.specs.Vec.Iter.{into_iter_items};
 
 mod cause;
 mod closing;
@@ -20,40 +23,63 @@ use cause::Cause;
 use closing::close;
 use inf_ports::{StdSink, StdTree};
 use inf_text::Text;
-use std::env;
+use std::alloc::{AllocError, Global};
+use std::env::Args;
 use std::io::ErrorKind;
 use std::process::ExitCode;
-use std::rt::Env;
+use std::{env, io};
 use top::inferno;
 
-/// The words behind the program's own name.
+/// Why the runtime gave no words: want of memory, or a word that isn't UTF-8, so no text.
+fn refusal(error: &io::Error) -> Cause
+    ensures memory { error_kind error.now ≡ ErrorKind.OutOfMemory → result ≡ Cause.NoMemory }
+    ensures usage { error_kind error.now ≢ ErrorKind.OutOfMemory → result ≡ Cause.Usage }
+{
+    match error.kind() {
+        ErrorKind::OutOfMemory => Cause::NoMemory,
+        _ => Cause::Usage,
+    }
+}
+
+/// The words behind the program's own name, as texts.
 ///
 /// # Errors
-/// `Usage` where a word isn't UTF-8, so no text; `NoMemory`.
-fn given_words(rt: &(impl Env + AllocGlobal)) -> Result<Vec<Text>, Cause>
-    ensures { IfErr result (λ cause. (cause ≡ Cause.Usage) ⊎ (cause ≡ Cause.NoMemory)) }
+/// Want of memory.
+fn texts_of(alloc: Global, given: Args) -> Result<Vec<Text>, AllocError>
+    ensures { IfOk result (λ words. map encode_utf8_all words.items ≡ map string_bytes (drop 1 (into_iter_items given))) }
 {
-    let given = match env::args(rt) {
-        Ok(given) => given,
-        Err(error) if error.kind() == ErrorKind::OutOfMemory => return Err(Cause::NoMemory),
-        Err(_) => return Err(Cause::Usage),
-    };
-    let mut words = Vec::new(rt.alloc());
-    for word in given.skip(1) {
-        let Ok(text) = Text::from_utf8(rt.alloc(), word.as_bytes()) else {
-            return Err(Cause::NoMemory);
+    let mut rest = given;
+    let _ = rest.next();
+    let mut words = Vec::new(alloc);
+    for word in rest {
+        let Ok(text) = Text::from_utf8(alloc, word.as_bytes()) else {
+            return Err(AllocError);
         };
-        if words.push(text).is_err() {
-            return Err(Cause::NoMemory);
-        }
+        words.push(text)?;
     }
     Ok(words)
+}
+
+/// The words behind the program's own name, from what the runtime answers for its words.
+///
+/// # Errors
+/// `Usage` exactly where the runtime gives no words, and not for want of memory; `NoMemory`.
+fn given_words(alloc: Global, given: io::Result<Args>) -> Result<Vec<Text>, Cause>
+    ensures words { IfOk result (λ words. IsOkAnd given (λ given.
+        map encode_utf8_all words.items ≡ map string_bytes (drop 1 (into_iter_items given)))) }
+    ensures usage { IsErrOf result Cause.Usage ↔ IsErrAnd given (λ error. error_kind error ≢ ErrorKind.OutOfMemory) }
+    ensures memory { IfErr result (λ cause. (cause ≡ Cause.Usage) ⊎ (cause ≡ Cause.NoMemory)) }
+{
+    match given {
+        Ok(given) => texts_of(alloc, given).map_err(|_| Cause::NoMemory),
+        Err(error) => Err(refusal(&error)),
+    }
 }
 
 fn main(rt: HostRuntime) -> ExitCode {
     let mut out = StdSink::new(rt.stdout());
     let mut err = StdSink::new(rt.stderr());
-    let status = match given_words(&rt) {
+    let status = match given_words(rt.alloc(), env::args(&rt)) {
         Ok(words) => {
             let mut files = StdTree::new(&rt);
             inferno(rt.alloc(), &words, &mut files, &mut out, &mut err).status

@@ -12,10 +12,10 @@ use crate::words::base_name;
 use dis_file::Object;
 use first_host::{Ran, RunEnd, run_machine};
 use first_machine::{Machine, StartFault, object_of};
+use first_part::FirstProgram;
 use inf_ports::Sink;
 use inf_text::{Seq, Text};
 use std::alloc::{AllocError, Global};
-use thin_source::Thin;
 
 /// Whether a count of faults has risen.
 pub fn has_risen(before: u64, now: u64) -> bool
@@ -28,12 +28,16 @@ pub fn has_risen(before: u64, now: u64) -> bool
 ///
 /// # Errors
 /// Want of memory.
-fn compile(alloc: Global, thin: &Thin) -> Result<Object, AllocError>
-    requires { AreLiteralsIfAny thin.now.prints }
-    ensures laid_out { IfOk result (λ object. object ≡ compiled thin.now.name thin.now.prints) }
-    ensures runs { IfOk result (λ object. Prints object (asked_texts (literals thin.now.prints))) }
+fn compile(alloc: Global, program: &FirstProgram) -> Result<Object, AllocError>
+    requires { AreLiteralsIfAny program.now.prints }
+    ensures laid_out { IfOk result (λ object. object ≡ compiled program.now.name program.now.prints) }
+    ensures runs { IfOk result (λ object. Prints object (asked_texts (literals program.now.prints))) }
 {
-    object_of(alloc, &thin.name, thin.prints.as_ref().map(Seq::as_slice))
+    object_of(
+        alloc,
+        &program.name,
+        program.prints.as_ref().map(Seq::as_slice),
+    )
 }
 
 /// A machine that is started on a program, and room for what it was started with.
@@ -48,12 +52,12 @@ struct Started {
 ///
 /// # Errors
 /// Want of memory.
-fn start(alloc: Global, path: &Text, thin: &Thin) -> Result<Started, AllocError>
-    requires { AreLiteralsIfAny thin.now.prints }
-    ensures ready { IfOk result (λ s. IsStarted path.now thin.now.name thin.now.prints s.machine s.name) }
+fn start(alloc: Global, path: &Text, program: &FirstProgram) -> Result<Started, AllocError>
+    requires { AreLiteralsIfAny program.now.prints }
+    ensures ready { IfOk result (λ s. IsStarted path.now program.now.name program.now.prints s.machine s.name) }
     ensures room { IfOk result (λ s. (s.objects.items ≡ []) × (length s.objects.items < vec_capacity s.objects)) }
 {
-    let object = compile(alloc, thin)?;
+    let object = compile(alloc, program)?;
     let name = base_name(alloc, path)?;
     let objects = Vec::with_capacity(alloc, 1)?;
     match Machine::start(alloc, object) {
@@ -71,17 +75,22 @@ fn start(alloc: Global, path: &Text, thin: &Thin) -> Result<Started, AllocError>
 ///
 /// The end is that the program returned, or want of memory, before a machine was started or later. Then a first part of
 /// what it prints was written.
-pub fn run_program<K: Sink>(alloc: Global, path: &Text, thin: &Thin, out: &mut K) -> (RunEnd, Left)
-    requires { AreLiteralsIfAny thin.now.prints }
-    ensures run { IsRun path.now thin.now.name thin.now.prints result.1.journal result.1.objects.items
-        (K.held out.old) (K.held out.new) (is_done result.0) }
+pub fn run_program<K: Sink>(
+    alloc: Global,
+    path: &Text,
+    program: &FirstProgram,
+    out: &mut K,
+) -> (RunEnd, Left)
+    requires { AreLiteralsIfAny program.now.prints }
+    ensures run { IsRun path.now program.now.name program.now.prints result.1.journal result.1.objects.items
+        (K.held out.old) (K.held out.new) (K.faults out.old) (K.faults out.new) (is_done result.0) }
     ensures whole { IsDone result.0 → (Rose (K.faults out.old) (K.faults out.new) → ⊥)
-        → Appends (K.held out.old) (K.held out.new) (bytes_of thin.now.prints) }
-    ensures part { AppendsPart (K.held out.old) (K.held out.new) (bytes_of thin.now.prints) }
+        → Appends (K.held out.old) (K.held out.new) (bytes_of program.now.prints) }
+    ensures part { AppendsPart (K.held out.old) (K.held out.new) (bytes_of program.now.prints) }
     ensures ends { IsDone result.0 ⊎ (result.0 ≡ RunEnd.NoMemory) }
     ensures later { K.faults out.old ≤ K.faults out.new }
 {
-    let Ok(started) = start(alloc, path, thin) else {
+    let Ok(started) = start(alloc, path, program) else {
         let left = Left {
             journal: None,
             objects: Vec::new(alloc),

@@ -73,6 +73,11 @@ impl Row {
             err,
         }
     }
+
+    /// A run that refuses the source with this line.
+    const fn refused(source: &'static [u8], err: &'static [u8]) -> Row {
+        Row::of(source, 3, b"", err)
+    }
 }
 
 fn text(alloc: Global, word: &str) -> Result<Text, Fail> {
@@ -141,8 +146,27 @@ fn rows(rt: HostRuntime) -> Result<(), Fail> {
             err_fails: Some(0),
             ..Row::of(HELLO, 8, b"", b"")
         },
-        Row::of(b"implement T", 3, b"", b"inferno: hello.b:1:1: fault 25\n"),
-        Row::of(b"\xFF", 3, b"", b"inferno: hello.b:1:1: fault 25\n"),
+        Row::refused(b"\xFF", b"inferno: hello.b:1:1: fault 1\n"),
+        Row::refused(b"implement T;\n`", b"inferno: hello.b:2:1: fault 20\n"),
+        Row::refused(
+            b"implement T; include \"\\q\";",
+            b"inferno: hello.b:1:23: fault 21\n",
+        ),
+        Row::refused(
+            b"implement T; x: con 99999999999999999999;",
+            b"inferno: hello.b:1:21: fault 22\n",
+        ),
+        Row::refused(
+            b"implement T; include \"sys",
+            b"inferno: hello.b:1:22: fault 23\n",
+        ),
+        Row::refused(b"implement T", b"inferno: hello.b:1:12: fault 30\n"),
+        Row::refused(b"implement T; cyclic", b"inferno: hello.b:1:14: fault 30\n"),
+        Row::refused(b"implement T;", b"inferno: hello.b:1:1: fault 25\n"),
+        Row::refused(
+            b"implement T; f() { return 1; }",
+            b"inferno: hello.b:1:1: fault 25\n",
+        ),
         Row {
             words: &["go", "none.b"],
             ..Row::of(IDLE, 7, b"", b"inferno: file none.b\n")
@@ -183,6 +207,35 @@ fn rows(rt: HostRuntime) -> Result<(), Fail> {
         assert_eq!(rt; status, row.status, "status of row {k}");
         assert_eq!(rt; out.as_slice(), row.out, "out of row {k}");
         assert_eq!(rt; err.as_slice(), row.err, "err of row {k}");
+    }
+    Ok(())
+}
+
+/// A source of more than 1,048,576 bytes is refused as that, and one nested too deep at the token where the 257th tree of a
+/// path begins: behind a statement, an assignment and 254 parentheses.
+#[test]
+fn long_sources(rt: HostRuntime) -> Result<(), Fail> {
+    let alloc = rt.alloc();
+    let blanks = " ".repeat(alloc, 1_048_577)?;
+    let deep = "(".repeat(alloc, 254)?;
+    let nested = format!(in alloc; "implement T; f() {{ x = {}1", deep.as_str())?;
+    let rows = [
+        (
+            blanks.as_bytes(),
+            b"inferno: hello.b:1:1: fault 24\n".as_slice(),
+        ),
+        (
+            nested.as_bytes(),
+            b"inferno: hello.b:1:278: fault 31\n".as_slice(),
+        ),
+    ];
+    for (source, line) in rows {
+        let mut files = tree(alloc, source, None)?;
+        let mut out = MemSink::new(alloc, 0, Vec::new(alloc))?;
+        let mut err = MemSink::new(alloc, 100, Vec::new(alloc))?;
+        let ended = inferno(alloc, &go(alloc)?, &mut files, &mut out, &mut err);
+        assert_eq!(rt; ended.status, 3);
+        assert_eq!(rt; err.as_slice(), line);
     }
     Ok(())
 }

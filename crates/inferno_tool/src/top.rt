@@ -1,14 +1,13 @@
 ghost use Rattle.std.specs.Prelude.{◌≡◌, ◌≤◌, ◌⊎◌, ℕ, List, [], Option, true, None, Some, IsSome, IfOk, IfErr};
 ghost use Rattle.std.specs.Io.KnownBytes.{Appends, Keeps};
 ghost use Rattle.inf_ports.specs.Outside.{Rose, AppendsPart};
-ghost use Rattle.thin_source.specs.Thin.{Program};
+ghost use Rattle.first_part.specs.Part.{Program};
 ghost use Rattle.first_machine.specs.Compiled.{AreLiteralsIfAny};
 ghost use Rattle.inferno_tool.specs.Built.{IsBuilt, bytes_of};
 ghost use Rattle.inferno_tool.specs.Closing.{status_of, closing_line, IsWritten};
-ghost use Rattle.inferno_tool.specs.Outcome.{Course, HasProgram, IsAccepted, IsRefusal, IsCause, IsRunEnd, IsSinkFault, IsUnrun, is_run_out, Tells, TellsProgram, IsUnlessMemory};
+ghost use Rattle.inferno_tool.specs.Outcome.{Course, HasProgram, IsAccepted, IsRefusal, IsCause, IsRunEnd, IsSinkFault, IsUnrun, is_run_out, IsSourceRefusal, Tells, TellsProgram, IsUnlessMemory};
 ghost use Rattle.inferno_tool.specs.Running.{IsRun};
 ghost use Rattle.inferno_tool.specs.Words.{named_file};
-ghost use Rattle.inferno_tool.specs.declared.cause.SourceFault.TheVariants.{Unbuilt};
 
 use crate::cause::{Cause, Ended, Left};
 use crate::closing::close;
@@ -16,10 +15,10 @@ use crate::reading::read_source;
 use crate::running::{has_risen, run_program};
 use crate::words::named_file;
 use first_host::RunEnd;
+use first_part::FirstProgram;
 use inf_ports::{HostTree, Sink};
 use inf_text::Text;
 use std::alloc::Global;
-use thin_source::Thin;
 
 /// The file that the words name, and the program in it.
 ///
@@ -29,7 +28,7 @@ fn prepare<'a, H: HostTree>(
     alloc: Global,
     words: &'a [Text],
     files: &mut H,
-) -> Result<(&'a Text, Thin), Cause>
+) -> Result<(&'a Text, FirstProgram), Cause>
     ensures accepted { IfOk result (λ x. IsAccepted words.now (H.told files.old) x.0.now x.1.name x.1.prints) }
     ensures small { IfOk result (λ x. AreLiteralsIfAny x.1.prints) }
     ensures refused { IfErr result (λ cause. IsRefusal words.now (H.told files.old) (H.faults files.old) (H.faults files.new) cause) }
@@ -39,29 +38,29 @@ fn prepare<'a, H: HostTree>(
     let Some(path) = named_file(words) else {
         return Err(Cause::Usage);
     };
-    let thin = read_source(alloc, path, files)?;
-    Ok((path, thin))
+    let program = read_source(alloc, path, files)?;
+    Ok((path, program))
 }
 
 /// Runs the program in the file at the path, and says how that ended.
 fn carry_out<K: Sink, E: Sink>(
     alloc: Global,
     path: &Text,
-    thin: &Thin,
+    program: &FirstProgram,
     out: &mut K,
     err: &E,
 ) -> (Cause, Left)
-    requires { AreLiteralsIfAny thin.now.prints }
+    requires { AreLiteralsIfAny program.now.prints }
     ensures end { IsRunEnd (K.faults out.old) (K.faults out.new) (E.faults err.now) result.0 }
-    ensures run { IsRun path.now thin.now.name thin.now.prints result.1.journal result.1.objects.items
-        (K.held out.old) (K.held out.new) (is_run_out result.0) }
-    ensures whole { result.0 ≡ Cause.Done → Appends (K.held out.old) (K.held out.new) (bytes_of thin.now.prints) }
-    ensures part { AppendsPart (K.held out.old) (K.held out.new) (bytes_of thin.now.prints) }
+    ensures run { IsRun path.now program.now.name program.now.prints result.1.journal result.1.objects.items
+        (K.held out.old) (K.held out.new) (K.faults out.old) (K.faults out.new) (is_run_out result.0) }
+    ensures whole { result.0 ≡ Cause.Done → Appends (K.held out.old) (K.held out.new) (bytes_of program.now.prints) }
+    ensures part { AppendsPart (K.held out.old) (K.held out.new) (bytes_of program.now.prints) }
     ensures later { K.faults out.old ≤ K.faults out.new }
 {
     let out_before = out.faults();
     let err_before = err.faults();
-    let (end, left) = run_program(alloc, path, thin, out);
+    let (end, left) = run_program(alloc, path, program, out);
     if end == RunEnd::NoMemory {
         return (Cause::NoMemory, left);
     }
@@ -101,7 +100,7 @@ fn decide<H: HostTree, K: Sink, E: Sink>(
         → AppendsPart (K.held out.old) (K.held out.new) (bytes_of program.prints) }
     ensures conversation { (program : Program) (t : TellsProgram words.now (H.told files.old) program)
         → IsRun t.file program.name program.prints result.1.journal result.1.objects.items
-        (K.held out.old) (K.held out.new) (is_run_out result.0) }
+        (K.held out.old) (K.held out.new) (K.faults out.old) (K.faults out.new) (is_run_out result.0) }
     ensures started { is_run_out result.0 ≡ true → IsSome result.1.journal }
     ensures quiet { IsUnrun result.0 → (K.held out.new ≡ K.held out.old) × (result.1.journal ≡ None) × (result.1.objects.items ≡ []) }
     ensures accepted { HasProgram words.now (H.told files.old)
@@ -110,7 +109,7 @@ fn decide<H: HostTree, K: Sink, E: Sink>(
     ensures later { (H.faults files.old ≤ H.faults files.new) × (K.faults out.old ≤ K.faults out.new) }
 {
     match prepare(alloc, words, files) {
-        Ok((path, thin)) => carry_out(alloc, path, &thin, out, err),
+        Ok((path, program)) => carry_out(alloc, path, &program, out, err),
         Err(cause) => {
             let left = Left {
                 journal: None,
@@ -147,14 +146,15 @@ pub fn inferno<H: HostTree, K: Sink, E: Sink>(
       err_after = E.faults err.new;
     }) result.cause }
 
-    // Other words than `go FILE` are always refused, and so is a file that isn't there and a source that isn't built.
+    // Other words than `go FILE` are always refused, and so is a file that isn't there, and a source that isn't a program
+    // of the built part, with a refusal that it has.
     ensures usage { named_file words.now ≡ None → IsUnlessMemory result.cause Cause.Usage }
     ensures missing { (file : List ℕ) → named_file words.now ≡ Some file → Tells (H.told files.old) file None
         → (Rose (H.faults files.old) (H.faults files.new) → ⊥) → IsUnlessMemory result.cause (Cause.Host file true) }
     ensures refused { (file source : List ℕ) → named_file words.now ≡ Some file → Tells (H.told files.old) file (Some source)
         → ((program : Program) → IsBuilt source program → ⊥)
         → (Rose (H.faults files.old) (H.faults files.new) → ⊥)
-        → IsUnlessMemory result.cause (Cause.BadSource file Unbuilt) }
+        → IsSourceRefusal file source result.cause }
 
     // A program of the built part is done, unless a count rises.
     ensures done { (program : Program) → TellsProgram words.now (H.told files.old) program
@@ -177,10 +177,11 @@ pub fn inferno<H: HostTree, K: Sink, E: Sink>(
         → (Rose (H.faults files.old) (H.faults files.new) → ⊥) → Rose (K.faults out.old) (K.faults out.new)
         → IsSinkFault result.cause ⊎ (result.cause ≡ Cause.NoMemory) }
 
-    // What happened: the journal over the objects, the requests, the console's replies, and the bytes that it wrote.
+    // What happened: the journal over the objects, the requests, the console's replies, and the bytes that it wrote. It
+    // answered `i/o error` only where a count rose.
     ensures conversation { (program : Program) (t : TellsProgram words.now (H.told files.old) program)
         → IsRun t.file program.name program.prints result.journal result.objects.items
-        (K.held out.old) (K.held out.new) (is_run_out result.cause) }
+        (K.held out.old) (K.held out.new) (K.faults out.old) (K.faults out.new) (is_run_out result.cause) }
     ensures started { is_run_out result.cause ≡ true → IsSome result.journal }
 
     // What stands afterwards.

@@ -69,9 +69,9 @@ returns-clause-cause g c =
 pub returns-clause-conversation : goal.returns-clause-conversation
 returns-clause-conversation g c program t =
     let left = c.decide-cause.result.1 in
-    let P : Bool → Type 0 = λ done. IsRun t.file program.name program.prints left.journal left.objects.items (g.K.Sink.held c.args.out.now) (g.K.Sink.held c.decide-cause.new.out) done in
+    let P : Bool → Type 0 = λ done. IsRun t.file program.name program.prints left.journal left.objects.items (g.K.Sink.held c.args.out.now) (g.K.Sink.held c.decide-cause.new.out) (g.K.Sink.faults c.args.out.now) (g.K.Sink.faults c.decide-cause.new.out) done in
     let run : P (is_run_out c.decide-cause.result.0) = c.decide-cause.ensures.conversation program t in
     elim c.close-cause.ensures.cause [
       | inl same ↦ subst P (ap is_run_out (sym same)) run
-      | inr memory ↦ subst P (ap is_run_out (sym memory)) (run_undone t.file program.name program.prints left.journal left.objects.items (g.K.Sink.held c.args.out.now) (g.K.Sink.held c.decide-cause.new.out) (is_run_out c.decide-cause.result.0) run)
+      | inr memory ↦ subst P (ap is_run_out (sym memory)) (run_undone t.file program.name program.prints left.journal left.objects.items (g.K.Sink.held c.args.out.now) (g.K.Sink.held c.decide-cause.new.out) (g.K.Sink.faults c.args.out.now) (g.K.Sink.faults c.decide-cause.new.out) (is_run_out c.decide-cause.result.0) run)
     ]

@@ -1,0 +1,4 @@
+mod Inside
+mod Once
+mod Prints
+mod Tops

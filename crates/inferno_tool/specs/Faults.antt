@@ -1,0 +1,89 @@
+-- Why a source is refused, by its bytes, tokens and tree; the number of each refusal, and where it stands.
+use Rattle.std.specs.Prelude.{◌≡◌, ◌≤◌, ◌<◌, ℕ, List, false}
+use Rattle.inf_text.specs.declared.span.Span.{Span}
+use Rattle.limbo_lexer.specs.declared.token.Kind.{Kind}
+use Rattle.limbo_lexer.specs.declared.fault.LexFault.{LexFault}
+use Rattle.limbo_lexer.specs.declared.fault.LexFault.TheVariants as lex
+use Rattle.limbo_lexer.specs.Causes.{IsRefused}
+use Rattle.limbo_tree.specs.Sources.{Source, IsTree, source_nesting}
+use Rattle.limbo_parser.specs.declared.tree.ParseFault.{ParseFault}
+use Rattle.limbo_parser.specs.declared.tree.ParseFault.TheVariants as parse
+use Rattle.first_part.specs.Part.{Program}
+use Rattle.inferno_tool.specs.Built.{HasTokens, HasTree, IsBuilt}
+use Rattle.inferno_tool.specs.declared.cause.SourceFault.{SourceFault}
+use Rattle.inferno_tool.specs.declared.cause.SourceFault.TheVariants.{Lex, Parse, Unbuilt}
+
+-- the number of a refusal of bytes and tokens; want of memory is none, and has 0
+abbrev pub lex_number : LexFault → ℕ
+lex_number lex.NoMemory = 0
+lex_number (lex.BadUtf8 at) = 1
+lex_number (lex.BadChar span) = 20
+lex_number (lex.BadEscape span) = 21
+lex_number (lex.NumberTooWide span) = 22
+lex_number (lex.Unclosed span) = 23
+lex_number lex.SourceTooLong = 24
+
+-- the number of a refusal of the grammar
+abbrev pub parse_number : ParseFault → ℕ
+parse_number parse.NoMemory = 0
+parse_number (parse.Syntax token) = 30
+parse_number (parse.TooDeep token) = 31
+
+abbrev pub number_of : SourceFault → ℕ
+number_of (Lex fault) = lex_number fault
+number_of (Parse fault span) = parse_number fault
+number_of Unbuilt = 25
+
+-- a line and a column
+pub record Place : Type 0 where
+  pub line : ℕ
+  pub col : ℕ
+
+abbrev pub start : Place
+start = record { line = 1; col = 1 }
+
+abbrev pub at : Span → Place
+at span = record { line = span.line; col = span.col }
+
+abbrev pub lex_place : LexFault → Place
+lex_place (lex.BadChar span) = at span
+lex_place (lex.BadEscape span) = at span
+lex_place (lex.NumberTooWide span) = at span
+lex_place (lex.Unclosed span) = at span
+lex_place _ = start
+
+-- where a refusal stands: at line 1, column 1 where it has no place of its own
+abbrev pub place_of : SourceFault → Place
+place_of (Lex fault) = lex_place fault
+place_of (Parse fault span) = at span
+place_of Unbuilt = start
+
+-- no list of tokens within the limit of nesting has a tree
+abbrev pub HasNoTree : List Kind → Type 0
+HasNoTree tokens = (tree : Source) → IsTree false tokens tree → source_nesting tree ≤ 256 → ⊥
+
+-- the tokens have no tree, whatever its nesting
+abbrev pub HasNoTreeAtAll : List Kind → Type 0
+HasNoTreeAtAll tokens = (tree : Source) → IsTree false tokens tree → ⊥
+
+-- a refusal of the grammar, and not want of memory
+abbrev pub IsParseFault : List Kind → ParseFault → Type 0
+IsParseFault tokens parse.NoMemory = ⊥
+IsParseFault tokens (parse.Syntax token) = HasNoTreeAtAll tokens
+IsParseFault tokens (parse.TooDeep token) = 256 < token
+
+-- a refusal of bytes and tokens, and not want of memory
+abbrev pub IsLexFault : LexFault → Type 0
+IsLexFault lex.NoMemory = ⊥
+IsLexFault _ = Unit {0}
+
+-- What each refusal says of the source's bytes. One of bytes and tokens says that they have no tokens, and why. One of
+-- the grammar says that their tokens have no tree within the limit of nesting; a fault of syntax, that they have none at
+-- all; a fault of depth, that more than 256 tokens stand before its place. The last says that they have a tree, and are
+-- no program of the built part.
+abbrev pub IsFault : List ℕ → SourceFault → Type 0
+IsFault source (Lex fault) = IsLexFault fault × IsRefused source fault × ((tokens : List Kind) → HasTokens source tokens → ⊥)
+IsFault source (Parse fault span) =
+    ((tokens : List Kind) × HasTokens source tokens)
+    × ((tokens : List Kind) → HasTokens source tokens → HasNoTree tokens × IsParseFault tokens fault)
+IsFault source Unbuilt = ((tree : Source) × HasTree source tree) × ((program : Program) → IsBuilt source program → ⊥)

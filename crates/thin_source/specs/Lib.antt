@@ -1,4 +1,0 @@
-pub mod Tokens
-pub mod Thin
-pub mod Pieces
-pub mod Slots
