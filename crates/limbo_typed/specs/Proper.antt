@@ -48,10 +48,10 @@ module _ (functions : List Function) (variables : List Var) where
     ProperExprs NoExprs = Unit {0}
     ProperExprs (MoreExprs e es) = ProperExpr e × ProperExprs es
 
-  -- What a `return` gives is what the function answers.
+  -- A `return` without a value is in a function without an answer, and one with a value in a function that answers an int.
   abbrev pub ProperReturn : Ty → Option Expr → Type 0
   ProperReturn answer None = answer ≡ Nothing
-  ProperReturn answer (Some e) = ProperExpr e × (type_of e ≡ answer)
+  ProperReturn answer (Some e) = ProperExpr e × (type_of e ≡ Int) × (answer ≡ Int)
 
   abbrev mutual
     pub ProperStmt : Ty → Stmt → Type 0
