@@ -1,0 +1,11 @@
+pub mod StepExamples
+pub mod Examples
+pub mod Kept
+pub mod Frames
+pub mod Lows
+pub mod Endings
+pub mod Sendable
+pub mod Sound
+pub mod Going
+pub mod Replays
+pub mod Runs

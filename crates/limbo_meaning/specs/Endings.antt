@@ -1,0 +1,17 @@
+-- A process that has ended names nothing.
+use Rattle.std.specs.Prelude.{ℕ, ◌≡◌, List, Some, slice_get}
+use Rattle.process_model.specs.Process.{Ends, Ready, Gone}
+use Rattle.process_model.specs.Source.{Steps, names}
+use Rattle.limbo_meaning.specs.Program.{Routine}
+use Rattle.limbo_meaning.specs.World.{World}
+use Rattle.limbo_meaning.specs.Process.{Process, Ending}
+use Rattle.limbo_meaning.specs.Step.{step}
+use Rattle.limbo_meaning.specs.Rules.{rules, naming}
+use Rattle.limbo_meaning.specs.Runs.{Meaning}
+
+-- Where process i takes a step whose effect is an end, it is gone after that step; and what is gone names no value of the heap.
+pub record EndsNameNothing : Type 0 where
+  pub gone : (limit : ℕ) (routines : List Routine) (c e : Meaning) (i : ℕ) (p : Process) (v : World) (how : Ending) →
+      slice_get c.processes i ≡ Some (Ready p) → step limit routines c.world p ≡ Ends v how →
+      Steps (rules limit routines) naming c i e → slice_get e.processes i ≡ Some Gone
+  pub nothing : (n : ℕ) → names naming Gone n ≡ 0

@@ -1,0 +1,15 @@
+pub mod Values
+pub mod Trees
+pub mod Program
+pub mod Evaluation
+pub mod World
+pub mod Prints
+pub mod Process
+pub mod Step
+pub mod Rules
+pub mod Runs
+pub mod Replays
+pub mod Heights
+pub mod Requests
+pub mod Endings
+pub mod Going
