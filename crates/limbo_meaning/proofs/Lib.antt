@@ -3,6 +3,7 @@ pub mod Examples
 pub mod Kept
 pub mod Frames
 pub mod Lows
+pub mod Breaks
 pub mod Endings
 pub mod Sendable
 pub mod Sound

@@ -11,5 +11,6 @@ pub mod Runs
 pub mod Replays
 pub mod Heights
 pub mod Requests
+pub mod Breaks
 pub mod Endings
 pub mod Going

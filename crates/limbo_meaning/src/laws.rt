@@ -3,6 +3,7 @@
 ghost use Rattle.limbo_meaning.specs.Replays.{ReplaysAreRuns};
 ghost use Rattle.limbo_meaning.specs.Heights.{Heights, NeverHigher, RunsStayLow};
 ghost use Rattle.limbo_meaning.specs.Requests.{RequestsAreSendable};
+ghost use Rattle.limbo_meaning.specs.Breaks.{EndsOnlySo};
 ghost use Rattle.limbo_meaning.specs.Endings.{EndsNameNothing};
 ghost use Rattle.limbo_meaning.specs.Going.{AlwaysGoing};
 
@@ -30,6 +31,11 @@ pub fn runs_stay_low()
 /// Whatever a program prints, each request is no longer than a message may be.
 pub fn requests_are_sendable()
     ensures { RequestsAreSendable }
+{}
+
+/// A process ends only as its first function returns, and breaks only where a call would be one frame more than there may be.
+pub fn ends_only_so()
+    ensures { EndsOnlySo }
 {}
 
 /// A process that ends is gone in that step, and names nothing.

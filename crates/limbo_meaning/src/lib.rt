@@ -10,15 +10,15 @@
 //! `specs/` in the order of reading: `Values` (values and operators), `Trees` (what is left to do), `Program` (the trees of a
 //! checked module), `Evaluation` (one step in an expression), `World` (what is shared), `Prints` (requests and replies),
 //! `Process` (frames), `Step` (one step of a process), `Rules` (the steps as a language of process_model), `Runs` (a run of a
-//! module). `Replays`, `Heights`, `Requests`,
-//! `Endings` and `Going` say the laws.
+//! module). `Replays`, `Heights`, `Requests`, `Breaks`, `Endings` and `Going` say the laws.
 //!
-//! In `proofs/`, `StepExamples` has each kind of step before and after, and `Examples` whole programs; all of them compute.
+//! In `proofs/`, `StepExamples` has each kind of step before and after, `Examples` and `Runs` whole programs; all of them
+//! compute. `Kept` serves any language of process_model: what each effect of a process keeps, each run keeps.
 #![tactic(auto)]
 
 mod laws;
 
 pub use laws::{
-    always_going, ends_name_nothing, heights, never_higher, replays_are_runs,
+    always_going, ends_name_nothing, ends_only_so, heights, never_higher, replays_are_runs,
     requests_are_sendable, runs_stay_low,
 };
