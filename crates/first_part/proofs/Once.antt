@@ -1,10 +1,10 @@
 -- A tree is one program at most; what its parts say.
-use Rattle.std.proofs.Common.{◌≡◌, ◌≤◌, ◌<◌, ℕ, Option, Some, None, List, [], ◌∷◌, map, get_or, ap, ◌∙◌, refl, sym, subst}
+use Rattle.std.proofs.Common.{◌≡◌, ℕ, Option, Some, None, List, [], ◌∷◌, map, get_or, ap, ◌∙◌, refl, sym, subst}
 use Rattle.limbo_tree.specs.declared.decl.FnType as code_fn
 use Rattle.limbo_tree.specs.declared.decl.Param as code_param
 use Rattle.limbo_tree.specs.Decls.{Param, FnType}
-use Rattle.limbo_tree.specs.Stmts.{Stmt, Stmts, NoStmts, MoreStmts, Plain}
-use Rattle.limbo_tree.specs.Sources.{Source, Top, Defined}
+use Rattle.limbo_tree.specs.Stmts.{Stmts, NoStmts, MoreStmts, Plain}
+use Rattle.limbo_tree.specs.Sources.{Source}
 use Rattle.limbo_tree.specs.View.{view_param, view_fn}
 use Rattle.first_part.specs.Part.{Parameters, Program, parameter, context_type, words_type, init_type, print, prints, load_sys, body, declaration, definition, tree_with, tree_of, IsAllowed, IsProgram, OneProgram}
 use Rattle.first_part.specs.declared.front.Front.{Front}

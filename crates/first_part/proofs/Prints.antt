@@ -11,7 +11,7 @@ use Rattle.limbo_tree.specs.declared.decl.Member.TheVariants as make_member
 use Rattle.limbo_tree.specs.declared.stmt.Stmt as code_stmt
 use Rattle.limbo_tree.specs.Exprs as tree
 use Rattle.limbo_tree.specs.Decls.{FnMember, NoMembers, MoreMembers}
-use Rattle.limbo_tree.specs.Stmts.{Stmt, Stmts, NoStmts, MoreStmts}
+use Rattle.limbo_tree.specs.Stmts.{Stmt, NoStmts, MoreStmts}
 use Rattle.limbo_tree.specs.View.{exprs_of, names_of, stmts_of, view_expr, view_fn, view_member, view_members, view_stmt, view_stmts}
 use Rattle.first_part.specs.declared.front.Pair.{Pair}
 use Rattle.first_part.specs.Part.{Parameters, init_type, init_member, load_sys, print, prints, body}

@@ -1,5 +1,5 @@
 -- What stands at the top level of a source.
-use Rattle.std.proofs.Common.{◌≡◌, ◌≤◌, ◌<◌, ℕ, zero, suc, Option, Some, None, List, [], ◌∷◌, map, length, get_or, codes, arith, ap, ◌∙◌, refl, sym}
+use Rattle.std.proofs.Common.{◌≡◌, ◌≤◌, ◌<◌, ℕ, zero, suc, Option, Some, List, [], ◌∷◌, map, length, get_or, codes, arith, ap, ◌∙◌, sym}
 use Rattle.limbo_tree.specs.declared.name.Name as code_name
 use Rattle.limbo_tree.specs.declared.source.Function as code_function
 use Rattle.limbo_tree.specs.declared.source.Source as code_source

@@ -1,5 +1,5 @@
 -- What reading a source answers, from what its tokens, its tree and its program are.
-use Rattle.std.proofs.Common.{◌≡◌, ◌≢◌, ◌≤◌, ◌<◌, ℕ, List, All, length, map, false, Result, Ok, Err, Some, None, encode_utf8_all, refl, subst, sym, ap, ◌∙◌}
+use Rattle.std.proofs.Common.{◌≡◌, ◌≢◌, ◌≤◌, ◌<◌, ℕ, List, All, length, map, false, Result, Ok, Err, encode_utf8_all, refl, subst, sym, ap, ◌∙◌}
 use Rattle.std.specs.Prelude.{IfOk, IfErr, MatchResult, IfSome}
 use Rattle.limbo_lexer.specs.declared.token.Kind.{Kind}
 use Rattle.limbo_lexer.specs.declared.token.Token.{Token}
@@ -15,10 +15,8 @@ use Rattle.first_part.specs.declared.fault.PartFault.TheVariants as part
 use Rattle.first_part.specs.declared.program.FirstProgram.{FirstProgram}
 use Rattle.first_part.specs.Part.{Program, IsProgram}
 use Rattle.first_machine.specs.Compiled.{AreLiteralsIfAny}
-use Rattle.inferno_tool.specs.declared.reading.ReadFault.{ReadFault}
 use Rattle.inferno_tool.specs.declared.reading.ReadFault.TheVariants as read
 use Rattle.inferno_tool.specs.Built.{HasTokens, HasTree, IsBuilt}
-use Rattle.inferno_tool.specs.Faults.{IsFault, HasNoTree}
 use Rattle.inferno_tool.specs.Reading.{IsReadFault, unlexed, unparsed, built}
 use Rattle.inferno_tool.proofs.Literals.{literals_fit}
 

@@ -1,5 +1,5 @@
 -- Why a source is refused, by its bytes, tokens and tree; the number of each refusal, and where it stands.
-use Rattle.std.specs.Prelude.{◌≡◌, ◌≤◌, ◌<◌, ℕ, List, false}
+use Rattle.std.specs.Prelude.{◌≤◌, ◌<◌, ℕ, List, false}
 use Rattle.inf_text.specs.declared.span.Span.{Span}
 use Rattle.limbo_lexer.specs.declared.token.Kind.{Kind}
 use Rattle.limbo_lexer.specs.declared.fault.LexFault.{LexFault}

@@ -1,9 +1,9 @@
-use Rattle.std.proofs.Common.{◌≡◌, ◌<◌, List, ℕ, Option, Some, None, length, drop, arith, ap, sym, ◌∙◌}
+use Rattle.std.proofs.Common.{drop, arith, ap, sym, ◌∙◌}
 use Rattle.std.proofs.lemmas.Grind.{common_steps}
 use Rattle.std.proofs.lemmas.Bool.{iff_false}
 use Rattle.std.proofs.lemmas.Result.{err_from_is_err_and}
-use Rattle.limbo_tree.specs.Stmts.{NoStmts, MoreStmts}
-use Rattle.limbo_tree.specs.View.{view_stmt, view_stmts}
+use Rattle.limbo_tree.specs.Stmts.{MoreStmts}
+use Rattle.limbo_tree.specs.View.{view_stmts}
 use Rattle.first_part.specs.Part.{load_sys, prints}
 use Rattle.first_part.proofs.Prints.{no_stmts, first_stmt, other_body, loaded_body, behind_first}
 use Rattle.first_part.proofs.body.body_in.Goals as goal

@@ -1,5 +1,4 @@
-use Rattle.std.proofs.Common.{◌≡◌, ◌++◌, ◌∷◌, [], List, ℕ, map, subst, sym, ap, ◌∙◌}
-use Rattle.limbo_tree.specs.View.{view_stmt}
+use Rattle.std.proofs.Common.{◌≡◌, ◌++◌, ◌∷◌, [], List, ℕ, map, sym, ap, ◌∙◌}
 use Rattle.first_part.specs.Part.{print}
 use Rattle.first_part.proofs.Prints.{each_print, prints_all, more_print, all_so_far}
 use Rattle.first_part.proofs.body.prints_in.Goals as goal

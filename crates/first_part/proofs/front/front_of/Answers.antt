@@ -1,6 +1,6 @@
 use Rattle.limbo_tree.specs.View.{view_stmts}
 use Rattle.first_part.specs.Slots.{pair_names}
-use Rattle.first_part.proofs.Tops.{declared_in, defined_in, Five, tree_is}
+use Rattle.first_part.proofs.Tops.{declared_in, defined_in, tree_is}
 use Rattle.first_part.proofs.front.front_of.Goals as goal
 
 pub returns-in_default-declared : goal.returns-in_default-declared

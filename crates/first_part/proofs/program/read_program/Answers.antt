@@ -1,7 +1,7 @@
 use Rattle.std.proofs.Common.{◌≡◌, ap, sym, ◌∙◌}
 use Rattle.std.proofs.lemmas.Bool.{iff_false}
 use Rattle.limbo_tree.specs.View.{view_source, view_stmts}
-use Rattle.first_part.specs.Part.{Program, body, tree_of}
+use Rattle.first_part.specs.Part.{Program, body}
 use Rattle.first_part.specs.Slots.{front_program}
 use Rattle.first_part.proofs.Once.{program_once, found_is, allowed_too}
 use Rattle.first_part.proofs.program.read_program.Goals as goal

@@ -1,4 +1,4 @@
-use Rattle.std.proofs.Common.{◌≡◌, Err, subst, sym, ap, ◌∙◌}
+use Rattle.std.proofs.Common.{Err, subst, sym, ap, ◌∙◌}
 use Rattle.limbo_parser.specs.declared.tree.ParseFault.{ParseFault}
 use Rattle.inferno_tool.specs.declared.reading.ReadFault.{ReadFault}
 use Rattle.inferno_tool.specs.Reading.{IsReadFault, unparsed}
