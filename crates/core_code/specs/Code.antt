@@ -1,0 +1,35 @@
+-- Three-address code, as plain data.
+use Rattle.std.specs.Prelude.{ℕ, ℤ, List, map}
+use Rattle.limbo_typed.specs.Typed.{Operator, Piece}
+
+-- An instruction; slots are numbers.
+pub data Inst : Type 0 where
+  -- a slot gets a number; what another slot has; the result of an operator on two
+  Set : (into : ℕ) → ℤ → Inst
+  Move : (into from : ℕ) → Inst
+  Operate : Operator → (into left right : ℕ) → Inst
+  -- so many instructions are passed where a slot has 0; always; or control goes so many back
+  Unless : (condition passes : ℕ) → Inst
+  Jump : (passes : ℕ) → Inst
+  Back : (by : ℕ) → Inst
+  -- a function is called, or a text printed, with the values of so many slots from one on, and the answer goes into a slot
+  Call : (function args count into : ℕ) → Inst
+  Print : List Piece → (args count into : ℕ) → Inst
+  -- the function ends, and answers what a slot has, or 0
+  Return : (value : ℕ) → Inst
+  Leave : Inst
+
+-- A function: how many variables it has, how many slots, and its instructions.
+pub record Function : Type 0 where
+  pub name : List ℕ
+  pub variables : ℕ
+  pub slots : ℕ
+  pub code : List Inst
+
+pub record Module : Type 0 where
+  pub name : List ℕ
+  pub functions : List Function
+
+-- The instructions of each function.
+abbrev pub bodies : Module → List (List Inst)
+bodies m = map (λ f. f.code) m.functions
