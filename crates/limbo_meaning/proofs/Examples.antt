@@ -131,7 +131,7 @@ factorial_of_three = refl
 
 -- ---- init() { i := 0; while(i < 3) i = i + 1; sys->print("%d", i); }
 
-loop : Module
+unfoldable pub loop : Module
 loop = made_of (function [] Nothing 1 (MoreStmts (Assign 0 (num 0)) (MoreStmts (While (op Less (var 0) (num 3)) (does (Assign 0 (op Add (var 0) (num 1))))) (does (printing_one (var 0))))) ∷ [])
 
 -- it prints 3
@@ -141,7 +141,7 @@ loops = refl
 
 -- ---- f() { f(); }  init() { f(); }
 
-endless : Module
+unfoldable pub endless : Module
 endless = made_of (function [] Nothing 0 (does (Eval (Call Nothing 1 NoExprs))) ∷ function [] Nothing 0 (does (Eval (Call Nothing 1 NoExprs))) ∷ [])
 
 -- with room for three frames the third call is one too many
@@ -151,7 +151,7 @@ overflows = refl
 
 -- ---- init() { sys->print(""); sys->print("%d%%", 5); }
 
-texts : Module
+unfoldable pub texts : Module
 texts = made_of (function [] Nothing 0 (MoreStmts (Print [] NoExprs) (does (Print (Decimal ∷ Chars (37 ∷ []) ∷ []) (MoreExprs (num 5) NoExprs)))) ∷ [])
 
 -- the first asks nothing; the second asks for the bytes of 5%
@@ -177,7 +177,7 @@ refused_too = refl
 -- ---- a(): int { sys->print("%d", 1); return 1; }  b() the same with 2;  f(x, y: int): int { return x - y; }
 -- init() { sys->print("%d", f(a(), b()) == 2147483647 + 1); }
 
-ordered : Module
+unfoldable pub ordered : Module
 ordered = made_of (
     function [] Nothing 0 (does (printing_one (op Equal (Call Int 3 (MoreExprs (Call Int 1 NoExprs) (MoreExprs (Call Int 2 NoExprs) NoExprs))) (op Subtract (num 0) (num 1)))))
     ∷ function [] Int 0 (MoreStmts (printing_one (num 1)) (does (Return (Some (num 1)))))
@@ -192,7 +192,7 @@ in_order = refl
 
 -- ---- init() { sys->print("%d", 2147483647 + 1); }
 
-wrapping : Module
+unfoldable pub wrapping : Module
 wrapping = made_of (function [] Nothing 0 (does (printing_one (op Add (num 2147483647) (num 1)))) ∷ [])
 
 -- it prints -2147483648

@@ -1,0 +1,9 @@
+pub mod Terms
+pub mod Blocks
+pub mod Bursts
+pub mod Steps
+pub mod Acts
+pub mod Follows
+pub mod Fresh
+pub mod Keeps
+pub mod Examples

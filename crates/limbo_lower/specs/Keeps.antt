@@ -1,0 +1,40 @@
+-- What the code of a module keeps of its meaning.
+use Rattle.std.specs.Prelude.{ℕ, ◌≡◌, ◌+◌, List, [], ◌∷◌, length, Some, slice_get}
+use Rattle.styx_msg.specs.declared.message.Rmsg.{Rmsg}
+use Rattle.process_model.specs.Machine.{State, Event, replay}
+use Rattle.process_model.specs.Law.{begins_code}
+use Rattle.process_model.specs.Plain.{PlainFollows, no_counts}
+use Rattle.limbo_typed.specs.Typed.{Module}
+use Rattle.limbo_meaning.specs.Values.{Value}
+use Rattle.limbo_meaning.specs.Program.{Routine, routines_of}
+use Rattle.limbo_meaning.specs.World.{World, opening_world}
+use Rattle.limbo_meaning.specs.Prints.{Request}
+use Rattle.limbo_meaning.specs.Process.{Ending}
+use Rattle.limbo_meaning.specs.Runs.{first_process, frames_limit}
+use Rattle.limbo_meaning.specs.Replays.{HasRun}
+use Rattle.core_code.specs.Code as core
+use Rattle.core_code.specs.Code.{bodies}
+use Rattle.core_code.specs.Machine.{Process}
+use Rattle.core_code.specs.Rules as core_rules
+use Rattle.limbo_lower.specs.Stands.{Stands, sides}
+
+-- The code follows the meaning: whatever one process of the code does next, the module's process that it stands for does too,
+-- after some steps of its own, and at least one step for each instruction; and both begin alike.
+pub record Keeps (m : Module) (c : core.Module) : Type 0 where
+  pub follows : PlainFollows (sides (routines_of m) (bodies c))
+  pub pace : follows.bound ≡ 1
+  pub begins : (init : ℕ) (first : Routine) → slice_get (routines_of m) init ≡ Some first →
+      Stands (routines_of m) (first_process first) (core_rules.first_process init)
+
+-- Whatever journal a machine of the code keeps, what it tells is told of a run of the module.
+abbrev pub JournalsAreRuns : Module → core.Module → Type 0
+JournalsAreRuns m c =
+    (init : ℕ) (first : Routine) → slice_get (routines_of m) init ≡ Some first →
+    (longest : ℕ) (journal : List (Event Rmsg)) (t : State World Process Value Request Rmsg Ending) →
+    replay (core_rules.rules frames_limit (bodies c)) no_counts longest (begins_code opening_world (core_rules.first_process init)) journal ≡ Some t →
+    HasRun m init t.trace
+
+-- How many instructions all functions have.
+abbrev pub instructions : List core.Function → ℕ
+instructions [] = 0
+instructions (f ∷ fs) = length f.code + instructions fs

@@ -1,0 +1,4 @@
+pub mod Sizes
+pub mod Code
+pub mod Stands
+pub mod Keeps
