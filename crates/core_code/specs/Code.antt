@@ -12,9 +12,12 @@ pub data Inst : Type 0 where
   Unless : (condition passes : ℕ) → Inst
   Jump : (passes : ℕ) → Inst
   Back : (by : ℕ) → Inst
-  -- a function is called, or a text printed, with the values of so many slots from one on, and the answer goes into a slot
+  -- a function is called with the values of so many slots from one on, and the answer goes into a slot
   Call : (function args count into : ℕ) → Inst
-  Print : List Piece → (args count into : ℕ) → Inst
+  -- the format of the print that comes next; a text is printed by it, with the values of so many slots from one on, and the answer
+  -- goes into a slot
+  Format : List Piece → Inst
+  Print : (args count into : ℕ) → Inst
   -- the function ends, and answers what a slot has, or 0
   Return : (value : ℕ) → Inst
   Leave : Inst

@@ -1,6 +1,7 @@
 -- One process of three-address code: its frames, and what becomes of them at a call, at a return and at a print.
 use Rattle.std.specs.Prelude.{ℕ, zero, suc, List, [], ◌∷◌, length, Option, Some, None, slice_index_or, nat_eq, nat_lt, codes, if◌then◌else◌}
 use Rattle.process_model.specs.Process.{Effect, Went, Parks, Asks, Ends}
+use Rattle.limbo_typed.specs.Typed.{Piece}
 use Rattle.limbo_meaning.specs.Values.{Value, zero_value}
 use Rattle.limbo_meaning.specs.World.{World}
 use Rattle.limbo_meaning.specs.Prints.{Request, Writing, Printing, Answers, Requests, NoReply}
@@ -20,13 +21,14 @@ abbrev pub taken : Slots → ℕ → ℕ → List Value
 taken slots from zero = []
 taken slots from (suc n) = slots from ∷ taken slots (suc from) n
 
--- A call of a function: the function's number, the place in its code, its slots, and the slot that the answer goes into for which
--- the frame waits, if it waits for one.
+-- A call of a function: the function's number, the place in its code, its slots, the slot that the answer goes into for which the
+-- frame waits, if it waits for one, and the format of the print that comes next.
 pub record Frame : Type 0 where
   pub function : ℕ
   pub pc : ℕ
   pub slots : Slots
   pub into : ℕ
+  pub format : List Piece
 
 -- A process: its number, the frame that runs, the frames that wait for it, the latest first, and the print that waits for a
 -- reply, if one does.
@@ -45,15 +47,19 @@ height p = suc (length p.below)
 
 -- A function begins: the arguments are in the first slots, and the others have 0.
 abbrev pub entered : (function : ℕ) → List Value → Frame
-entered f args = record { function = f; pc = 0; slots = λ s. slice_index_or args s zero_value; into = 0 }
+entered f args = record { function = f; pc = 0; slots = λ s. slice_index_or args s zero_value; into = 0; format = [] }
 
 -- A frame at this place, with these slots.
 abbrev pub moved : Frame → (pc : ℕ) → Slots → Frame
-moved f pc slots = record { function = f.function; pc = pc; slots = slots; into = f.into }
+moved f pc slots = record { function = f.function; pc = pc; slots = slots; into = f.into; format = f.format }
 
 -- A frame that waits at this place for an answer, which goes into this slot.
 abbrev pub waiting : Frame → (pc into : ℕ) → Frame
-waiting f pc into = record { function = f.function; pc = pc; slots = f.slots; into = into }
+waiting f pc into = record { function = f.function; pc = pc; slots = f.slots; into = into; format = f.format }
+
+-- A frame at this place, with this format.
+abbrev pub formatted : Frame → (pc : ℕ) → List Piece → Frame
+formatted f pc pieces = record { function = f.function; pc = pc; slots = f.slots; into = f.into; format = pieces }
 
 -- The process with these frames.
 abbrev pub with_frames : Process → Frame → List Frame → Process

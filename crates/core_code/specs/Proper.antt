@@ -1,7 +1,7 @@
 -- Code that names only what is there: each slot is one of its function's, a call's function is one of the module's and has slots
 -- for the arguments, each jump leads into the code, and so does control where it goes on.
 use Rattle.std.specs.Prelude.{ℕ, suc, ◌+◌, ◌<◌, ◌≤◌, ◌≡◌, List, length, Some, slice_get}
-use Rattle.core_code.specs.Code.{Inst, Set, Move, Operate, Unless, Jump, Back, Call, Print, Return, Leave, Function, Module}
+use Rattle.core_code.specs.Code.{Inst, Set, Move, Operate, Unless, Jump, Back, Call, Format, Print, Return, Leave, Function, Module}
 
 -- The module has this function, with slots for so many arguments.
 pub record Takes (functions : List Function) (number count : ℕ) : Type 0 where
@@ -19,7 +19,8 @@ module _ (functions : List Function) (slots : ℕ) (size : ℕ) where
   ProperInst pc (Jump n) = suc pc + n < size
   ProperInst pc (Back n) = n ≤ pc
   ProperInst pc (Call f args count into) = Takes functions f count × (args + count ≤ slots) × (into < slots) × (suc pc < size)
-  ProperInst pc (Print pieces args count into) = (args + count ≤ slots) × (into < slots) × (suc pc < size)
+  ProperInst pc (Format pieces) = suc pc < size
+  ProperInst pc (Print args count into) = (args + count ≤ slots) × (into < slots) × (suc pc < size)
   ProperInst pc (Return value) = value < slots
   ProperInst pc Leave = Unit {0}
 

@@ -1,11 +1,12 @@
 -- One instruction of a process.
 use Rattle.std.specs.Prelude.{ℕ, suc, ◌+◌, ◌-◌, Bool, true, false, List, Option, Some, None, slice_get}
 use Rattle.styx_msg.specs.declared.message.Rmsg.{Rmsg}
+use Rattle.process_model.specs.Process.{Went}
 use Rattle.limbo_meaning.specs.Values.{Num, zero_value, holds, result_of}
 use Rattle.limbo_meaning.specs.World.{World}
 use Rattle.limbo_meaning.specs.Prints.{Writing, text_of, print, hear}
-use Rattle.core_code.specs.Code.{Inst, Set, Move, Operate, Unless, Jump, Back, Call, Print, Return, Leave}
-use Rattle.core_code.specs.Machine.{Process, Does, put, taken, stands_still, goes, returns, calls, prints, hears}
+use Rattle.core_code.specs.Code.{Inst, Set, Move, Operate, Unless, Jump, Back, Call, Format, Print, Return, Leave}
+use Rattle.core_code.specs.Machine.{Process, Does, put, taken, formatted, with_frames, stands_still, goes, returns, calls, prints, hears}
 
 abbrev pub chosen : Bool → ℕ → ℕ → ℕ
 chosen true a b = a
@@ -26,7 +27,8 @@ module _ (limit : ℕ) (functions : List (List Inst)) where
   obey w p (Jump n) = goes w p (suc p.frame.pc + n) p.frame.slots
   obey w p (Back n) = goes w p (p.frame.pc - n) p.frame.slots
   obey w p (Call f args count into) = calls limit w p into f (slice_get functions f) (taken p.frame.slots args count)
-  obey w p (Print pieces args count into) = prints w p into (print w (text_of pieces (taken p.frame.slots args count)))
+  obey w p (Format pieces) = Went w (with_frames p (formatted p.frame (suc p.frame.pc) pieces) p.below)
+  obey w p (Print args count into) = prints w p into (print w (text_of p.frame.format (taken p.frame.slots args count)))
   obey w p (Return value) = returns w p p.below (p.frame.slots value)
   obey w p Leave = returns w p p.below zero_value
 

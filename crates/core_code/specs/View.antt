@@ -5,7 +5,7 @@ use Rattle.core_code.specs.declared.code.CoreInst as code_inst
 use Rattle.core_code.specs.declared.code.CoreInst.TheVariants as inst
 use Rattle.core_code.specs.declared.code.CoreFn as code_fn
 use Rattle.core_code.specs.declared.code.CoreModule as code_module
-use Rattle.core_code.specs.Code.{Inst, Set, Move, Operate, Unless, Jump, Back, Call, Print, Return, Leave, Function, Module}
+use Rattle.core_code.specs.Code.{Inst, Set, Move, Operate, Unless, Jump, Back, Call, Format, Print, Return, Leave, Function, Module}
 
 abbrev pub view_inst : code_inst.CoreInst → Inst
 view_inst (inst.Set into value) = Set into value
@@ -15,7 +15,8 @@ view_inst (inst.Unless condition passes) = Unless condition passes
 view_inst (inst.Jump passes) = Jump passes
 view_inst (inst.Back by) = Back by
 view_inst (inst.Call f args count into) = Call f args count into
-view_inst (inst.Print format args count into) = Print (map view_piece format.items) args count into
+view_inst (inst.Format pieces) = Format (map view_piece pieces.items)
+view_inst (inst.Print args count into) = Print args count into
 view_inst (inst.Return value) = Return value
 view_inst inst.Leave = Leave
 

@@ -42,10 +42,13 @@ pub enum CoreInst {
         count: u32,
         into: u32,
     },
-    /// A text is printed: the pieces of a format, with the values of so many slots, from one on. How many bytes were written goes
-    /// into a slot.
+    /// The format of the print that comes next.
+    Format {
+        pieces: Vec<Piece>,
+    },
+    /// A text is printed: by the format that came last, with the values of so many slots, from one on. How many bytes were written
+    /// goes into a slot.
     Print {
-        format: Vec<Piece>,
         args: u32,
         count: u32,
         into: u32,

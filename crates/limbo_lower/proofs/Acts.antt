@@ -16,6 +16,8 @@ use Rattle.limbo_meaning.specs.Process as source
 use Rattle.limbo_meaning.specs.Process.{framed, frame_of, Ended, Broken}
 use Rattle.limbo_meaning.specs.Step as source_step
 use Rattle.limbo_meaning.specs.Runs.{frames_limit}
+use Rattle.core_code.specs.Code as core
+use Rattle.core_code.specs.Code.{Inst}
 use Rattle.core_code.specs.Machine as machine
 use Rattle.core_code.specs.Machine.{Slots, put}
 use Rattle.core_code.specs.Step as core_step
@@ -24,10 +26,18 @@ use Rattle.limbo_lower.specs.Stands.{FreshRoutines, FrameStands, FrameWaits, All
 use Rattle.limbo_lower.proofs.Bursts.{at_once, one_step}
 use Rattle.limbo_lower.proofs.Steps.{as_long, bodies, entered_stands}
 
-module _ (m : List Routine) (fresh : FreshRoutines m) where
+-- Between a format and its print no step is made: a process is further at the print.
+abbrev pub rank : Option Inst → ℕ
+rank (Some (core.Print args count into)) = 1
+rank _ = 0
+
+abbrev pub place : List (List Inst) → machine.Process → ℕ
+place bodies q = rank (core_step.fetch (slice_get bodies q.frame.function) q.frame.pc)
+
+module _ (m : List Routine) (fresh : FreshRoutines m) (at : ℕ) where
   -- The source does, after some steps, what the code does.
   abbrev pub Matches : World → source.Process → machine.Does → Type 0
-  Matches w p e = PlainMatches (sides m (bodies m fresh)) (λ q. 0) 0 w p e
+  Matches w p e = PlainMatches (sides m (bodies m fresh)) (place (bodies m fresh)) at w p e
 
   abbrev pub does : World → source.Process → source.Does
   does w p = source_step.step frames_limit m w p
@@ -44,7 +54,7 @@ module _ (m : List Routine) (fresh : FreshRoutines m) where
 
   -- Both go on.
   pub both_go : (w v : World) (p p' : source.Process) (q' : machine.Process) → does w p ≡ Went v p' → Stands m p' q' → Matches w p (Went v q')
-  both_go w v p p' q' st r = one_step (sides m (bodies m fresh)) (λ q. 0) 0 w v p p' v q' st r refl
+  both_go w v p p' q' st r = one_step (sides m (bodies m fresh)) (place (bodies m fresh)) at w v p p' v q' st r refl
 
   -- Both return.
   pub both_return : (w : World) (p : source.Process) (q : machine.Process) (v v' : Value) (fs : List source.Frame) (ts : List machine.Frame) →

@@ -14,7 +14,7 @@ use Rattle.limbo_meaning.specs.Prints.{Request}
 use Rattle.limbo_meaning.specs.Process.{Ending}
 use Rattle.limbo_meaning.specs.Runs.{Trace}
 use Rattle.limbo_meaning.proofs.Examples.{told, factorial, loop, endless, texts, ordered, wrapping}
-use Rattle.core_code.specs.Code.{Set, Move, Operate, Unless, Jump, Call, Print, Return, Leave, bodies}
+use Rattle.core_code.specs.Code.{Set, Move, Operate, Unless, Jump, Call, Format, Print, Return, Leave, bodies}
 use Rattle.core_code.specs.Machine.{Process}
 use Rattle.core_code.specs.Rules.{rules, first_process}
 use Rattle.limbo_lower.specs.Code.{module_code}
@@ -29,7 +29,7 @@ told_of_code limit m journal = traced (replay (rules limit (bodies (module_code 
 
 -- the code of the factorial
 factorial_code : bodies (module_code factorial) ≡
-    (Set 0 (pos 3) ∷ Call 1 0 1 0 ∷ Print (Decimal ∷ []) 0 1 0 ∷ Leave ∷ [])
+    (Set 0 (pos 3) ∷ Call 1 0 1 0 ∷ Format (Decimal ∷ []) ∷ Print 0 1 0 ∷ Leave ∷ [])
     ∷ (Move 1 0 ∷ Set 2 (pos 0) ∷ Operate Equal 1 1 2 ∷ Unless 1 3 ∷ Set 1 (pos 1) ∷ Return 1 ∷ Jump 0
     ∷ Move 1 0 ∷ Move 2 0 ∷ Set 3 (pos 1) ∷ Operate Subtract 2 2 3 ∷ Call 1 2 1 2 ∷ Operate Multiply 1 1 2 ∷ Return 1 ∷ Leave ∷ [])
     ∷ []
@@ -37,11 +37,11 @@ unfolding factorial
 factorial_code = refl
 
 -- what each program tells, and what its code tells, where the journals of the code have fewer instructions
-factorials : told_of_code 10000 factorial (Quantum 0 42 ∷ Reply 0 (r.Write 1) ∷ Quantum 0 1 ∷ []) ≡ told 10000 factorial (Quantum 0 49 ∷ Reply 0 (r.Write 1) ∷ Quantum 0 2 ∷ [])
+factorials : told_of_code 10000 factorial (Quantum 0 43 ∷ Reply 0 (r.Write 1) ∷ Quantum 0 1 ∷ []) ≡ told 10000 factorial (Quantum 0 49 ∷ Reply 0 (r.Write 1) ∷ Quantum 0 2 ∷ [])
 unfolding factorial int_wrap digits lib.Utf8.encode traced told_of_code
 factorials = refl
 
-loops : told_of_code 10000 loop (Quantum 0 35 ∷ Reply 0 (r.Write 1) ∷ Quantum 0 1 ∷ []) ≡ told 10000 loop (Quantum 0 44 ∷ Reply 0 (r.Write 1) ∷ Quantum 0 2 ∷ [])
+loops : told_of_code 10000 loop (Quantum 0 36 ∷ Reply 0 (r.Write 1) ∷ Quantum 0 1 ∷ []) ≡ told 10000 loop (Quantum 0 44 ∷ Reply 0 (r.Write 1) ∷ Quantum 0 2 ∷ [])
 unfolding loop int_wrap digits lib.Utf8.encode traced told_of_code
 loops = refl
 
@@ -49,15 +49,15 @@ overflows : told_of_code 3 endless (Quantum 0 3 ∷ []) ≡ told 3 endless (Quan
 unfolding endless traced told_of_code
 overflows = refl
 
-prints_texts : told_of_code 10000 texts (Quantum 0 3 ∷ Reply 0 (r.Write 2) ∷ Quantum 0 1 ∷ []) ≡ told 10000 texts (Quantum 0 4 ∷ Reply 0 (r.Write 2) ∷ Quantum 0 2 ∷ [])
+prints_texts : told_of_code 10000 texts (Quantum 0 5 ∷ Reply 0 (r.Write 2) ∷ Quantum 0 1 ∷ []) ≡ told 10000 texts (Quantum 0 4 ∷ Reply 0 (r.Write 2) ∷ Quantum 0 2 ∷ [])
 unfolding texts int_wrap digits lib.Utf8.encode traced told_of_code
 prints_texts = refl
 
-in_order : told_of_code 10000 ordered (Quantum 0 3 ∷ Reply 0 (r.Write 1) ∷ Quantum 0 5 ∷ Reply 0 (r.Write 1) ∷ Quantum 0 12 ∷ Reply 0 (r.Write 1) ∷ Quantum 0 1 ∷ [])
+in_order : told_of_code 10000 ordered (Quantum 0 4 ∷ Reply 0 (r.Write 1) ∷ Quantum 0 6 ∷ Reply 0 (r.Write 1) ∷ Quantum 0 13 ∷ Reply 0 (r.Write 1) ∷ Quantum 0 1 ∷ [])
     ≡ told 10000 ordered (Quantum 0 3 ∷ Reply 0 (r.Write 1) ∷ Quantum 0 6 ∷ Reply 0 (r.Write 1) ∷ Quantum 0 13 ∷ Reply 0 (r.Write 1) ∷ Quantum 0 2 ∷ [])
 unfolding ordered int_wrap digits lib.Utf8.encode traced told_of_code
 in_order = refl
 
-wraps : told_of_code 10000 wrapping (Quantum 0 4 ∷ Reply 0 (r.Write 11) ∷ Quantum 0 1 ∷ []) ≡ told 10000 wrapping (Quantum 0 4 ∷ Reply 0 (r.Write 11) ∷ Quantum 0 2 ∷ [])
+wraps : told_of_code 10000 wrapping (Quantum 0 5 ∷ Reply 0 (r.Write 11) ∷ Quantum 0 1 ∷ []) ≡ told 10000 wrapping (Quantum 0 4 ∷ Reply 0 (r.Write 11) ∷ Quantum 0 2 ∷ [])
 unfolding wrapping int_wrap digits lib.Utf8.encode traced told_of_code
 wraps = refl

@@ -21,18 +21,18 @@ same_bodies : (fs : List typed.Function) → map (λ f. f.code) (map function_co
 same_bodies [] = refl
 same_bodies (f ∷ fs) = ap (λ l. routine_code (routine_of f) ∷ l) (same_bodies fs)
 
--- A simulation with bound 1.
-record Follows1 (m : Module) (code : List (List Inst)) : Type 0 where
+-- A simulation with bound 2.
+record FollowsBy (m : Module) (code : List (List Inst)) : Type 0 where
   follows : PlainFollows (sides (routines_of m) code)
-  pace : follows.bound ≡ 1
+  pace : follows.bound ≡ 2
 
-follows_once : (m : Module) → IsProper m → Follows1 m (map routine_code (routines_of m))
+follows_once : (m : Module) → IsProper m → FollowsBy m (map routine_code (routines_of m))
 unfolding follows
 follows_once m proper = record { follows = follows (routines_of m) (all_fresh m proper); pace = refl }
 
 pub keeps : (m : Module) → IsProper m → Keeps m (module_code m)
 keeps m proper =
-    let h = subst (Follows1 m) (sym (same_bodies m.functions)) (follows_once m proper) in
+    let h = subst (FollowsBy m) (sym (same_bodies m.functions)) (follows_once m proper) in
     record {
       follows = h.follows;
       pace = h.pace;

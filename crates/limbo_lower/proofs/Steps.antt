@@ -48,14 +48,14 @@ stm_goes n slots u within K t Blocked same filled kept h = h
 -- Of a print, whose code has the number of its arguments.
 pub print_goes : (n : ℕ) (slots : Slots) (pieces : List Piece) (K : Slots → Stm → Type 0) (ts : Terms) (g : Progress (List Value) Terms) →
     ((ts : Terms) (s : Slots) → AllHold n s n ts → K s (Print pieces ts)) →
-    TermsGo n slots ts n g → StmGoes n slots (terms_code n ts ++ core.Print pieces n (count ts) n ∷ []) (λ ts. Print pieces ts) K (λ vs. (terms_code n ts ≡ []) × (taken slots n (count ts) ≡ vs)) g
+    TermsGo n slots ts n g → StmGoes n slots (terms_code n ts ++ core.Format pieces ∷ core.Print n (count ts) n ∷ []) (λ ts. Print pieces ts) K (λ vs. (terms_code n ts ≡ []) × (taken slots n (count ts) ≡ vs)) g
 print_goes n slots pieces K ts (Finished vs) kept h = (h.0, h.1)
 print_goes n slots pieces K ts (Stepped ts') kept h =
-    subst (λ c. Stepping (terms_code n ts ++ core.Print pieces n (count ts) n ∷ []) (terms_code n ts' ++ core.Print pieces n c n ∷ []) n slots (λ s. K s (Print pieces ts'))) (sym h.1)
-    (stepping_in (terms_code n ts) (terms_code n ts') (core.Print pieces n (count ts) n ∷ []) n n slots (λ s. AllHold n s n ts') (λ s. K s (Print pieces ts')) (omega arith) (λ w v le k. kept ts' (put slots w v) k) h.0)
+    subst (λ c. Stepping (terms_code n ts ++ core.Format pieces ∷ core.Print n (count ts) n ∷ []) (terms_code n ts' ++ core.Format pieces ∷ core.Print n c n ∷ []) n slots (λ s. K s (Print pieces ts'))) (sym h.1)
+    (stepping_in (terms_code n ts) (terms_code n ts') (core.Format pieces ∷ core.Print n (count ts) n ∷ []) n n slots (λ s. AllHold n s n ts') (λ s. K s (Print pieces ts')) (omega arith) (λ w v le k. kept ts' (put slots w v) k) h.0)
 print_goes n slots pieces K ts (Calls f args ts') kept h =
-    calling_in (terms_code n ts) (λ v. terms_code n (fill_all v ts')) (λ v. stm_code n (fill_stm v (Print pieces ts'))) (core.Print pieces n (count ts) n ∷ []) n n slots f args (λ v s. AllHold n s n (fill_all v ts')) (λ v s. K s (fill_stm v (Print pieces ts'))) (omega arith)
-    (λ v. ap (λ c. terms_code n (fill_all v ts') ++ core.Print pieces n c n ∷ []) (sym (h.1 v)))
+    calling_in (terms_code n ts) (λ v. terms_code n (fill_all v ts')) (λ v. stm_code n (fill_stm v (Print pieces ts'))) (core.Format pieces ∷ core.Print n (count ts) n ∷ []) n n slots f args (λ v s. AllHold n s n (fill_all v ts')) (λ v s. K s (fill_stm v (Print pieces ts'))) (omega arith)
+    (λ v. ap (λ c. terms_code n (fill_all v ts') ++ core.Format pieces ∷ core.Print n c n ∷ []) (sym (h.1 v)))
     (λ w v le k. kept (fill_all v ts') (put slots w v) k) h.0
 print_goes n slots pieces K ts Blocked kept h = h
 
@@ -91,12 +91,12 @@ agrees_put n vars slots x v v' e long within a y lt =
     (cases_eq y x)
 
 -- A function that begins.
-first_here : (r : Routine) (slots : Slots) → FreshBlock r.variables r.body → Here (routine_code r) r.variables 0 slots r.body
-first_here r slots p =
+first_here : (r : Routine) (slots : Slots) (format : List Piece) → FreshBlock r.variables r.body → Here (routine_code r) r.variables 0 slots format r.body
+first_here r slots format p =
     let n = r.variables in
     let code = routine_code r in
     let h : HasAt code 0 (block_code n r.body ++ core.Leave ∷ []) = has_all code [] in
-    subst (λ b. Here code n 0 slots b) (join_done r.body)
+    subst (λ b. Here code n 0 slots format b) (join_done r.body)
     (outside (does_join r.body code n 0 Done p (has_front code 0 (block_code n r.body) _ h) (ends (has_back code 0 (block_code n r.body) _ h).0)))
 
 pub as_long : (m : List Routine) (fs : List source.Frame) (ts : List machine.Frame) → AllWait m fs ts → length fs ≡ length ts
@@ -115,5 +115,5 @@ module _ (m : List Routine) (fresh : FreshRoutines m) where
     found = e;
     long = omega (arith, length-append args (replicate (r.variables - length args) zero_value), length_replicate (r.variables - length args));
     agrees = λ x lt. read_zeros args (r.variables - length args) x;
-    here = first_here r (λ s. slice_index_or args s zero_value) (fresh f r e);
+    here = first_here r (λ s. slice_index_or args s zero_value) [] (fresh f r e);
   }

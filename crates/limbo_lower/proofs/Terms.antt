@@ -282,3 +282,33 @@ module _ (n : ℕ) (vars : List Value) (slots : Slots) (agrees : Agrees n vars s
     pub terms_go : (ts : Terms) (d : ℕ) → AllHold n slots d ts → TermsGo n slots ts d (next_all vars ts)
     terms_go NoTerms d h = (refl, refl)
     terms_go (MoreTerms t ts) d h = more_go n slots t ts d (next vars t) (next_all vars ts) h (term_goes t d h.0) (terms_go ts (suc d) h.1)
+
+-- ---- arguments that are evaluated
+
+some_behind : (a : List Inst) (i : Inst) → a ++ i ∷ [] ≡ [] → ⊥
+some_behind [] i e = cc
+some_behind (x ∷ a) i e = cc
+
+empty_front : (a b : List Inst) → a ++ b ≡ [] → a ≡ []
+empty_front [] b e = refl
+empty_front (x ∷ a) b e = absurd cc
+
+empty_back : (a b : List Inst) → a ++ b ≡ [] → b ≡ []
+empty_back [] b e = e
+empty_back (x ∷ a) b e = absurd cc
+
+module _ (n : ℕ) (slots : Slots) where
+  done_term : (t : Term) (d : ℕ) → Holds n slots d t → term_code d t ≡ [] → (vars : List Value) → next vars t ≡ Finished (slots d)
+  done_term (Evaluated v) d h e vars = ap Finished (sym h)
+  done_term Awaiting d h e vars = absurd h
+  done_term (Constant v) d h e vars = absurd cc
+  done_term (Variable x) d h e vars = absurd cc
+  done_term (Apply o a b) d h e vars = absurd (some_behind (term_code (suc d) b) (core.Operate o d d (suc d)) (empty_back (term_code d a) _ e))
+  done_term (Call f ts) d h e vars = absurd (some_behind (terms_code d ts) (core.Call f d (count ts) d) e)
+
+  -- Whatever the variables are, they have the values in their slots.
+  pub done_terms : (ts : Terms) (d : ℕ) → AllHold n slots d ts → terms_code d ts ≡ [] → (vars : List Value) → next_all vars ts ≡ Finished (taken slots d (count ts))
+  done_terms NoTerms d h e vars = refl
+  done_terms (MoreTerms t ts) d h e vars =
+      ap (λ g. after g (λ v. after (next_all vars ts) (λ vs. Finished (v ∷ vs)) (λ ts. MoreTerms t ts)) (λ t. MoreTerms t ts)) (done_term t d h.0 (empty_front (term_code d t) _ e) vars)
+      ∙ ap (λ g. after g (λ vs. Finished (slots d ∷ vs)) (λ ts. MoreTerms t ts)) (done_terms ts (suc d) h.1 (empty_back (term_code d t) _ e) vars)

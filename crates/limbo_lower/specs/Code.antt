@@ -48,7 +48,7 @@ abbrev mutual
   stm_code d (While t c body) = term_code d t ++ while_code d (length (term_code d c)) (block_code d body)
   stm_code d (Return t) = term_code d t ++ core.Return d ∷ []
   stm_code d Leave = core.Leave ∷ []
-  stm_code d (Print pieces ts) = terms_code d ts ++ core.Print pieces d (count ts) d ∷ []
+  stm_code d (Print pieces ts) = terms_code d ts ++ core.Format pieces ∷ core.Print d (count ts) d ∷ []
 
   pub block_code : ℕ → Block → List Inst
   block_code d Done = []
@@ -68,7 +68,8 @@ above (core.Unless condition n) = suc condition
 above (core.Jump n) = 0
 above (core.Back n) = 0
 above (core.Call f args n into) = max (args + n) (suc into)
-above (core.Print pieces args n into) = max (args + n) (suc into)
+above (core.Format pieces) = 0
+above (core.Print args n into) = max (args + n) (suc into)
 above (core.Return value) = suc value
 above core.Leave = 0
 

@@ -19,10 +19,10 @@ use Rattle.core_code.specs.Rules as core_rules
 use Rattle.limbo_lower.specs.Stands.{Stands, sides}
 
 -- The code follows the meaning: whatever one process of the code does next, the module's process that it stands for does too,
--- after some steps of its own, and at least one step for each instruction; and both begin alike.
+-- after some steps of its own. Of two instructions in a row at least one stands for a step. Both begin alike.
 pub record Keeps (m : Module) (c : core.Module) : Type 0 where
   pub follows : PlainFollows (sides (routines_of m) (bodies c))
-  pub pace : follows.bound ≡ 1
+  pub pace : follows.bound ≡ 2
   pub begins : (init : ℕ) (first : Routine) → slice_get (routines_of m) init ≡ Some first →
       Stands (routines_of m) (first_process first) (core_rules.first_process init)
 

@@ -3,10 +3,11 @@
 use Rattle.std.specs.Prelude.{ℕ, suc, ◌+◌, ◌-◌, ◌<◌, ◌≤◌, ◌≡◌, Bool, true, false, List, [], ◌∷◌, length, Some, slice_get, slice_index_or}
 use Rattle.styx_msg.specs.declared.message.Rmsg.{Rmsg}
 use Rattle.process_model.specs.Plain.{PlainSides}
+use Rattle.limbo_typed.specs.Typed.{Piece}
 use Rattle.limbo_meaning.specs.Values.{Value, zero_value}
 use Rattle.limbo_meaning.specs.Trees.{Term, Evaluated, Awaiting, Constant, Variable, Apply, Call, Terms, NoTerms, MoreTerms, Stm, Over, Assign, Eval, If, While, Return, Leave, Print, Block, Done, Then, Again}
 use Rattle.limbo_meaning.specs.Program.{Routine}
-use Rattle.limbo_meaning.specs.Evaluation.{fill_block}
+use Rattle.limbo_meaning.specs.Evaluation.{Finished, next_all, fill_block}
 use Rattle.limbo_meaning.specs.World.{World}
 use Rattle.limbo_meaning.specs.Prints.{Request}
 use Rattle.limbo_meaning.specs.Process as source
@@ -16,9 +17,9 @@ use Rattle.limbo_meaning.specs.Runs.{frames_limit}
 use Rattle.core_code.specs.Code as core
 use Rattle.core_code.specs.Code.{Inst}
 use Rattle.core_code.specs.Machine as machine
-use Rattle.core_code.specs.Machine.{Slots, put, moved}
+use Rattle.core_code.specs.Machine.{Slots, put, taken, moved}
 use Rattle.core_code.specs.Rules as core_rules
-use Rattle.limbo_lower.specs.Code.{stm_code, routine_code}
+use Rattle.limbo_lower.specs.Code.{count, stm_code, routine_code}
 
 abbrev pub is_value : Term → Bool
 is_value (Evaluated v) = true
@@ -113,10 +114,13 @@ HoldsStm code n end slots (Return t) = Holds n slots n t
 HoldsStm code n end slots Leave = Unit {0}
 HoldsStm code n end slots (Print pieces ts) = AllHold n slots n ts
 
--- A frame is in the middle of a statement, or between two.
-pub data Here (code : List Inst) (n pc : ℕ) (slots : Slots) : Block → Type 0 where
-  inside : {s : Stm} {rest : Block} (end : ℕ) → HoldsStm code n end slots s → HasAt code pc (stm_code n s) → pc + length (stm_code n s) ≡ end → Does code n end rest → Here code n pc slots (Then s rest)
-  outside : {b : Block} → Does code n pc b → Here code n pc slots b
+-- A frame is in the middle of a statement, or between two; or right before a print, when all arguments are evaluated and the
+-- format is there.
+pub data Here (code : List Inst) (n pc : ℕ) (slots : Slots) (format : List Piece) : Block → Type 0 where
+  inside : {s : Stm} {rest : Block} (end : ℕ) → HoldsStm code n end slots s → HasAt code pc (stm_code n s) → pc + length (stm_code n s) ≡ end → Does code n end rest → Here code n pc slots format (Then s rest)
+  outside : {b : Block} → Does code n pc b → Here code n pc slots format b
+  printing : {ts : Terms} {rest : Block} → ((vars : List Value) → next_all vars ts ≡ Finished (taken slots n (count ts))) → slice_get code pc ≡ Some (core.Print n (count ts) n) →
+      Does code n (suc pc) rest → Here code n pc slots format (Then (Print format ts) rest)
 
 -- The variables are in the first n slots.
 abbrev pub Agrees : (n : ℕ) → List Value → Slots → Type 0
@@ -131,7 +135,7 @@ module _ (routines : List Routine) where
     pub found : slice_get routines t.function ≡ Some routine
     pub long : routine.variables ≤ length vars
     pub agrees : Agrees routine.variables vars t.slots
-    pub here : Here (routine_code routine) routine.variables t.pc t.slots todo
+    pub here : Here (routine_code routine) routine.variables t.pc t.slots t.format todo
 
   -- So do two that wait for an answer, whatever it will be.
   abbrev pub FrameWaits : source.Frame → machine.Frame → Type 0
