@@ -1,5 +1,5 @@
 -- Three-address code, as plain data.
-use Rattle.std.specs.Prelude.{ℕ, ℤ, List, map}
+use Rattle.std.specs.Prelude.{ℕ, ℤ, Bool, List, map}
 use Rattle.limbo_typed.specs.Typed.{Operator, Piece}
 
 -- An instruction; slots are numbers.
@@ -22,10 +22,10 @@ pub data Inst : Type 0 where
   Return : (value : ℕ) → Inst
   Leave : Inst
 
--- A function: how many variables it has, how many slots, and its instructions.
+-- A function: which of its variables are references, how many slots it has, and its instructions. All temporaries are ints.
 pub record Function : Type 0 where
   pub name : List ℕ
-  pub variables : ℕ
+  pub references : List Bool
   pub slots : ℕ
   pub code : List Inst
 

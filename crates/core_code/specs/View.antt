@@ -21,7 +21,7 @@ view_inst (inst.Return value) = Return value
 view_inst inst.Leave = Leave
 
 abbrev pub view_function : code_fn.CoreFn → Function
-view_function f = record { name = f.name; variables = f.variables; slots = f.slots; code = map view_inst f.code.items }
+view_function f = record { name = f.name; references = f.references.items; slots = f.slots; code = map view_inst f.code.items }
 
 abbrev pub view_module : code_module.CoreModule → Module
 view_module m = record { name = m.name; functions = map view_function m.functions.items }

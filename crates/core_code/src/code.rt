@@ -61,11 +61,12 @@ pub enum CoreInst {
     Leave,
 }
 
-/// A function: how many variables it has, how many slots, temporaries and all, and its instructions.
+/// A function: which of its variables are references, how many slots it has, temporaries and all, and its instructions. A variable's
+/// slot is the number of the variable. All temporaries are ints.
 #[derive(Drop)]
 pub struct CoreFn {
     pub name: Text,
-    pub variables: u32,
+    pub references: Vec<bool>,
     pub slots: u32,
     pub code: Vec<CoreInst>,
 }

@@ -1,6 +1,7 @@
 -- The code of what is left to do. What is left of a tree has for its code what is left of the tree's code: a part that is evaluated
 -- has none, and its value is in the slot where the code of the part put it.
-use Rattle.std.specs.Prelude.{ℕ, suc, ◌+◌, max, List, [], ◌∷◌, ◌++◌, length, map}
+use Rattle.std.specs.Prelude.{ℕ, suc, Bool, true, false, ◌+◌, max, List, [], ◌∷◌, ◌++◌, length, map}
+use Rattle.limbo_types.specs.Types.{Ty, Int}
 use Rattle.limbo_typed.specs.Typed as typed
 use Rattle.limbo_meaning.specs.Values.{Value, Num}
 use Rattle.limbo_meaning.specs.Trees.{Term, Evaluated, Awaiting, Constant, Variable, Apply, Call, Terms, NoTerms, MoreTerms, Stm, Over, Assign, Eval, If, While, Return, Leave, Print, Block, Done, Then, Again}
@@ -78,10 +79,15 @@ abbrev pub slots_of : (variables : ℕ) → List Inst → ℕ
 slots_of n [] = n
 slots_of n (i ∷ is) = max (above i) (slots_of n is)
 
+-- A variable of a type that isn't int is a reference.
+abbrev pub is_reference : Ty → Bool
+is_reference Int = false
+is_reference _ = true
+
 abbrev pub function_code : typed.Function → core.Function
 function_code f = record {
   name = f.name;
-  variables = length f.variables;
+  references = map (λ v. is_reference v.ty) f.variables;
   slots = slots_of (length f.variables) (routine_code (routine_of f));
   code = routine_code (routine_of f);
 }

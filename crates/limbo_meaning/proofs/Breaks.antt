@@ -9,7 +9,7 @@ use Rattle.limbo_meaning.specs.Program.{Routine}
 use Rattle.limbo_meaning.specs.Evaluation.{Progress, Finished, Stepped, Calls, Blocked, next, next_all}
 use Rattle.limbo_meaning.specs.World.{World}
 use Rattle.limbo_meaning.specs.Prints.{Writing, Printing, Answers, Requests, NoReply, text_of, print, hear}
-use Rattle.limbo_meaning.specs.Process.{Frame, Process, Ended, Broken, Does, height, returns, calls, prints, hears}
+use Rattle.limbo_meaning.specs.Process.{Frame, Process, Ended, Broken, Faulted, Does, height, returns, calls, prints, hears}
 use Rattle.limbo_meaning.specs.Step.{evaluate, act, work, heard}
 use Rattle.limbo_meaning.specs.Heights.{Kind, Calling, Returning, Other, kind_in, kind_of_stm, kind_of_block, kind_of}
 use Rattle.limbo_meaning.specs.Breaks.{EndsOnlySo}
@@ -18,6 +18,7 @@ use Rattle.limbo_meaning.specs.Breaks.{EndsOnlySo}
 abbrev EndsSo : ℕ → Kind → Process → Does → Type 0
 EndsSo limit k p (Ends v Ended) = (k ≡ Returning) × (p.below ≡ [])
 EndsSo limit k p (Ends v (Broken text)) = (k ≡ Calling) × (limit ≤ height p) × (text ≡ codes "stack overflow")
+EndsSo limit k p (Ends v (Faulted number pc)) = ⊥
 EndsSo limit k p _ = Unit {0}
 
 full : (a b : ℕ) → nat_lt a b ≡ false → b ≤ a
@@ -79,5 +80,6 @@ pub ends_only_so : EndsOnlySo
 ends_only_so = record {
   ended = λ limit routines w v p e. subst (EndsSo limit (kind_of p) p) e (work_ends limit routines w p p.frame.todo);
   broken = λ limit routines w v p text e. subst (EndsSo limit (kind_of p) p) e (work_ends limit routines w p p.frame.todo);
+  faulted = λ limit routines w v p number pc e. subst (EndsSo limit (kind_of p) p) e (work_ends limit routines w p p.frame.todo);
   at_reply = λ a w v p how e. subst NoEnd e (heard_on a w p p.printing);
 }

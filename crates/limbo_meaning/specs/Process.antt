@@ -21,10 +21,12 @@ pub record Process : Type 0 where
   pub below : List Frame
   pub printing : Option Writing
 
--- How a process ends: it returned from its first function, or broke with this text.
+-- How a process ends: it returned from its first function, or broke with this text. In a machine it may come to an instruction of
+-- its code that is wrong, which has this place, and is wrong for the reason of this number; no program ends so.
 pub data Ending : Type 0 where
   Ended : Ending
   Broken : (text : List ℕ) → Ending
+  Faulted : (number pc : ℕ) → Ending
 
 -- What a step of a process comes to.
 abbrev pub Does : Type 0
