@@ -9,7 +9,7 @@ ghost use Rattle.core_code.specs.View.{view_inst};
 ghost use Rattle.limbo_lower.specs.Code as code;
 ghost use Rattle.limbo_lower.specs.Code.{routine_code, function_code, module_code};
 ghost use Rattle.limbo_lower.specs.Sizes.{frame_size, largest_frame, nodes, FrameTooLarge};
-ghost use Rattle.limbo_lower.specs.Keeps.{instructions};
+ghost use Rattle.limbo_lower.specs.Keeps.{Keeps, JournalsAreRuns, instructions};
 
 use crate::expressions::put;
 use crate::fault::LowerFault;
@@ -119,17 +119,12 @@ fn lower_function(alloc: Global, f: &TFn) -> Result<CoreFn, LowerFault>
     })
 }
 
-/// The code of a checked module.
-///
-/// # Errors
-/// `FrameTooLarge` only where a function's frame passes 65,536 bytes, and such a module has no code; `NoMemory`.
-pub fn lower(alloc: Global, module: &TypedModule) -> Result<CoreModule, LowerFault>
+// The code of a module, as it is defined.
+fn lowered(alloc: Global, module: &TypedModule) -> Result<CoreModule, LowerFault>
     requires proper { IsProper (view_module «module».now) }
     ensures code { IfOk result (λ c. core.view_module c ≡ module_code (view_module «module».now)) }
     ensures fits { IfOk result (λ _. FrameTooLarge (view_module «module».now) → ⊥) }
     ensures too_large { result ≡ Err LowerFault.FrameTooLarge → FrameTooLarge (view_module «module».now) }
-    ensures proper_code { IfOk result (λ c. core_proper.IsProper (core.view_module c)) }
-    ensures few { IfOk result (λ c. instructions (core.view_module c).functions ≤ 8 * nodes (view_module «module».now)) }
 {
     let mut functions = Vec::new(alloc);
     for f in &module.functions {
@@ -139,4 +134,24 @@ pub fn lower(alloc: Global, module: &TypedModule) -> Result<CoreModule, LowerFau
         name: module.name.clone()?,
         functions,
     })
+}
+
+/// The code of a checked module, which keeps the module's meaning.
+///
+/// # Errors
+/// `FrameTooLarge` only where a function's frame passes 65,536 bytes, and such a module has no code; `NoMemory`.
+pub fn lower(alloc: Global, module: &TypedModule) -> Result<CoreModule, LowerFault>
+    requires proper { IsProper (view_module «module».now) }
+    ensures keeps { IfOk result (λ c. Keeps (view_module «module».now) (core.view_module c)) }
+    ensures journals { IfOk result (λ c. JournalsAreRuns (view_module «module».now) (core.view_module c)) }
+    ensures proper_code { IfOk result (λ c. core_proper.IsProper (core.view_module c)) }
+
+    // It is no longer than the module, but for a factor.
+    ensures few { IfOk result (λ c. instructions (core.view_module c).functions ≤ 8 * nodes (view_module «module».now)) }
+
+    // Exactly the modules with small frames have code, as far as memory goes.
+    ensures fits { IfOk result (λ _. FrameTooLarge (view_module «module».now) → ⊥) }
+    ensures too_large { result ≡ Err LowerFault.FrameTooLarge → FrameTooLarge (view_module «module».now) }
+{
+    lowered(alloc, module)
 }

@@ -4,7 +4,7 @@ use Rattle.limbo_typed.specs.View.{view_function}
 use Rattle.core_code.specs.View as core
 use Rattle.limbo_lower.specs.Code.{function_code}
 use Rattle.limbo_lower.specs.Sizes.{frame_size, largest_frame}
-use Rattle.limbo_lower.proofs.lowering.lower.Given as goal
+use Rattle.limbo_lower.proofs.lowering.lowered.Given as goal
 
 abbrev pub invariant-loop-f : goal.invariant-loop-f
 invariant-loop-f l = record {
