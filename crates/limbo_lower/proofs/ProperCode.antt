@@ -1,14 +1,14 @@
 -- The code of a proper module is proper: what it names is there, and control goes on to an instruction.
-use Rattle.std.proofs.Common.{◌≡◌, ℕ, zero, suc, ◌+◌, ◌-◌, ◌≤◌, ◌<◌, max, Bool, false, List, [], ◌∷◌, ◌++◌, Option, None, Some, length, map, take, sym, ap, ◌∙◌, subst, refl, inl, inr, arith, length-append}
+use Rattle.std.proofs.Common.{◌≡◌, ℕ, zero, suc, ◌+◌, ◌-◌, ◌≤◌, ◌<◌, false, List, [], ◌∷◌, ◌++◌, None, Some, length, map, take, sym, ap, ◌∙◌, subst, refl, inl, inr, arith, length-append}
 use Rattle.std.specs.Prelude.{slice_get, slice_index_or, option_map}
 use Rattle.std.proofs.lemmas.List.{length-map, length-take, get_or_past}
 use Rattle.std.proofs.lemmas.Option.{slice_get-map}
-use Rattle.limbo_types.specs.Types.{Ty, Int, Nothing}
+use Rattle.limbo_types.specs.Types.{Ty, Int}
 use Rattle.limbo_typed.specs.Typed as typed
 use Rattle.limbo_typed.specs.Typed.{Expr, Exprs, Stmt, Stmts, Var, Function, Module}
-use Rattle.limbo_typed.specs.Proper.{type_of, types_of, holes, AllInt, IsWord, AllWords, HasFunction, HasVariable, ProperExpr, ProperExprs, ProperReturn, ProperStmt, ProperStmts, ProperFunction, IsProper}
+use Rattle.limbo_typed.specs.Proper.{type_of, types_of, AllInt, IsWord, AllWords, HasFunction, HasVariable, ProperExpr, ProperExprs, ProperStmt, ProperStmts, ProperFunction, IsProper}
 use Rattle.limbo_meaning.specs.Trees.{Done}
-use Rattle.limbo_meaning.specs.Program.{term_of, terms_of, return_of, before, all_before, routine_of}
+use Rattle.limbo_meaning.specs.Program.{term_of, terms_of, before, all_before, routine_of}
 use Rattle.core_code.specs.Code as core
 use Rattle.core_code.specs.Code.{Inst, Set, Move, Operate, Unless, Jump, Back, Call, Format, Print, Return, Leave}
 use Rattle.core_code.specs.Proper as core_proper

@@ -1,16 +1,12 @@
 use Rattle.std.proofs.Common.{◌≡◌, ℕ, zero, suc, ◌<◌, List, [], ◌∷◌, length, map, get_or, Some, Err, sym, ap, ◌∙◌, refl, arith}
 use Rattle.std.specs.Prelude.{slice_get, option_map}
-use Rattle.std.proofs.lemmas.List.{take_all}
 use Rattle.std.proofs.lemmas.Option.{slice_get-map, slice_get_read}
 use Rattle.limbo_typed.specs.declared.module.TFn.{TFn}
 use Rattle.limbo_typed.specs.Typed.{Function}
-use Rattle.limbo_typed.specs.View.{view_function, view_module}
+use Rattle.limbo_typed.specs.View.{view_function}
 use Rattle.limbo_lower.specs.declared.fault.LowerFault.TheVariants.{FrameTooLarge}
-use Rattle.limbo_lower.specs.Code.{function_code}
 use Rattle.limbo_lower.specs.Sizes.{frame_size}
 use Rattle.limbo_lower.proofs.SlotBounds.{slots_few}
-use Rattle.limbo_lower.proofs.Few.{module_few}
-use Rattle.limbo_lower.proofs.ProperCode.{proper_code}
 use Rattle.limbo_lower.proofs.lowering.lowered.Goals as goal
 
 -- the function that is seen at a place
