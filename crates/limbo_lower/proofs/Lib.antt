@@ -7,3 +7,10 @@ pub mod Follows
 pub mod Fresh
 pub mod Keeps
 pub mod Examples
+pub mod Emission
+pub mod Before
+pub mod Branches
+pub mod Rooms
+pub mod SlotBounds
+pub mod Few
+pub mod ProperCode

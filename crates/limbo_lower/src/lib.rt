@@ -1,5 +1,8 @@
 //! The first pass of the compiler: from checked modules to three-address code.
 //!
+//! `lower` makes the code of a module, or refuses one with a function whose frame is too large. `sizes` counts what a frame takes,
+//! `expressions` and `statements` write the code of the parts, and `lowering` joins them.
+//!
 //! `specs/` in the order of reading: `Code` (the code of what is left to do of a program), `Stands` (when a process of the code
 //! stands for one of the program), `Keeps` (what the code keeps of the meaning), `Sizes` (the frame of a function, and the nodes of
 //! a module).
@@ -11,6 +14,15 @@
 //! itself, `Acts` calls, returns and prints, `Follows` the simulation, and `Examples` whole programs that compute on both sides.
 #![tactic(auto)]
 
+mod expressions;
+mod fault;
 mod laws;
+mod lowering;
+mod sizes;
+mod statements;
+#[cfg(test)]
+mod tests;
 
+pub use fault::LowerFault;
 pub use laws::code_keeps;
+pub use lowering::lower;
