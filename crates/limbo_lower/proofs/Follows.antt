@@ -23,7 +23,8 @@ use Rattle.core_code.specs.Machine.{Slots, put, taken}
 use Rattle.core_code.specs.Step as core_step
 use Rattle.limbo_lower.specs.Code.{count, term_code, terms_code, if_code, while_code, stm_code, block_code, routine_code}
 use Rattle.limbo_lower.specs.Stands.{Fresh, FreshBlock, FreshRoutines, HasAt, Does, ends, goes, jumps, again, Loop, HoldsStm, Here, inside, outside, printing, Agrees, FrameStands, AllWait, Stands, sides}
-use Rattle.limbo_lower.proofs.Terms.{put_same, term_goes, terms_go, done_terms}
+use Rattle.core_code.proofs.Slots.{put_same}
+use Rattle.limbo_lower.proofs.Terms.{term_goes, terms_go, done_terms}
 use Rattle.limbo_lower.proofs.Blocks.{has_front, has_back, does_at, does_join, begins}
 use Rattle.limbo_lower.proofs.Bursts.{behind}
 use Rattle.limbo_lower.proofs.Steps.{StmGoes, IsDone, stm_goes, print_goes, length_set, agrees_above, agrees_put, bodies}

@@ -16,7 +16,8 @@ use Rattle.core_code.specs.Machine as machine
 use Rattle.core_code.specs.Machine.{Slots, put, taken}
 use Rattle.limbo_lower.specs.Code.{count, term_code, terms_code, stm_code, block_code, routine_code}
 use Rattle.limbo_lower.specs.Stands.{FreshBlock, FreshRoutines, Holds, AllHold, HasAt, ends, Here, outside, Agrees, FrameStands, AllWait}
-use Rattle.limbo_lower.proofs.Terms.{put_same, put_other, put_below, Stepping, Calling, stepping_in, calling_in, TermGoes, TermsGo}
+use Rattle.core_code.proofs.Slots.{put_same, put_other, put_below}
+use Rattle.limbo_lower.proofs.Terms.{Stepping, Calling, stepping_in, calling_in, TermGoes, TermsGo}
 use Rattle.limbo_lower.proofs.Blocks.{has_front, has_back, has_all, does_join, join_done}
 
 -- ---- a statement's expression, and the statement
