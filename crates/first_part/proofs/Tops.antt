@@ -6,9 +6,9 @@ use Rattle.limbo_tree.specs.declared.source.Source as code_source
 use Rattle.limbo_tree.specs.declared.source.Top as code_top
 use Rattle.limbo_tree.specs.declared.source.Top.TheVariants as make_top
 use Rattle.limbo_tree.specs.Stmts.{Stmts}
-use Rattle.limbo_tree.specs.Sources.{Source, Top, Defined}
+use Rattle.limbo_tree.specs.Sources.{Source, Top, Include, Defined}
 use Rattle.limbo_tree.specs.View.{name_of, view_fn, view_block, view_top, view_source}
-use Rattle.first_part.specs.Part.{Parameters, init_type, include, sys_variable, declaration, definition, tree_with}
+use Rattle.first_part.specs.Part.{Parameters, init_type, sys_variable, declaration, definition, tree_with}
 
 pub defined_type : (t : code_top.Top) (f : code_function.Function) (p : Parameters) (body : Stmts) → t ≡ make_top.Define f → view_top t ≡ definition p body → view_fn f.of ≡ init_type p
 defined_type t f p body at v =
@@ -56,9 +56,9 @@ pub record Five (s : code_source.Source) (n : code_name.Name) (xs : List code_to
   pub same : xs ≡ s.tops.items
   pub low : 5 ≤ length xs
   pub high : length xs < 6
-  pub first : (a ≡ get_or xs 0 a) × (view_top a ≡ include (codes "sys.m"))
+  pub first : (a ≡ get_or xs 0 a) × (view_top a ≡ Include (codes "sys.m"))
   pub second : (b ≡ get_or xs 1 b) × (view_top b ≡ sys_variable)
-  pub third : (c ≡ get_or xs 2 c) × (view_top c ≡ include (codes "draw.m"))
+  pub third : (c ≡ get_or xs 2 c) × (view_top c ≡ Include (codes "draw.m"))
   pub fourth : (d ≡ get_or xs 3 d) × (view_top d ≡ declaration n.text p)
   pub fifth : (e ≡ get_or xs 4 e) × (view_top e ≡ definition q body)
 
@@ -69,7 +69,7 @@ pub tree_is : (s : code_source.Source) (n : code_name.Name) (xs : List code_top.
 tree_is s n xs p q body a b c d e f =
     let tops : map view_top s.tops.items ≡ (tree_with n.text p q body).tops =
     ap (map view_top) (sym f.same) ∙ ap (map view_top) (five xs a b c d e f.low f.high f.first.0 f.second.0 f.third.0 f.fourth.0 f.fifth.0)
-    ∙ rows (view_top a) (view_top b) (view_top c) (view_top d) (view_top e) (include (codes "sys.m")) sys_variable (include (codes "draw.m")) (declaration n.text p) (definition q body) f.first.1 f.second.1 f.third.1 f.fourth.1 f.fifth.1 in
+    ∙ rows (view_top a) (view_top b) (view_top c) (view_top d) (view_top e) (Include (codes "sys.m")) sys_variable (Include (codes "draw.m")) (declaration n.text p) (definition q body) f.first.1 f.second.1 f.third.1 f.fourth.1 f.fifth.1 in
     made (name_of s.implements) (Some n.text) (map view_top s.tops.items) (tree_with n.text p q body).tops (ap name_of f.named) tops
   where
     rows : (a b c d e v w x y z : Top) → a ≡ v → b ≡ w → c ≡ x → d ≡ y → e ≡ z → a ∷ b ∷ c ∷ d ∷ e ∷ [] ≡ v ∷ w ∷ x ∷ y ∷ z ∷ []

@@ -74,10 +74,6 @@ abbrev pub body : Option (List (List ℕ)) → Stmts
 body None = NoStmts
 body (Some literals) = MoreStmts load_sys (prints literals)
 
--- include PATH;
-abbrev pub include : List ℕ → Top
-include path = Include path
-
 -- sys: Sys;
 abbrev pub sys_variable : Top
 sys_variable = Declared (Var (codes "sys" ∷ []) sys_type None)
@@ -99,7 +95,7 @@ abbrev pub tree_with : List ℕ → Parameters → Parameters → Stmts → Sour
 tree_with name declared defined body = record {
   implements = Some name;
   tops =
-      include (codes "sys.m") ∷ sys_variable ∷ include (codes "draw.m") ∷ declaration name declared
+      Include (codes "sys.m") ∷ sys_variable ∷ Include (codes "draw.m") ∷ declaration name declared
       ∷ definition defined body ∷ [];
 }
 

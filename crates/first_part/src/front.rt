@@ -4,9 +4,10 @@ ghost use Rattle.std.specs.Prelude.{◌≡◌, ◌↔◌, ℕ, List, Option, [],
 ghost use Rattle.limbo_tree.specs.Types.{Ty, String};
 ghost use Rattle.limbo_tree.specs.Decls.{NoMembers, MoreMembers};
 ghost use Rattle.limbo_tree.specs.Stmts.{Stmts, Plain};
+ghost use Rattle.limbo_tree.specs.Sources.{Include};
 ghost use Rattle.limbo_tree.specs.View.{name_of, names_of, view_qual, view_type, view_param, view_fn, view_member, view_members, view_top, view_block, view_stmts, view_source};
 ghost use Rattle.first_part.specs.Part.{Parameters, sys_type, context_type, words_type, parameter, init_type, init_member};
-ghost use Rattle.first_part.specs.Part.{include, sys_variable, declaration, definition, tree_with};
+ghost use Rattle.first_part.specs.Part.{sys_variable, declaration, definition, tree_with};
 ghost use Rattle.first_part.specs.Slots.{pair_names};
 
 use inf_text::Text;
@@ -137,7 +138,7 @@ fn is_only_name(names: &[Name], name: &str) -> bool
 
 /// Whether what stands at the top level includes this path.
 fn is_include(top: &Top, path: &str) -> bool
-    ensures { IsTrue result ↔ (view_top top.now ≡ include path.now) }
+    ensures { IsTrue result ↔ (view_top top.now ≡ Include path.now) }
 {
     match top {
         Top::Include { path: text, .. } => is_spelled(text, path),

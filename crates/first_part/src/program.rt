@@ -21,7 +21,7 @@ pub struct FirstProgram {
     pub prints: Option<Seq<Text>>,
 }
 
-/// Reads a program of the first part from its tree, in time that is linear in its size.
+/// Reads a program of the first part from its tree.
 ///
 /// # Errors
 /// `Outside` exactly where the tree is no such program; `NoMemory`.

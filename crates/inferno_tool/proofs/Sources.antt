@@ -1,6 +1,7 @@
 -- What reading a source answers, from what its tokens, its tree and its program are.
-use Rattle.std.proofs.Common.{◌≡◌, ◌≢◌, ◌≤◌, ◌<◌, ℕ, List, All, length, map, false, Result, Ok, Err, encode_utf8_all, refl, subst, sym, ap, ◌∙◌}
+use Rattle.std.proofs.Common.{◌≡◌, ◌≢◌, ◌≤◌, ◌<◌, ℕ, List, All, length, map, false, Result, Ok, Err, encode_utf8_all, refl, subst, sym, ap, ◌∙◌, arith}
 use Rattle.std.specs.Prelude.{IfOk, IfErr, MatchResult, IfSome}
+use Rattle.std.proofs.lemmas.List.{length-map}
 use Rattle.limbo_lexer.specs.declared.token.Kind.{Kind}
 use Rattle.limbo_lexer.specs.declared.token.Token.{Token}
 use Rattle.limbo_lexer.specs.declared.fault.LexFault.{LexFault}
@@ -67,7 +68,7 @@ its_tree source tokens tree lexed has = subst (λ (l : List Kind). IsTree false 
 pub unparsed_is : (source : List ℕ) (tokens : List Token) (fault : ParseFault) → Lexed source tokens
     → (fault ≢ parse.NoMemory → (s : Source) → IsTree false (kinds tokens) s → source_nesting s ≤ 256 → ⊥)
     → ((token : ℕ) → fault ≡ parse.Syntax token → (s : Source) → IsTree false (kinds tokens) s → ⊥)
-    → ((token : ℕ) → fault ≡ parse.TooDeep token → 256 < token)
+    → ((token : ℕ) → fault ≡ parse.TooDeep token → (256 < token) × (token ≤ length tokens))
     → IsReadFault source (unparsed tokens fault)
 unparsed_is source tokens parse.NoMemory lexed refused syntax_fault deep = tt
 unparsed_is source tokens (parse.Syntax token) lexed refused syntax_fault deep = (
@@ -81,9 +82,10 @@ unparsed_is source tokens (parse.Syntax token) lexed refused syntax_fault deep =
 unparsed_is source tokens (parse.TooDeep token) lexed refused syntax_fault deep = (
   (kinds tokens, lexed.has),
   λ list has.
-      let same : kinds tokens ≡ list = lexed.only list has in (
+      let same : kinds tokens ≡ list = lexed.only list has in
+      let many = length-map tokens (λ t. t.kind) in (
         λ tree is shallow. refused (λ e. absurd (cc)) tree (subst (λ (l : List Kind). IsTree false l tree) (sym same) is) shallow,
-        deep token refl,
+        ((deep token refl).0, omega (arith, deep token refl, many, ap length same)),
       ),
 )
 

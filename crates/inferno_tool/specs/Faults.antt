@@ -1,5 +1,5 @@
 -- Why a source is refused, by its bytes, tokens and tree; the number of each refusal, and where it stands.
-use Rattle.std.specs.Prelude.{◌≤◌, ◌<◌, ℕ, List, false}
+use Rattle.std.specs.Prelude.{◌≤◌, ◌<◌, ℕ, List, length, false}
 use Rattle.inf_text.specs.declared.span.Span.{Span}
 use Rattle.limbo_lexer.specs.declared.token.Kind.{Kind}
 use Rattle.limbo_lexer.specs.declared.fault.LexFault.{LexFault}
@@ -58,7 +58,7 @@ place_of (Lex fault) = lex_place fault
 place_of (Parse fault span) = at span
 place_of Unbuilt = start
 
--- no list of tokens within the limit of nesting has a tree
+-- the tokens have no tree that nests up to 256 deep
 abbrev pub HasNoTree : List Kind → Type 0
 HasNoTree tokens = (tree : Source) → IsTree false tokens tree → source_nesting tree ≤ 256 → ⊥
 
@@ -70,7 +70,7 @@ HasNoTreeAtAll tokens = (tree : Source) → IsTree false tokens tree → ⊥
 abbrev pub IsParseFault : List Kind → ParseFault → Type 0
 IsParseFault tokens parse.NoMemory = ⊥
 IsParseFault tokens (parse.Syntax token) = HasNoTreeAtAll tokens
-IsParseFault tokens (parse.TooDeep token) = 256 < token
+IsParseFault tokens (parse.TooDeep token) = (256 < token) × (token ≤ length tokens)
 
 -- a refusal of bytes and tokens, and not want of memory
 abbrev pub IsLexFault : LexFault → Type 0
@@ -79,8 +79,8 @@ IsLexFault _ = Unit {0}
 
 -- What each refusal says of the source's bytes. One of bytes and tokens says that they have no tokens, and why. One of
 -- the grammar says that their tokens have no tree within the limit of nesting; a fault of syntax, that they have none at
--- all; a fault of depth, that more than 256 tokens stand before its place. The last says that they have a tree, and are
--- no program of the built part.
+-- all; a fault of depth, that more than 256 of the tokens stand before its place. The last says that they have a tree, and
+-- are no program of the built part.
 abbrev pub IsFault : List ℕ → SourceFault → Type 0
 IsFault source (Lex fault) = IsLexFault fault × IsRefused source fault × ((tokens : List Kind) → HasTokens source tokens → ⊥)
 IsFault source (Parse fault span) =

@@ -7,11 +7,12 @@ ghost use Rattle.limbo_reading.specs.Reading.{kinds, Gives};
 ghost use Rattle.limbo_reading.specs.Lists as lists;
 ghost use Rattle.limbo_lexer.specs.declared.token.Mark.TheVariants as mark;
 ghost use Rattle.limbo_expr_parser.specs.Types.{ty_at as ty_of_at};
+ghost use Rattle.limbo_expr_parser.specs.Boxes.{view_boxed};
 ghost use Rattle.limbo_decl_parser.specs.Decls as decls;
 
 use crate::members::{adt_at, ended_expr, ended_type, members_at, only_name};
 use inf_text::Span;
-use limbo_expr_parser::{expr_at, type_at};
+use limbo_expr_parser::{expr_at, type_at, unboxed};
 use limbo_lexer::{Key, Mark, Token};
 use limbo_reading::{
     ReadError, after_key, after_mark, expect_mark, expect_name, expect_names, place, syntax,
@@ -25,9 +26,9 @@ fn value_at(
     alloc: Global,
     budget: u32,
     tokens: &[Token],
-) -> Result<(Option<Expr>, &[Token]), ReadError>
+) -> Result<(Option<Box<Expr>>, &[Token]), ReadError>
     requires { budget < 1000 }
-    ensures { Gives (λ x. (option_map view_expr x.0, kinds x.1.now)) result (decls.value_at budget (kinds tokens.now)) }
+    ensures { Gives (λ x. (view_boxed x.0, kinds x.1.now)) result (decls.value_at budget (kinds tokens.now)) }
 {
     let Some(rest) = after_mark(Mark::Assign, tokens) else {
         return Ok((None, tokens));
@@ -108,7 +109,7 @@ fn var_decl(
     let tree = Decl::Var {
         names,
         of,
-        value,
+        value: unboxed(value),
         span,
     };
     Ok((tree, rest))

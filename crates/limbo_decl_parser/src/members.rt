@@ -43,7 +43,7 @@ pub fn ended_expr(
 {
     let (value, _, rest) = expr_at(alloc, budget, tokens)?;
     let rest = expect_mark(Mark::Semicolon, rest)?;
-    Ok((value, rest))
+    Ok((Box::into_inner(value), rest))
 }
 
 /// What stands behind a function's name, and the `;` behind it.

@@ -3,3 +3,4 @@ pub mod Strength
 pub mod Types
 pub mod Exprs
 pub mod Views
+pub mod Boxes

@@ -1,9 +1,10 @@
 //! Trees on the heap. Readers hold their trees so, since a tree by value would make each frame large.
 
-ghost use Rattle.std.specs.Prelude.{◌≡◌, IfOk, IfErr};
+ghost use Rattle.std.specs.Prelude.{◌≡◌, IfOk, IfErr, option_map};
 ghost use Rattle.limbo_tree.specs.Exprs as tree;
 ghost use Rattle.limbo_tree.specs.View.{view_expr, view_init};
 ghost use Rattle.limbo_reading.specs.declared.fault.ReadError.TheVariants.{NoMemory};
+ghost use Rattle.limbo_expr_parser.specs.Boxes.{view_boxed};
 
 use limbo_reading::ReadError;
 use limbo_tree::{Expr, Init};
@@ -18,6 +19,16 @@ pub fn boxed(alloc: Global, tree: Expr) -> Result<Box<Expr>, ReadError>
     ensures memory { IfErr result (λ e. e ≡ NoMemory) }
 {
     Ok(Box::new(alloc, tree)?)
+}
+
+/// The tree in the box, if there is one.
+pub fn unboxed(tree: Option<Box<Expr>>) -> Option<Expr>
+    ensures { option_map view_expr result ≡ view_boxed tree }
+{
+    match tree {
+        Some(tree) => Some(Box::into_inner(tree)),
+        None => None,
+    }
 }
 
 /// The item `value` of an array.

@@ -27,15 +27,14 @@ pub fn expr_at(
     alloc: Global,
     budget: u32,
     tokens: &[Token],
-) -> Result<(Expr, u32, &[Token]), ReadError>
+) -> Result<(Box<Expr>, u32, &[Token]), ReadError>
     requires { budget < 1000 }
-    ensures same { Gives (λ x. (view_expr x.0, kinds x.2.now)) result ((readers budget).expr (kinds tokens.now)) }
-    ensures size { IfOk result (λ x. x.1 ≡ nesting (view_expr x.0)) }
+    ensures same { Gives (λ x. (view_expr x.0.value, kinds x.2.now)) result ((readers budget).expr (kinds tokens.now)) }
+    ensures size { IfOk result (λ x. x.1 ≡ nesting (view_expr x.0.value)) }
     ensures within { IfOk result (λ x. x.1 ≤ budget) }
     ensures shorter { IfOk result (λ x. length (kinds x.2.now) < length (kinds tokens.now)) }
 {
-    let (tree, size, rest) = expr_in(alloc, budget, tokens)?;
-    Ok((Box::into_inner(tree), size, rest))
+    expr_in(alloc, budget, tokens)
 }
 
 /// A unary of nesting up to the budget, its nesting, and what stands behind it.
@@ -47,15 +46,14 @@ pub fn unary_at(
     alloc: Global,
     budget: u32,
     tokens: &[Token],
-) -> Result<(Expr, u32, &[Token]), ReadError>
+) -> Result<(Box<Expr>, u32, &[Token]), ReadError>
     requires { budget < 1000 }
-    ensures same { Gives (λ x. (view_expr x.0, kinds x.2.now)) result ((readers budget).chain 0 (kinds tokens.now)) }
-    ensures size { IfOk result (λ x. x.1 ≡ nesting (view_expr x.0)) }
+    ensures same { Gives (λ x. (view_expr x.0.value, kinds x.2.now)) result ((readers budget).chain 0 (kinds tokens.now)) }
+    ensures size { IfOk result (λ x. x.1 ≡ nesting (view_expr x.0.value)) }
     ensures within { IfOk result (λ x. x.1 ≤ budget) }
     ensures shorter { IfOk result (λ x. length (kinds x.2.now) < length (kinds tokens.now)) }
 {
-    let (tree, size, rest) = chain_at(alloc, budget, 0, tokens)?;
-    Ok((Box::into_inner(tree), size, rest))
+    chain_at(alloc, budget, 0, tokens)
 }
 
 // An assignment's sign behind the tree, if it may be assigned to, and what follows the sign.

@@ -16,5 +16,6 @@ mod operators;
 mod postfix;
 mod types;
 
+pub use boxes::unboxed;
 pub use expr::{expr_at, unary_at};
 pub use types::type_at;

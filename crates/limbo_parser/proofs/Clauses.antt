@@ -1,5 +1,5 @@
 -- The clauses of `parse`, from what reading gives.
-use Rattle.std.proofs.Common.{◌≡◌, ◌≢◌, ℕ, suc, ◌≤◌, ◌<◌, ◌+◌, ◌-◌, Bool, arith, List, [], ◌∷◌, length, Result, Ok, Err, refl}
+use Rattle.std.proofs.Common.{◌≡◌, ◌≢◌, ℕ, suc, ◌≤◌, ◌<◌, ◌+◌, ◌-◌, Bool, arith, List, [], ◌∷◌, length, Result, Ok, Err, ◌⊎◌, inl, inr, refl}
 use Rattle.std.specs.Prelude.{IfOk, IfErr, MatchResult}
 use Rattle.limbo_lexer.specs.declared.token.Token.{Token}
 use Rattle.limbo_lexer.specs.declared.token.Kind.{Kind}
@@ -58,3 +58,14 @@ is_deep i ts k (Err (errors.Fault (TooDeep m))) g l n e =
 pub kinds_length : (ts : List Token) → length ts ≡ length (kinds ts)
 kinds_length [] = refl
 kinds_length (t ∷ ts) = omega (arith, kinds_length ts)
+
+-- the token of a fault stands among the tokens, or behind the last
+pub is_within : (n : ℕ) (r : Result code_source.Source ReadError) (token : ℕ) → (told r n ≡ Err (refusal.Syntax token)) ⊎ (told r n ≡ Err (refusal.TooDeep token)) → token ≤ n
+is_within n (Ok x) token (inl e) = absurd cc
+is_within n (Ok x) token (inr e) = absurd cc
+is_within n (Err errors.NoMemory) token (inl e) = absurd cc
+is_within n (Err errors.NoMemory) token (inr e) = absurd cc
+is_within n (Err (errors.Fault (Syntax m))) token (inl e) = let q : n - m ≡ token = cc in omega arith
+is_within n (Err (errors.Fault (Syntax m))) token (inr e) = absurd cc
+is_within n (Err (errors.Fault (TooDeep m))) token (inl e) = absurd cc
+is_within n (Err (errors.Fault (TooDeep m))) token (inr e) = let q : n - m ≡ token = cc in omega arith

@@ -21,6 +21,7 @@ use Rattle.limbo_tree.specs.declared.stmt.CaseArm as code_case_arm
 use Rattle.limbo_tree.specs.declared.stmt.CaseArm.{CaseArm-F, roll-CaseArm, fold-roll-CaseArm}
 use Rattle.limbo_tree.specs.declared.stmt.Pattern as code_pattern
 use Rattle.limbo_tree.specs.declared.stmt.HandlerPattern as code_handler_pattern
+use Rattle.limbo_tree.specs.Exprs.{Expr}
 use Rattle.limbo_tree.specs.Stmts as stmts
 use Rattle.limbo_tree.specs.View.{Handler, stmts_of, arms_of, name_of, names_of, view_expr, view_decl, view_pattern, view_handler_pattern, view_stmt, view_block, view_case_arm, view_alt_arm, view_pick_arm, view_handler_arm, stmt_step, alt_arm_step, block_step, case_arm_step, handler_step, handler_arm_step, pick_arm_step}
 
@@ -118,6 +119,11 @@ view_case_arm-is ps ss at = fold-roll-CaseArm _ _ _ _ _ _ _ stmt_step alt_arm_st
 pub view_alt_arm-is : (h : Option code_expr.Expr) (ss : Vec code_stmt.Stmt Global) (at : Span) → view_alt_arm (roll-AltArm (record { head = h; body = ss; span = at })) ≡ record { head = stmts.AltHead (option_map view_expr h); body = stmts_of (map view_stmt ss.items) }
 unfolding view_alt_arm view_stmt
 view_alt_arm-is h ss at = fold-roll-AltArm _ _ _ _ _ _ _ stmt_step alt_arm_step block_step case_arm_step handler_step handler_arm_step pick_arm_step (record { head = h; body = ss; span = at })
+
+-- the same, where what stands for the head is known
+pub boxed_alt_arm-is : (h : Option code_expr.Expr) (b : Option Expr) (ss : Vec code_stmt.Stmt Global) (at : Span) → option_map view_expr h ≡ b
+    → view_alt_arm (roll-AltArm (record { head = h; body = ss; span = at })) ≡ record { head = stmts.AltHead b; body = stmts_of (map view_stmt ss.items) }
+boxed_alt_arm-is h b ss at e = rw (← e) (view_alt_arm-is h ss at)
 
 pub view_pick_arm-is : (ns : Vec code_name.Name Global) (ss : Vec code_stmt.Stmt Global) (at : Span) → view_pick_arm (roll-PickArm (record { names = ns; body = ss; span = at })) ≡ record { head = stmts.PickHead (names_of ns.items); body = stmts_of (map view_stmt ss.items) }
 unfolding view_pick_arm view_stmt

@@ -1,15 +1,16 @@
 -- Reading statements, from left to right, with the first fault that is met. The kind of a statement is chosen by its
 -- first tokens.
-use Rattle.std.specs.Prelude.{ℕ, zero, suc, List, length, Option, Some, None, Ok, Err, if◌then◌else◌, option_map}
+use Rattle.std.specs.Prelude.{ℕ, zero, suc, List, length, Option, Some, None, Ok, Err, if◌then◌else◌}
 use Rattle.limbo_lexer.specs.declared.token.Mark.{Mark}
 use Rattle.limbo_lexer.specs.declared.token.Mark.TheVariants as mark
 use Rattle.limbo_lexer.specs.declared.token.Key.TheVariants as key
 use Rattle.limbo_tree.specs.Exprs.{Expr, is_postfix}
 use Rattle.limbo_tree.specs.Stmts.{Stmt, Stmts, Block, Empty, Nested, Declare, Eval, If, IfElse, While, Do, For, Case, Alt, Pick, Break, Continue, Return, Exit, Spawn, Raise, Plain, Handled}
-use Rattle.limbo_tree.specs.View.{Arm, stmts_of, arms_of, view_expr}
+use Rattle.limbo_tree.specs.View.{Arm, stmts_of, arms_of}
 use Rattle.limbo_reading.specs.declared.fault.Fault.TheVariants.{Syntax, TooDeep}
 use Rattle.limbo_reading.specs.Reading.{◌>>=◌, Reader, choose, after_mark, after_key, after_name, expect_mark, expect_key, expect_name}
 use Rattle.limbo_reading.specs.Lists.{until}
+use Rattle.limbo_expr_parser.specs.Boxes.{view_boxed}
 use Rattle.limbo_expr_parser.specs.Exprs.{readers}
 use Rattle.limbo_decl_parser.specs.Decls.{decl_at}
 use Rattle.limbo_parser.specs.declared.start.Branch.{Branch}
@@ -49,7 +50,7 @@ pub record ForHead : Type 0 where
   pub next : Option Expr
 
 abbrev pub view_for_head : code_head.ForHead → ForHead
-view_for_head h = record { first = option_map view_expr h.first; condition = option_map view_expr h.condition; next = option_map view_expr h.next }
+view_for_head h = record { first = view_boxed h.first; condition = view_boxed h.condition; next = view_boxed h.next }
 
 -- what stands between "for" and its statement
 unfoldable pub for_head_at : ℕ → Reader ForHead

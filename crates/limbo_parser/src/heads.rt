@@ -1,12 +1,13 @@
 //! What stands before the `=>` of an arm, and where the statements of an arm or of a block end.
 
-ghost use Rattle.std.specs.Prelude.{◌≡◌, ◌<◌, None, Some, MatchOption, List, map, option_map};
+ghost use Rattle.std.specs.Prelude.{◌≡◌, ◌<◌, None, Some, MatchOption, List, map};
 ghost use Rattle.limbo_lexer.specs.declared.token.Key.TheVariants as key;
 ghost use Rattle.limbo_tree.specs.Stmts.{CaseHead, AltHead, PickHead, HandlerHead};
-ghost use Rattle.limbo_tree.specs.View.{view_expr, view_pattern, view_handler_pattern, names_of};
+ghost use Rattle.limbo_tree.specs.View.{view_pattern, view_handler_pattern, names_of};
 ghost use Rattle.limbo_reading.specs.Reading.{kinds, Gives};
 ghost use Rattle.limbo_reading.specs.Reading as reading;
 ghost use Rattle.limbo_reading.specs.Lists as lists;
+ghost use Rattle.limbo_expr_parser.specs.Boxes.{view_boxed};
 ghost use Rattle.limbo_parser.specs.declared.start.Region.TheVariants as region;
 ghost use Rattle.limbo_parser.specs.Heads as heads;
 
@@ -69,16 +70,13 @@ fn case_pattern_at(
     }
     let (first, _, rest) = expr_at(alloc, budget, tokens)?;
     let Some(behind) = after_key(Key::To, rest) else {
-        return Ok((Pattern::One { value: first }, rest));
+        let value = Box::into_inner(first);
+        return Ok((Pattern::One { value }, rest));
     };
     let (last, _, rest) = expr_at(alloc, budget, behind)?;
-    Ok((
-        Pattern::Range {
-            from: first,
-            to: last,
-        },
-        rest,
-    ))
+    let from = Box::into_inner(first);
+    let to = Box::into_inner(last);
+    Ok((Pattern::Range { from, to }, rest))
 }
 
 fn handler_pattern_at(tokens: &[Token]) -> Result<(HandlerPattern, &[Token]), ReadError>
@@ -181,9 +179,9 @@ pub fn alt_front_at(
     alloc: Global,
     budget: u32,
     tokens: &[Token],
-) -> Result<(Option<Expr>, &[Token]), ReadError>
+) -> Result<(Option<Box<Expr>>, &[Token]), ReadError>
     requires { budget < 1000 }
-    ensures { Gives (λ x. (AltHead (option_map view_expr x.0), kinds x.1.now)) result (heads.front_at budget region.Alt (kinds tokens.now)) }
+    ensures { Gives (λ x. (AltHead (view_boxed x.0), kinds x.1.now)) result (heads.front_at budget region.Alt (kinds tokens.now)) }
 {
     if let Some(rest) = star_alone(tokens) {
         let rest = expect_mark(Mark::FatArrow, rest)?;

@@ -1,14 +1,15 @@
 //! Parts of statements that hold no statements, and the statements that end in a semicolon behind a keyword.
 
-ghost use Rattle.std.specs.Prelude.{◌≡◌, ◌<◌, true, IfOk, option_map};
+ghost use Rattle.std.specs.Prelude.{◌≡◌, ◌<◌, true, IfOk};
 ghost use Rattle.limbo_tree.specs.Exprs.{is_postfix};
 ghost use Rattle.limbo_tree.specs.View.{view_expr, view_stmt, name_of};
 ghost use Rattle.limbo_reading.specs.Reading.{kinds, Gives};
+ghost use Rattle.limbo_expr_parser.specs.Boxes.{view_boxed};
 ghost use Rattle.limbo_parser.specs.Stmts as stmts;
 
 use crate::start::Jump;
 use inf_text::Span;
-use limbo_expr_parser::{expr_at, unary_at};
+use limbo_expr_parser::{expr_at, unary_at, unboxed};
 use limbo_lexer::{Kind, Mark, Token};
 use limbo_reading::{ReadError, after_mark, expect_mark, expect_name, syntax};
 use limbo_tree::{Expr, Name, Stmt};
@@ -41,9 +42,9 @@ pub fn option_before(
     budget: u32,
     mark: Mark,
     tokens: &[Token],
-) -> Result<(Option<Expr>, &[Token]), ReadError>
+) -> Result<(Option<Box<Expr>>, &[Token]), ReadError>
     requires { budget < 1000 }
-    ensures { Gives (λ x. (option_map view_expr x.0, kinds x.1.now)) result (stmts.option_before budget mark (kinds tokens.now)) }
+    ensures { Gives (λ x. (view_boxed x.0, kinds x.1.now)) result (stmts.option_before budget mark (kinds tokens.now)) }
 {
     if let Some(rest) = after_mark(mark, tokens) {
         return Ok((None, rest));
@@ -60,9 +61,9 @@ pub fn expr_before(
     budget: u32,
     mark: Mark,
     tokens: &[Token],
-) -> Result<(Expr, &[Token]), ReadError>
+) -> Result<(Box<Expr>, &[Token]), ReadError>
     requires { budget < 1000 }
-    ensures { Gives (λ x. (view_expr x.0, kinds x.1.now)) result (stmts.expr_before budget mark (kinds tokens.now)) }
+    ensures { Gives (λ x. (view_expr x.0.value, kinds x.1.now)) result (stmts.expr_before budget mark (kinds tokens.now)) }
 {
     let (value, _, rest) = expr_at(alloc, budget, tokens)?;
     let rest = expect_mark(mark, rest)?;
@@ -72,9 +73,9 @@ pub fn expr_before(
 /// What stands between the brackets of a `for`.
 #[derive(Drop)]
 pub struct ForHead {
-    pub first: Option<Expr>,
-    pub condition: Option<Expr>,
-    pub next: Option<Expr>,
+    pub first: Option<Box<Expr>>,
+    pub condition: Option<Box<Expr>>,
+    pub next: Option<Box<Expr>>,
 }
 
 /// `"(" [expr] ";" [expr] ";" [expr] ")"`
@@ -125,10 +126,11 @@ fn spawned_at(
     ensures { Gives (λ x. (view_stmt x.0, kinds x.1.now)) result (stmts.spawned_at budget (kinds tokens.now)) }
 {
     let (call, _, rest) = unary_at(alloc, budget, tokens)?;
-    if !is_call(&call) {
+    if !is_call(&*call) {
         return Err(syntax(tokens));
     }
     let rest = expect_mark(Mark::Semicolon, rest)?;
+    let call = Box::into_inner(call);
     Ok((Stmt::Spawn { call, span }, rest))
 }
 
@@ -157,6 +159,7 @@ pub fn jump_at(
         }
         Jump::Return => {
             let (value, rest) = option_before(alloc, budget, Mark::Semicolon, tokens)?;
+            let value = unboxed(value);
             Ok((Stmt::Return { value, span }, rest))
         }
         Jump::Exit => {
@@ -166,6 +169,7 @@ pub fn jump_at(
         Jump::Spawn => spawned_at(alloc, budget, span, tokens),
         Jump::Raise => {
             let (value, rest) = option_before(alloc, budget, Mark::Semicolon, tokens)?;
+            let value = unboxed(value);
             Ok((Stmt::Raise { value, span }, rest))
         }
     }

@@ -8,14 +8,14 @@ use limbo_lexer::{Key, Kind, Mark, Token};
 use limbo_reading::after_mark;
 
 /// The statements that may have a label.
-#[derive(Clone, Copy, PartialEq, Eq, Debug)]
+#[derive(Clone, Copy)]
 pub enum Branch {
     Loop(Loop),
     Choice(Choice),
 }
 
 /// The statements that repeat one.
-#[derive(Clone, Copy, PartialEq, Eq, Debug)]
+#[derive(Clone, Copy)]
 pub enum Loop {
     While,
     Do,
@@ -23,7 +23,7 @@ pub enum Loop {
 }
 
 /// The statements that choose an arm.
-#[derive(Clone, Copy, PartialEq, Eq, Debug)]
+#[derive(Clone, Copy)]
 pub enum Choice {
     Case,
     Alt,
@@ -31,7 +31,7 @@ pub enum Choice {
 }
 
 /// The statements that end in a semicolon behind a keyword.
-#[derive(Clone, Copy, PartialEq, Eq, Debug)]
+#[derive(Clone, Copy)]
 pub enum Jump {
     Break,
     Continue,
@@ -42,7 +42,7 @@ pub enum Jump {
 }
 
 /// Where statements stand one behind the other: in a block, or in an arm of one of four kinds.
-#[derive(Clone, Copy, PartialEq, Eq, Debug)]
+#[derive(Clone, Copy)]
 pub enum Region {
     Block,
     Case,

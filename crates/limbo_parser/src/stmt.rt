@@ -15,6 +15,7 @@ use crate::jump::{ForHead, expr_before, for_head_at, jump_at, label_at, option_b
 use crate::start::{Branch, Choice, Loop, Region, Start, beginning};
 use inf_text::Span;
 use limbo_decl_parser::decl_at;
+use limbo_expr_parser::unboxed;
 use limbo_lexer::{Key, Mark, Token};
 use limbo_reading::{
     ReadError, after_key, after_mark, expect_key, expect_mark, expect_name, place, too_deep,
@@ -56,6 +57,7 @@ pub fn stmt_at(alloc: Global, budget: u32, tokens: &[Token]) -> Result<(Stmt, &[
         }
         Start::Other => {
             let (value, rest) = expr_before(alloc, inner, Mark::Semicolon, tokens)?;
+            let value = Box::into_inner(value);
             Ok((Stmt::Eval { value, span }, rest))
         }
     }
@@ -78,7 +80,7 @@ fn if_at(
     let then = Box::new(alloc, then)?;
     let Some(behind) = after_key(Key::Else, rest) else {
         let tree = Stmt::If {
-            condition,
+            condition: Box::into_inner(condition),
             then,
             otherwise: None,
             span,
@@ -86,10 +88,11 @@ fn if_at(
         return Ok((tree, rest));
     };
     let (otherwise, rest) = stmt_at(alloc, inner, behind)?;
+    let otherwise = Box::new(alloc, otherwise)?;
     let tree = Stmt::If {
-        condition,
+        condition: Box::into_inner(condition),
         then,
-        otherwise: Some(Box::new(alloc, otherwise)?),
+        otherwise: Some(otherwise),
         span,
     };
     Ok((tree, rest))
@@ -136,7 +139,7 @@ fn while_at(
     let body = Box::new(alloc, body)?;
     let tree = Stmt::While {
         label,
-        condition,
+        condition: unboxed(condition),
         body,
         span,
     };
@@ -164,7 +167,7 @@ fn do_at(
     let tree = Stmt::Do {
         label,
         body,
-        condition,
+        condition: unboxed(condition),
         span,
     };
     Ok((tree, rest))
@@ -192,9 +195,9 @@ fn for_at(
     } = head;
     let tree = Stmt::For {
         label,
-        first,
-        condition,
-        next,
+        first: unboxed(first),
+        condition: unboxed(condition),
+        next: unboxed(next),
         body,
         span,
     };
@@ -217,7 +220,7 @@ fn case_at(
     let (arms, rest) = case_arms_at(alloc, inner, rest)?;
     let tree = Stmt::Case {
         label,
-        value,
+        value: Box::into_inner(value),
         arms,
         span,
     };
@@ -260,7 +263,7 @@ fn pick_at(
     let tree = Stmt::Pick {
         label,
         name,
-        value,
+        value: Box::into_inner(value),
         arms,
         span,
     };
@@ -371,6 +374,7 @@ fn alt_arms_at(
         let span = place(rest);
         let (head, after) = alt_front_at(alloc, budget, rest)?;
         let (body, after) = stmts_at(alloc, budget, Region::Alt, after)?;
+        let head = unboxed(head);
         arms.push(AltArm { head, body, span })?;
         rest = after;
     }

@@ -1,6 +1,6 @@
 //! The public call.
 
-ghost use Rattle.std.specs.Prelude.{◌≡◌, ◌≢◌, ◌≤◌, ◌<◌, ℕ, IfOk, IfErr, MatchResult, Err};
+ghost use Rattle.std.specs.Prelude.{◌≡◌, ◌≢◌, ◌≤◌, ◌<◌, ◌⊎◌, ℕ, IfOk, IfErr, MatchResult, Err, length};
 ghost use Rattle.limbo_tree.specs.Sources as sources;
 ghost use Rattle.limbo_tree.specs.Sources.{IsTree, source_nesting};
 ghost use Rattle.limbo_tree.specs.View.{view_source};
@@ -62,6 +62,9 @@ pub fn parse(alloc: Global, tokens: &[Token], included: bool) -> Result<Source, 
     ensures syntax { (token : ℕ) → result ≡ Err (ParseFault.Syntax token) → (s : sources.Source) → IsTree included (kinds tokens.now) s → ⊥ }
     // More than 256 tokens stand before a fault of depth.
     ensures too_deep { (token : ℕ) → result ≡ Err (ParseFault.TooDeep token) → 256 < token }
+    // The token of a fault is one of these, or the place behind the last.
+    ensures within { (token : ℕ) → (result ≡ Err (ParseFault.Syntax token)) ⊎ (result ≡ Err (ParseFault.TooDeep token))
+        → token ≤ length tokens.now }
 {
     let read = tree_at(alloc, 256, included, tokens);
     told(read, tokens.len())

@@ -4,7 +4,7 @@ use crate::types::TypeTree;
 use inf_text::Span;
 
 /// A declaration (Limbo Language Reference, declarations).
-#[derive(Drop, Debug)]
+#[derive(Drop)]
 pub enum Decl {
     /// `names: con value;`
     Con {
@@ -59,7 +59,7 @@ pub enum Decl {
 }
 
 /// A member of a module or of an adt.
-#[derive(Drop, Debug)]
+#[derive(Drop)]
 pub enum Member {
     /// `names: of;`
     Var {
@@ -95,7 +95,7 @@ pub enum Member {
 }
 
 /// A variant of a pick adt, under one or more names: `names => fields`.
-#[derive(Drop, Debug)]
+#[derive(Drop)]
 pub struct Variant {
     pub names: Vec<Name>,
     pub fields: Vec<Field>,
@@ -103,7 +103,7 @@ pub struct Variant {
 }
 
 /// Fields of a variant: `names: of;`
-#[derive(Drop, Debug)]
+#[derive(Drop)]
 pub struct Field {
     pub names: Vec<Name>,
     pub of: TypeTree,
@@ -111,7 +111,7 @@ pub struct Field {
 }
 
 /// What a function takes, answers and raises: `(params): answer raises ..`
-#[derive(Drop, Debug)]
+#[derive(Drop)]
 pub struct FnType {
     pub params: Vec<Param>,
     pub answer: Option<TypeTree>,
@@ -120,7 +120,7 @@ pub struct FnType {
 }
 
 /// Parameters of one type: `names: self of`. A name that is absent is `nil`.
-#[derive(Drop, Debug)]
+#[derive(Drop)]
 pub struct Param {
     pub names: Vec<Option<Name>>,
     pub is_self: bool,
@@ -129,7 +129,7 @@ pub struct Param {
 }
 
 /// The exceptions that a function says it raises.
-#[derive(Drop, Debug)]
+#[derive(Drop)]
 pub enum Raises {
     /// `raises name`
     One { name: Name },

@@ -4,7 +4,7 @@ use crate::types::TypeTree;
 use inf_text::{Span, Text};
 
 /// An expression (Limbo Language Reference, expressions).
-#[derive(Drop, Debug)]
+#[derive(Drop)]
 #[cycle(exprs)]
 pub enum Expr {
     /// `left op right`: an assignment, a declaration by `:=`, or a send.
@@ -127,7 +127,7 @@ pub enum Expr {
 }
 
 /// An item between the braces of an array.
-#[derive(Drop, Debug)]
+#[derive(Drop)]
 #[cycle(exprs)]
 pub enum Init {
     /// `value`

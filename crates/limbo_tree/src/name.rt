@@ -1,14 +1,14 @@
 use inf_text::{Span, Text};
 
 /// A name, where it stands.
-#[derive(Drop, Debug)]
+#[derive(Drop)]
 pub struct Name {
     pub text: Text,
     pub span: Span,
 }
 
 /// A qualified name, as types are named: `ID ["->" ID] ["." ID]`.
-#[derive(Drop, Debug)]
+#[derive(Drop)]
 pub struct Qual {
     pub first: Name,
     /// Behind `->`: a member of the module that `first` names.

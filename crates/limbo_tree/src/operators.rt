@@ -1,5 +1,5 @@
 /// The operators between two operands.
-#[derive(Clone, Copy, PartialEq, Eq, Debug)]
+#[derive(Clone, Copy, PartialEq, Eq)]
 pub enum BinaryOp {
     /// `||`
     OrOr,
@@ -42,7 +42,7 @@ pub enum BinaryOp {
 }
 
 /// The operators before one operand, conversions among them.
-#[derive(Clone, Copy, PartialEq, Eq, Debug)]
+#[derive(Clone, Copy, PartialEq, Eq)]
 pub enum UnaryOp {
     /// `+`
     Plus,
@@ -81,7 +81,7 @@ pub enum UnaryOp {
 }
 
 /// The operators behind an operand.
-#[derive(Clone, Copy, PartialEq, Eq, Debug)]
+#[derive(Clone, Copy, PartialEq, Eq)]
 pub enum PostfixOp {
     /// `++`
     Increment,
@@ -90,7 +90,7 @@ pub enum PostfixOp {
 }
 
 /// The assignments.
-#[derive(Clone, Copy, PartialEq, Eq, Debug)]
+#[derive(Clone, Copy, PartialEq, Eq)]
 pub enum AssignOp {
     /// `=`
     Assign,

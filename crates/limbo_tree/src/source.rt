@@ -4,7 +4,7 @@ use crate::stmt::Block;
 use inf_text::{Span, Text};
 
 /// A source, or an included text.
-#[derive(Drop, Debug)]
+#[derive(Drop)]
 pub struct Source {
     /// `implement name;`. An included text has none.
     pub implements: Option<Name>,
@@ -12,7 +12,7 @@ pub struct Source {
 }
 
 /// What stands at the top level.
-#[derive(Drop, Debug)]
+#[derive(Drop)]
 pub enum Top {
     /// `include path;`
     Include { path: Text, span: Span },
@@ -23,7 +23,7 @@ pub enum Top {
 }
 
 /// The definition of a function, or of a function of an adt: `name.part(params): answer body`
-#[derive(Drop, Debug)]
+#[derive(Drop)]
 pub struct Function {
     pub name: Name,
     pub part: Option<Name>,

@@ -4,7 +4,7 @@ use crate::name::Name;
 use inf_text::{Span, Text};
 
 /// A statement (Limbo Language Reference, statements).
-#[derive(Drop, Debug)]
+#[derive(Drop)]
 #[cycle(statements)]
 pub enum Stmt {
     /// `;`
@@ -109,7 +109,7 @@ pub enum Stmt {
 }
 
 /// `{ statements }`, and perhaps what handles their exceptions.
-#[derive(Drop, Debug)]
+#[derive(Drop)]
 #[cycle(statements)]
 pub struct Block {
     pub statements: Vec<Stmt>,
@@ -118,7 +118,7 @@ pub struct Block {
 }
 
 /// `exception name { arms }` behind a block.
-#[derive(Drop, Debug)]
+#[derive(Drop)]
 #[cycle(statements)]
 pub struct Handler {
     pub name: Option<Name>,
@@ -126,7 +126,7 @@ pub struct Handler {
 }
 
 /// `patterns => body` in a handler.
-#[derive(Drop, Debug)]
+#[derive(Drop)]
 #[cycle(statements)]
 pub struct HandlerArm {
     pub patterns: Vec<HandlerPattern>,
@@ -135,7 +135,7 @@ pub struct HandlerArm {
 }
 
 /// Which exceptions an arm of a handler takes.
-#[derive(Drop, Debug)]
+#[derive(Drop)]
 pub enum HandlerPattern {
     /// A string.
     Chars { text: Text, span: Span },
@@ -146,7 +146,7 @@ pub enum HandlerPattern {
 }
 
 /// `patterns => body` in a `case`.
-#[derive(Drop, Debug)]
+#[derive(Drop)]
 #[cycle(statements)]
 pub struct CaseArm {
     pub patterns: Vec<Pattern>,
@@ -155,7 +155,7 @@ pub struct CaseArm {
 }
 
 /// Which values an arm of a `case` takes.
-#[derive(Drop, Debug)]
+#[derive(Drop)]
 pub enum Pattern {
     /// `value`
     One { value: Expr },
@@ -166,7 +166,7 @@ pub enum Pattern {
 }
 
 /// `head => body` in an `alt`. A head that is absent is `*`.
-#[derive(Drop, Debug)]
+#[derive(Drop)]
 #[cycle(statements)]
 pub struct AltArm {
     pub head: Option<Expr>,
@@ -175,7 +175,7 @@ pub struct AltArm {
 }
 
 /// `names => body` in a `pick`. No names are `*`.
-#[derive(Drop, Debug)]
+#[derive(Drop)]
 #[cycle(statements)]
 pub struct PickArm {
     pub names: Vec<Name>,

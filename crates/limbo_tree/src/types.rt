@@ -2,7 +2,7 @@ use crate::name::Qual;
 use inf_text::Span;
 
 /// A type (Limbo Language Reference, types).
-#[derive(Drop, Debug)]
+#[derive(Drop)]
 pub enum TypeTree {
     /// `byte`
     Byte { span: Span },

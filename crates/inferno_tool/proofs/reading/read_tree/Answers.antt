@@ -1,4 +1,4 @@
-use Rattle.std.proofs.Common.{Err, subst, sym, ap, ◌∙◌}
+use Rattle.std.proofs.Common.{Err, subst, sym, ap, ◌∙◌, inr}
 use Rattle.limbo_parser.specs.declared.tree.ParseFault.{ParseFault}
 use Rattle.inferno_tool.specs.declared.reading.ReadFault.{ReadFault}
 use Rattle.inferno_tool.specs.Reading.{IsReadFault, unparsed}
@@ -28,4 +28,6 @@ returns-clause-refused c =
     subst (λ (f : ReadFault). IsReadFault c.args.source.now f) (sym c.unparsed.ensures)
     (unparsed_is c.args.source.now c.as_slice-tokens.result.now c.in-Err-parse.fault lexed c.in-Err-parse.ensures.refused
     (λ token e. c.parse.ensures.syntax token (c.in-Err-parse.is ∙ ap (λ (f : ParseFault). Err f) e))
-    (λ token e. c.parse.ensures.too_deep token (c.in-Err-parse.is ∙ ap (λ (f : ParseFault). Err f) e)))
+    (λ token e.
+    let is = c.in-Err-parse.is ∙ ap (λ (f : ParseFault). Err f) e in
+    (c.parse.ensures.too_deep token is, c.parse.ensures.within token (inr is))))
