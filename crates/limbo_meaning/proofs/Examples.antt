@@ -90,13 +90,13 @@ unfolding factorial calls_it
 first_proper =
     let three : ProperExpr both [] (num 3) = (refl, sfits_lit tt) in
     let call : ProperExpr both [] (of_one 1 (num 3)) = ((three, tt), (calls_it, refl, refl)) in
-    record { ints = tt; answers = inr refl; locals = tt; parameters = refl; body = (((call, tt), (refl, tt), refl), tt) }
+    record { words = tt; answers = inr refl; locals = tt; parameters = refl; body = (((call, tt), (refl, tt), refl), tt) }
 
 second_proper : ProperFunction both (slice_index_or both 1 int_function)
 unfolding factorial calls_it
 second_proper =
     let vars : List Var = int_var ∷ [] in
-    let argument : ProperExpr both vars (var 0) = (int_var, refl, refl) in
+    let argument : ProperExpr both vars (var 0) = ((int_var, refl, refl), refl) in
     let nought : ProperExpr both vars (num 0) = (refl, sfits_lit tt) in
     let one : ProperExpr both vars (num 1) = (refl, sfits_lit tt) in
     let less : ProperExpr both vars (op Subtract (var 0) (num 1)) = (refl, argument, refl, one, refl) in
@@ -104,9 +104,9 @@ second_proper =
     let test : ProperExpr both vars (op Equal (var 0) (num 0)) = (refl, argument, refl, nought, refl) in
     let product : ProperExpr both vars (op Multiply (var 0) (of_one 1 (op Subtract (var 0) (num 1)))) = (refl, argument, refl, call, refl) in
     record {
-      ints = (refl, tt);
+      words = (tt, tt);
       answers = inl refl;
-      locals = (refl, tt);
+      locals = (tt, tt);
       parameters = refl;
       body = ((test, refl, ((one, refl, refl), tt), tt), ((product, refl, refl), tt));
     }
@@ -125,7 +125,7 @@ abbrev pub byte_at : ℕ → ℕ → Request
 byte_at offset b = record { link = 1; frame = 24 ∷ 0 ∷ 0 ∷ 0 ∷ 118 ∷ 0 ∷ 0 ∷ 2 ∷ 0 ∷ 0 ∷ 0 ∷ offset ∷ 0 ∷ 0 ∷ 0 ∷ 0 ∷ 0 ∷ 0 ∷ 0 ∷ 1 ∷ 0 ∷ 0 ∷ 0 ∷ b ∷ [] }
 
 -- it prints 6
-pub factorial_of_three : told 10000 factorial (Quantum 0 46 ∷ Reply 0 (r.Write 1) ∷ Quantum 0 2 ∷ []) ≡ Some (Requested 0 (byte_at 0 54) ∷ Replied 0 (r.Write 1) ∷ Over 0 Ended ∷ [])
+pub factorial_of_three : told 10000 factorial (Quantum 0 49 ∷ Reply 0 (r.Write 1) ∷ Quantum 0 2 ∷ []) ≡ Some (Requested 0 (byte_at 0 54) ∷ Replied 0 (r.Write 1) ∷ Over 0 Ended ∷ [])
 unfolding factorial int_wrap digits lib.Utf8.encode
 factorial_of_three = refl
 
@@ -135,7 +135,7 @@ loop : Module
 loop = made_of (function [] Nothing 1 (MoreStmts (Assign 0 (num 0)) (MoreStmts (While (op Less (var 0) (num 3)) (does (Assign 0 (op Add (var 0) (num 1))))) (does (printing_one (var 0))))) ∷ [])
 
 -- it prints 3
-loops : told 10000 loop (Quantum 0 43 ∷ Reply 0 (r.Write 1) ∷ Quantum 0 2 ∷ []) ≡ Some (Requested 0 (byte_at 0 51) ∷ Replied 0 (r.Write 1) ∷ Over 0 Ended ∷ [])
+loops : told 10000 loop (Quantum 0 44 ∷ Reply 0 (r.Write 1) ∷ Quantum 0 2 ∷ []) ≡ Some (Requested 0 (byte_at 0 51) ∷ Replied 0 (r.Write 1) ∷ Over 0 Ended ∷ [])
 unfolding loop int_wrap digits lib.Utf8.encode
 loops = refl
 

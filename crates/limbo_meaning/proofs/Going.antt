@@ -7,7 +7,7 @@ use Rattle.limbo_types.specs.Types.{Ty}
 use Rattle.limbo_typed.specs.Typed as typed
 use Rattle.limbo_typed.specs.Typed.{Expr, Exprs, Stmt, Stmts, Var, Function}
 use Rattle.limbo_typed.specs.Proper.{HasFunction, ProperExpr, ProperExprs, ProperReturn, ProperStmt, ProperStmts, ProperFunction}
-use Rattle.limbo_meaning.specs.Trees.{Block, Done}
+use Rattle.limbo_meaning.specs.Trees.{Over, Block, Done, Then}
 use Rattle.limbo_meaning.specs.Program.{Routine, routine_of, routines_of, term_of, terms_of, return_of, before, all_before}
 use Rattle.limbo_meaning.specs.World.{opening_world}
 use Rattle.limbo_meaning.specs.Rules.{rules, naming}
@@ -54,7 +54,7 @@ module _ (functions : List Function) where
     mutual
       before_sound : (answer : Ty) (s : Stmt) (rest : Block) → ProperStmt functions vars answer s → SoundBlock rs rest → SoundBlock rs (before s rest)
       before_sound answer typed.Empty rest h k = (tt, k)
-      before_sound answer (typed.Block ss) rest h k = all_before_sound answer ss rest h k
+      before_sound answer (typed.Block ss) rest h k = all_before_sound answer ss (Then Over rest) h (tt, k)
       before_sound answer (typed.Assign x e) rest h k = (term_sound e h.0, k)
       before_sound answer (typed.Eval e) rest h k = (term_sound e h, k)
       before_sound answer (typed.If c ss others) rest h k = ((term_sound c h.0, all_before_sound answer ss Done h.2 tt, all_before_sound answer others Done h.3 tt), k)

@@ -28,7 +28,7 @@ run_of m first there journal trace (Some t) e h = let same : t.trace ≡ trace =
 -- the factorial of 3 has a run that prints 6
 pub factorial_runs : HasRun factorial 0 (Requested 0 (byte_at 0 54) ∷ Replied 0 (r.Write 1) ∷ Over 0 Ended ∷ [])
 unfolding factorial
-factorial_runs = run_of factorial _ refl (Quantum 0 46 ∷ Reply 0 (r.Write 1) ∷ Quantum 0 2 ∷ []) _ _ refl factorial_of_three
+factorial_runs = run_of factorial _ refl (Quantum 0 49 ∷ Reply 0 (r.Write 1) ∷ Quantum 0 2 ∷ []) _ _ refl factorial_of_three
 
 -- of 8,193 bytes a first request carries 8,192
 abbrev asked_and_left : Printing → Option (ℕ × List ℕ)

@@ -173,10 +173,10 @@ module _ (rs : List Routine) where
         evaluate_sound SoundTerm fill rest (next p.frame.variables t) _ _ k (next_good p.frame.variables t h) (λ t' s. s) (λ v t' s. s) (λ v. (k, below))
     act_sound (If t a b) rest h k =
         evaluate_sound SoundTerm fill rest (next p.frame.variables t) _ _ k (next_good p.frame.variables t h.0) (λ t' s. (s, h.1, h.2)) (λ v t' s. (s, h.1, h.2))
-        (λ v. ((tt, join_sound (chosen (holds v) a b) rest (chosen_sound (holds v) a b h.1 h.2) k), below))
+        (λ v. ((tt, join_sound (chosen (holds v) a b) (Then Over rest) (chosen_sound (holds v) a b h.1 h.2) (tt, k)), below))
     act_sound (While t c body) rest h k =
         evaluate_sound SoundTerm fill rest (next p.frame.variables t) _ _ k (next_good p.frame.variables t h.0) (λ t' s. (s, h.1, h.2)) (λ v t' s. (s, h.1, h.2))
-        (λ v. ((tt, chosen_sound (holds v) (join body (Again c body rest)) rest (join_sound body (Again c body rest) h.2 (h.1, h.2, k)) k), below))
+        (λ v. ((tt, chosen_sound (holds v) (join body (Again c body rest)) (Then Over rest) (join_sound body (Again c body rest) h.2 (h.1, h.2, k)) (tt, k)), below))
     act_sound (Return t) rest h k =
         evaluate_sound SoundTerm fill rest (next p.frame.variables t) _ _ k (next_good p.frame.variables t h) (λ t' s. s) (λ v t' s. s) (λ v. returns_sound v p.below below)
     act_sound Leave rest h k = returns_sound zero_value p.below below

@@ -108,17 +108,17 @@ ending w = refl
 ending_of_call : Goes (alone [] (Then (Eval (Evaluated (n 7))) (Then Leave Done))) (alone [] (Then Leave Done))
 ending_of_call w = refl
 
-deciding : (a b rest : Stm) → Goes (alone [] (Then (If (Evaluated (n 7)) (Then a Done) (Then b Done)) (Then rest Done))) (alone [] (Then Over (Then a (Then rest Done))))
+deciding : (a b rest : Stm) → Goes (alone [] (Then (If (Evaluated (n 7)) (Then a Done) (Then b Done)) (Then rest Done))) (alone [] (Then Over (Then a (Then Over (Then rest Done)))))
 deciding a b rest w = refl
 
-deciding_otherwise : (a b rest : Stm) → Goes (alone [] (Then (If (Evaluated (n 0)) (Then a Done) (Then b Done)) (Then rest Done))) (alone [] (Then Over (Then b (Then rest Done))))
+deciding_otherwise : (a b rest : Stm) → Goes (alone [] (Then (If (Evaluated (n 0)) (Then a Done) (Then b Done)) (Then rest Done))) (alone [] (Then Over (Then b (Then Over (Then rest Done)))))
 deciding_otherwise a b rest w = refl
 
 -- a loop: the body and then the mark, or what follows; at the mark the condition begins anew
 entering : (c : Term) (a rest : Stm) → Goes (alone [] (Then (While (Evaluated (n 1)) c (Then a Done)) (Then rest Done))) (alone [] (Then Over (Then a (Again c (Then a Done) (Then rest Done)))))
 entering c a rest w = refl
 
-leaving : (c : Term) (a rest : Stm) → Goes (alone [] (Then (While (Evaluated (n 0)) c (Then a Done)) (Then rest Done))) (alone [] (Then Over (Then rest Done)))
+leaving : (c : Term) (a rest : Stm) → Goes (alone [] (Then (While (Evaluated (n 0)) c (Then a Done)) (Then rest Done))) (alone [] (Then Over (Then Over (Then rest Done))))
 leaving c a rest w = refl
 
 turning : (c : Term) (body rest : Block) → Goes (alone [] (Again c body rest)) (alone [] (Then (While c c body) rest))

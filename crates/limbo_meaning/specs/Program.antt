@@ -21,11 +21,12 @@ abbrev pub return_of : Option Expr → Block → Block
 return_of None rest = Then Leave rest
 return_of (Some e) rest = Then (Return (term_of e)) rest
 
--- A statement in front of what follows it, and statements in front of what follows them. A block is its statements in a row.
+-- A statement in front of what follows it, and statements in front of what follows them. A block is its statements in a row, and
+-- then its end.
 abbrev mutual
   pub before : Stmt → Block → Block
   before typed.Empty rest = Then Over rest
-  before (typed.Block ss) rest = all_before ss rest
+  before (typed.Block ss) rest = all_before ss (Then Over rest)
   before (typed.Assign x e) rest = Then (Assign x (term_of e)) rest
   before (typed.Eval e) rest = Then (Eval (term_of e)) rest
   before (typed.If c ss others) rest = Then (If (term_of c) (all_before ss Done) (all_before others Done)) rest

@@ -22,7 +22,8 @@ module _ (limit : ℕ) (routines : List Routine) where
   evaluate w p rest Blocked within use_it = stands_still w p
 
   -- A step of a statement, in front of the rest of its frame. A write, and the decision of a condition, leave the end of the
-  -- statement to a step of its own; a condition is a statement of its own, which ends before what was chosen begins.
+  -- statement to a step of its own. A condition is a statement of its own, which ends before what was chosen begins; the whole
+  -- statement ends behind that.
   abbrev pub act : World → Process → Stm → (rest : Block) → Does
   act w p Over rest = goes w p p.frame.variables rest
   act w p (Assign x t) rest =
@@ -30,9 +31,9 @@ module _ (limit : ℕ) (routines : List Routine) where
   act w p (Eval t) rest =
       evaluate w p rest (next p.frame.variables t) (λ t. Eval t) (λ v. goes w p p.frame.variables rest)
   act w p (If t a b) rest =
-      evaluate w p rest (next p.frame.variables t) (λ t. If t a b) (λ v. goes w p p.frame.variables (Then Over (join (chosen (holds v) a b) rest)))
+      evaluate w p rest (next p.frame.variables t) (λ t. If t a b) (λ v. goes w p p.frame.variables (Then Over (join (chosen (holds v) a b) (Then Over rest))))
   act w p (While t c body) rest =
-      evaluate w p rest (next p.frame.variables t) (λ t. While t c body) (λ v. goes w p p.frame.variables (Then Over (chosen (holds v) (join body (Again c body rest)) rest)))
+      evaluate w p rest (next p.frame.variables t) (λ t. While t c body) (λ v. goes w p p.frame.variables (Then Over (chosen (holds v) (join body (Again c body rest)) (Then Over rest))))
   act w p (Return t) rest =
       evaluate w p rest (next p.frame.variables t) (λ t. Return t) (λ v. returns w p p.below v)
   act w p Leave rest = returns w p p.below zero_value

@@ -1,7 +1,7 @@
 -- What the checker promises of a module: that the numbers in it exist, and that the types fit.
 use Rattle.std.specs.Prelude.{ℕ, ◌≡◌, ◌+◌, ◌⊎◌, List, [], ◌∷◌, map, take, length, Option, Some, None, slice_get, FitsSigned}
 use Rattle.std.specs.Int.{w32}
-use Rattle.limbo_types.specs.Types.{Ty, Int, Nothing}
+use Rattle.limbo_types.specs.Types.{Ty, Int, Nothing, ListOf, RefAdt}
 use Rattle.limbo_typed.specs.Typed.{Expr, Exprs, Number, Variable, Binary, Call, NoExprs, MoreExprs, Piece, Chars, Decimal, Stmt, Stmts, Empty, Block, Assign, Eval, If, While, Return, Print, NoStmts, MoreStmts, Var, Function, Module}
 
 abbrev pub type_of : Expr → Ty
@@ -24,6 +24,18 @@ abbrev pub AllInt : List Ty → Type 0
 AllInt [] = Unit {0}
 AllInt (t ∷ ts) = (t ≡ Int) × AllInt ts
 
+-- A value of this type takes one word: an int, or a reference. Of references there are so far only the parameters of `init`, which
+-- nothing reads.
+abbrev pub IsWord : Ty → Type 0
+IsWord Int = Unit {0}
+IsWord (ListOf t) = Unit {0}
+IsWord (RefAdt n) = Unit {0}
+IsWord _ = ⊥
+
+abbrev pub AllWords : List Ty → Type 0
+AllWords [] = Unit {0}
+AllWords (t ∷ ts) = IsWord t × AllWords ts
+
 -- The module has this function.
 pub record HasFunction (functions : List Function) (number : ℕ) : Type 0 where
   pub function : Function
@@ -38,7 +50,7 @@ module _ (functions : List Function) (variables : List Var) where
   abbrev mutual
     pub ProperExpr : Expr → Type 0
     ProperExpr (Number ty n) = (ty ≡ Int) × FitsSigned w32 n
-    ProperExpr (Variable ty x) = HasVariable x ty
+    ProperExpr (Variable ty x) = HasVariable x ty × (ty ≡ Int)
     ProperExpr (Binary ty o l r) =
         (ty ≡ Int) × ProperExpr l × (type_of l ≡ Int) × ProperExpr r × (type_of r ≡ Int)
     ProperExpr (Call ty f es) =
@@ -68,11 +80,11 @@ module _ (functions : List Function) (variables : List Var) where
     ProperStmts answer NoStmts = Unit {0}
     ProperStmts answer (MoreStmts s ss) = ProperStmt answer s × ProperStmts answer ss
 
--- A function over ints: its parameters are its first variables, and its body is proper.
+-- A function: its parameters are its first variables, each of one word, and its body is proper.
 pub record ProperFunction (functions : List Function) (f : Function) : Type 0 where
-  pub ints : AllInt f.of.args
+  pub words : AllWords f.of.args
   pub answers : (f.of.answer ≡ Int) ⊎ (f.of.answer ≡ Nothing)
-  pub locals : AllInt (map (λ v. v.ty) f.variables)
+  pub locals : AllWords (map (λ v. v.ty) f.variables)
   pub parameters : take (length f.of.args) (map (λ v. v.ty) f.variables) ≡ f.of.args
   pub body : ProperStmts functions f.variables f.of.answer f.body
 

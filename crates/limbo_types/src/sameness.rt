@@ -4,6 +4,7 @@ ghost use Rattle.limbo_types.specs.Same as types;
 
 use crate::ty::Ty;
 
+// The place of a type's form among the forms.
 #[tactic(auto, using(crate::proofs::View::the_types))]
 fn rank(t: &Ty) -> u32
     ensures { result ≡ types.rank (view_ty t.now) }
@@ -26,6 +27,7 @@ fn rank(t: &Ty) -> u32
     }
 }
 
+// What an array, a list or a channel is of.
 #[tactic(auto, using(crate::proofs::View::the_types))]
 fn item_of(t: &Ty) -> Option<&Ty>
     ensures { MatchOption result (types.item_of (view_ty t.now) ≡ None) (λ r. types.item_of (view_ty t.now) ≡ Some (view_ty r.now)) }
@@ -48,6 +50,7 @@ fn item_of(t: &Ty) -> Option<&Ty>
     }
 }
 
+// The parts of a tuple.
 #[tactic(auto, using(crate::proofs::View::the_types))]
 fn parts_of(t: &Ty) -> Option<&[Ty]>
     ensures { MatchOption result (types.parts_of (view_ty t.now) ≡ None) (λ r. types.parts_of (view_ty t.now) ≡ Some (view_tys r.now)) }
@@ -70,6 +73,7 @@ fn parts_of(t: &Ty) -> Option<&[Ty]>
     }
 }
 
+// The number of an adt or a module, and 0 of other types.
 #[tactic(auto, using(crate::proofs::View::the_types))]
 fn number_of(t: &Ty) -> u32
     ensures { result ≡ types.number_of (view_ty t.now) }
@@ -92,6 +96,7 @@ fn number_of(t: &Ty) -> u32
     }
 }
 
+// The number of a variant, and 0 of other types.
 #[tactic(auto, using(crate::proofs::View::the_types))]
 fn variant_of(t: &Ty) -> u32
     ensures { result ≡ types.variant_of (view_ty t.now) }
@@ -114,6 +119,7 @@ fn variant_of(t: &Ty) -> u32
     }
 }
 
+// Whether both have one form, and the same parts.
 #[tactic(auto, using(crate::proofs::View::the_types))]
 #[cycle(same)]
 fn same(t: &Ty, u: &Ty) -> bool
@@ -151,6 +157,7 @@ fn same(t: &Ty, u: &Ty) -> bool
     }
 }
 
+// Whether there are as many, each the same as its counterpart.
 #[tactic(auto, using(crate::proofs::View::the_types))]
 #[cycle(same)]
 fn all_same(ts: &[Ty], us: &[Ty]) -> bool
