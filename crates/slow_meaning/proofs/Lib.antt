@@ -1,1 +1,4 @@
 pub mod Wraps
+pub mod Tags
+pub mod Sizes
+pub mod Pieces

@@ -4,13 +4,19 @@
 mod copies;
 mod evaluation;
 mod filling;
+mod outside;
+mod prints;
+mod processes;
 mod program;
+mod steps;
 mod trees;
 mod values;
+mod writing;
 
-pub use copies::{copy_block, copy_pieces, copy_stm, copy_term, copy_terms};
-pub use evaluation::{Progress, next, next_all};
-pub use filling::fill_block;
+pub use outside::{File, Files, Link, Links, World, opening_world};
+pub use processes::{Effect, Ending, Frame, Process, first_process};
 pub use program::{Routine, routines};
-pub use trees::{Block, Stm, Term, Terms, again, applied, join, one_more, then};
-pub use values::{Value, holds, int_of_count, result_of};
+pub use steps::{answer, step};
+pub use trees::{Block, Stm, Term, Terms};
+pub use values::Value;
+pub use writing::{Request, Writing};
