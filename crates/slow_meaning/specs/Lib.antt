@@ -3,3 +3,5 @@ pub mod Routines
 pub mod Worlds
 pub mod Printing
 pub mod Processes
+pub mod Alone
+pub mod Stories
