@@ -16,7 +16,7 @@ use Rattle.limbo_meaning.specs.Step.{step, answer}
 use Rattle.limbo_meaning.specs.Rules.{rules, naming}
 use Rattle.limbo_meaning.specs.Runs.{Meaning, MeaningRun, Trace, frames_limit, first_process}
 use Rattle.limbo_meaning.specs.Replays.{HasRun}
-use Rattle.slow_meaning.specs.Alone.{Standing, Goes, Waits, Still, Over, Alone, alone, went, heard, advanced, advance, run_on, begins, run_in, AloneIsTold}
+use Rattle.slow_meaning.specs.Alone.{Standing, Goes, Waits, Still, Over, Alone, alone, went, heard, advanced, advance, run_on, begins, run_in, run_of}
 use Rattle.slow_meaning.specs.declared.running.Alone as code_alone
 use Rattle.slow_meaning.specs.Stories.{view_alone}
 
@@ -143,7 +143,8 @@ told_of m init replies most (Some first) there a e =
       told = t.told;
     })
 
-pub alone_is_told : AloneIsTold
+-- what a run of a process alone tells is told of a run of the module
+alone_is_told : (m : Module) (init : ℕ) (replies : List Rmsg) (most : ℕ) (a : Alone) → run_of frames_limit m init replies most ≡ Some a → HasRun m init a.trace
 alone_is_told m init replies most a e = told_of m init replies most (slice_get (routines_of m) init) refl a e
 
 -- so what a call of `run` answers tells is told of a run

@@ -1,5 +1,5 @@
 -- A process alone, run by a list of replies: a fold of the steps and the answers.
-use Rattle.std.specs.Prelude.{ℕ, zero, suc, ◌≡◌, List, [], ◌∷◌, ◌++◌, Option, Some, None, slice_get, Bool, true, false}
+use Rattle.std.specs.Prelude.{ℕ, zero, suc, List, [], ◌∷◌, ◌++◌, Option, Some, None, slice_get, Bool, true, false}
 use Rattle.std.specs.Option.{option_map}
 use Rattle.styx_msg.specs.declared.message.Rmsg.{Rmsg}
 use Rattle.process_model.specs.Process as process
@@ -9,8 +9,7 @@ use Rattle.limbo_meaning.specs.Program.{Routine, routines_of}
 use Rattle.limbo_meaning.specs.World.{World, opening_world}
 use Rattle.limbo_meaning.specs.Process.{Process, Does}
 use Rattle.limbo_meaning.specs.Step.{step, answer}
-use Rattle.limbo_meaning.specs.Runs.{Trace, first_process, frames_limit}
-use Rattle.limbo_meaning.specs.Replays.{HasRun}
+use Rattle.limbo_meaning.specs.Runs.{Trace, first_process}
 
 -- Where it stands: it can take a step; it waits for a reply; it stands still, since no rule says how to go on or since the reply
 -- was none to its request; or it is over.
@@ -47,12 +46,16 @@ heard rs trace r (Spawns w child p) = alone (Still w p) rs trace
 heard rs trace r (Asks w m p) = alone (Waits w p) rs (trace ++ Replied 0 r ∷ Requested 0 m ∷ [])
 heard rs trace r (Ends w how) = alone (Over w) rs (trace ++ Replied 0 r ∷ process.Over 0 how ∷ [])
 
+-- The next reply, where there is one.
+abbrev pub hear_next : World → Process → List Rmsg → Trace → Alone
+hear_next w p [] trace = alone (Waits w p) [] trace
+hear_next w p (r ∷ rs) trace = heard rs trace r (answer r w p)
+
 module _ (limit : ℕ) (routines : List Routine) where
   -- One step, or one reply. Where there is neither, nothing changes.
   abbrev pub advanced : Standing → List Rmsg → Trace → Alone
   advanced (Goes w p) rs trace = went rs trace (step limit routines w p)
-  advanced (Waits w p) [] trace = alone (Waits w p) [] trace
-  advanced (Waits w p) (r ∷ rs) trace = heard rs trace r (answer r w p)
+  advanced (Waits w p) rs trace = hear_next w p rs trace
   advanced (Still w p) rs trace = alone (Still w p) rs trace
   advanced (Over w) rs trace = alone (Over w) rs trace
 
@@ -83,9 +86,3 @@ run_in limit routines init replies most =
 
 abbrev pub run_of : (limit : ℕ) → Module → (init : ℕ) → List Rmsg → (most : ℕ) → Option Alone
 run_of limit m init replies most = run_in limit (routines_of m) init replies most
-
--- What such a run tells is told of a run of the module.
-abbrev pub AloneIsTold : Type 0
-AloneIsTold =
-    (m : Module) (init : ℕ) (replies : List Rmsg) (most : ℕ) (a : Alone) →
-    run_of frames_limit m init replies most ≡ Some a → HasRun m init a.trace

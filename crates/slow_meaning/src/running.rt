@@ -50,6 +50,16 @@ pub struct Alone {
     pub trace: Vec<Told>,
 }
 
+fn alone_at(standing: Standing, replies: Vec<Rmsg>, trace: Vec<Told>) -> Alone
+    ensures { view_alone result ≡ alone.alone (view_standing standing) replies.items (map view_told trace.items) }
+{
+    Alone {
+        standing,
+        replies,
+        trace,
+    }
+}
+
 fn one_told(trace: Vec<Told>, told: Told) -> Result<Vec<Told>, AllocError>
     ensures { IfOk result (λ t. map view_told t.items ≡ map view_told trace.items ++ view_told told ∷ []) }
 {
@@ -72,38 +82,20 @@ fn went(replies: Vec<Rmsg>, trace: Vec<Told>, e: Effect) -> Result<Alone, AllocE
     ensures { IfOk result (λ a. view_alone a ≡ alone.went replies.items (map view_told trace.items) (view_effect e)) }
 {
     match e {
-        Effect::Went(w, p) => Ok(Alone {
-            standing: Standing::Goes(w, p),
-            replies,
-            trace,
-        }),
-        Effect::Parks(w, p) => Ok(Alone {
-            standing: Standing::Still(w, p),
-            replies,
-            trace,
-        }),
+        Effect::Went(w, p) => Ok(alone_at(Standing::Goes(w, p), replies, trace)),
+        Effect::Parks(w, p) => Ok(alone_at(Standing::Still(w, p), replies, trace)),
         Effect::Asks(w, m, p) => {
             let trace = one_told(trace, Told::Requested(m))?;
-            let standing = Standing::Waits(w, p);
-            Ok(Alone {
-                standing,
-                replies,
-                trace,
-            })
+            Ok(alone_at(Standing::Waits(w, p), replies, trace))
         }
         Effect::Ends(w, how) => {
             let trace = one_told(trace, Told::Over(how))?;
-            let standing = Standing::Over(w);
-            Ok(Alone {
-                standing,
-                replies,
-                trace,
-            })
+            Ok(alone_at(Standing::Over(w), replies, trace))
         }
     }
 }
 
-// After a reply.
+// After a reply, which is told where it is one to the request.
 fn heard(
     replies: Vec<Rmsg>,
     trace: Vec<Told>,
@@ -115,60 +107,33 @@ fn heard(
     match e {
         Effect::Went(w, p) => {
             let trace = one_told(trace, Told::Replied(r))?;
-            let standing = Standing::Goes(w, p);
-            Ok(Alone {
-                standing,
-                replies,
-                trace,
-            })
+            Ok(alone_at(Standing::Goes(w, p), replies, trace))
         }
-        Effect::Parks(w, p) => Ok(Alone {
-            standing: Standing::Still(w, p),
-            replies,
-            trace,
-        }),
+        Effect::Parks(w, p) => Ok(alone_at(Standing::Still(w, p), replies, trace)),
         Effect::Asks(w, m, p) => {
             let trace = two_told(trace, Told::Replied(r), Told::Requested(m))?;
-            let standing = Standing::Waits(w, p);
-            Ok(Alone {
-                standing,
-                replies,
-                trace,
-            })
+            Ok(alone_at(Standing::Waits(w, p), replies, trace))
         }
         Effect::Ends(w, how) => {
             let trace = two_told(trace, Told::Replied(r), Told::Over(how))?;
-            let standing = Standing::Over(w);
-            Ok(Alone {
-                standing,
-                replies,
-                trace,
-            })
+            Ok(alone_at(Standing::Over(w), replies, trace))
         }
     }
 }
 
 // The next reply, where there is one.
-fn hears_next(
+fn hear_next(
     alloc: Global,
-    limit: usize,
-    routines: &[Routine],
     w: World,
     p: Process,
     replies: Vec<Rmsg>,
     trace: Vec<Told>,
 ) -> Result<Alone, AllocError>
-    ensures { IfOk result (λ a. view_alone a ≡ alone.advanced limit (view_routines routines.now)
-        (alone.Waits (view_world w) (view_process p)) replies.items (map view_told trace.items)) }
+    ensures { IfOk result (λ a. view_alone a ≡ alone.hear_next (view_world w) (view_process p) replies.items (map view_told trace.items)) }
 {
     let mut replies = replies;
     if replies.is_empty() {
-        let standing = Standing::Waits(w, p);
-        return Ok(Alone {
-            standing,
-            replies,
-            trace,
-        });
+        return Ok(alone_at(Standing::Waits(w, p), replies, trace));
     }
     let r = replies.remove(0);
     let e = answer(alloc, &r, w, p)?;
@@ -194,17 +159,9 @@ pub fn advance(
             let e = step(alloc, limit, routines, w, p)?;
             went(replies, trace, e)
         }
-        Standing::Waits(w, p) => hears_next(alloc, limit, routines, w, p, replies, trace),
-        Standing::Still(w, p) => Ok(Alone {
-            standing: Standing::Still(w, p),
-            replies,
-            trace,
-        }),
-        Standing::Over(w) => Ok(Alone {
-            standing: Standing::Over(w),
-            replies,
-            trace,
-        }),
+        Standing::Waits(w, p) => hear_next(alloc, w, p, replies, trace),
+        Standing::Still(w, p) => Ok(alone_at(Standing::Still(w, p), replies, trace)),
+        Standing::Over(w) => Ok(alone_at(Standing::Over(w), replies, trace)),
     }
 }
 
