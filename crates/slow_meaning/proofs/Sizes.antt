@@ -1,5 +1,5 @@
 -- A request of a print is short enough for a message.
-use Rattle.std.proofs.Common.{◌≡◌, ℕ, ◌+◌, ◌≤◌, List, [], ◌++◌, length, ap, append-nil, arith, refl, Result, Ok, Err}
+use Rattle.std.proofs.Common.{◌≡◌, ℕ, ◌≤◌, List, [], ◌++◌, length, ap, append-nil, arith, refl, Err}
 use Rattle.styx_msg.specs.declared.fault.StyxFault.{StyxFault}
 use Rattle.styx_msg.specs.declared.fault.StyxFault.TheVariants.{NoMemory, BadSize, BadType, BadBody, TooLong}
 use Rattle.styx_msg.specs.declared.message.Tmsg.TheVariants as t

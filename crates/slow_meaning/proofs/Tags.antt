@@ -1,5 +1,5 @@
 -- The search for a free tag, one try on; and a tag in a message, of which only 16 bits are written.
-use Rattle.std.proofs.Common.{◌≡◌, ℕ, suc, ◌+◌, ◌-◌, ◌/◌, ◌%◌, ◌<◌, Bool, true, if◌then◌else◌, List, ◌∷◌, [], ◌++◌, length, sym, ap, ◌∙◌, arith, add-one}
+use Rattle.std.proofs.Common.{◌≡◌, ℕ, suc, ◌+◌, ◌-◌, ◌/◌, ◌%◌, ◌<◌, true, if◌then◌else◌, List, ◌∷◌, [], ◌++◌, length, sym, ap, ◌∙◌, arith, add-one}
 use Rattle.byteorder.specs.Endian.{little_bytes}
 use Rattle.styx_msg.specs.Styx.{Row, spelling, fields_bytes}
 use Rattle.limbo_meaning.specs.World.{is_among, least_from}

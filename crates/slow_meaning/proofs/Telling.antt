@@ -6,7 +6,7 @@ use Rattle.std.proofs.Math.ListN.{set}
 use Rattle.styx_msg.specs.declared.message.Rmsg.{Rmsg}
 use Rattle.process_model.specs.Process as process
 use Rattle.process_model.specs.Process.{Went, Parks, Polls, Spawns, Asks, Ends, Ready, Asking, Gone, Requested, Replied}
-use Rattle.process_model.specs.Source.{Turn, Matched, begun, turn, reply, Run, still, next, Steps, goes, asks, takes, ends, Hears, goes_on, asks_again, is_over}
+use Rattle.process_model.specs.Source.{Turn, Matched, begun, turn, reply, still, next, goes, asks, ends, goes_on, asks_again, is_over}
 use Rattle.process_model.specs.Law as law
 use Rattle.limbo_typed.specs.Typed.{Module}
 use Rattle.limbo_meaning.specs.Program.{Routine, routines_of}
@@ -14,9 +14,9 @@ use Rattle.limbo_meaning.specs.World.{World, opening_world}
 use Rattle.limbo_meaning.specs.Process.{Process, Does}
 use Rattle.limbo_meaning.specs.Step.{step, answer}
 use Rattle.limbo_meaning.specs.Rules.{rules, naming}
-use Rattle.limbo_meaning.specs.Runs.{Meaning, MeaningRun, Trace, frames_limit, first_process}
+use Rattle.limbo_meaning.specs.Runs.{Meaning, Trace, frames_limit, first_process}
 use Rattle.limbo_meaning.specs.Replays.{HasRun}
-use Rattle.slow_meaning.specs.Alone.{Standing, Goes, Waits, Still, Over, Alone, alone, went, heard, advanced, advance, run_on, begins, run_in, run_of}
+use Rattle.slow_meaning.specs.Alone.{Standing, Goes, Waits, Still, Over, Alone, went, heard, advanced, advance, run_on, begins, run_in, run_of}
 use Rattle.slow_meaning.specs.declared.running.Alone as code_alone
 use Rattle.slow_meaning.specs.Stories.{view_alone}
 

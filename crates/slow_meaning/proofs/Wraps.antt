@@ -1,5 +1,5 @@
 -- Operations on numbers that were wrapped to 32 bits before, wrapped again.
-use Rattle.std.proofs.Common.{◌≡◌, ℤ, ◌+ℤ◌, ◌-ℤ◌, ◌*ℤ◌, neg_ℤ, ◌∙◌, sym, refl}
+use Rattle.std.proofs.Common.{◌≡◌, ℤ, ◌+ℤ◌, ◌-ℤ◌, ◌*ℤ◌, neg_ℤ, ◌∙◌}
 use Rattle.std.specs.Int.{int_wrap, w32, int_wrapping_add, int_wrapping_sub, int_wrapping_mul}
 use Rattle.std.proofs.lemmas.Int.{int_wrap-add_left, int_wrap-add_right, int_wrap-sub_right, int_wrap-mul_left, int_wrap-mul_right, SFits-int_wrap, wrapping_add_is, wrapping_sub_is, wrapping_mul_is}
 

@@ -1,5 +1,5 @@
 -- The processes of the program, as the definitions have them.
-use Rattle.std.specs.Prelude.{List, [], map, Option, Some, None}
+use Rattle.std.specs.Prelude.{List, [], map, Some}
 use Rattle.std.specs.Option.{option_map}
 use Rattle.process_model.specs.Process.{Went, Parks, Asks, Ends}
 use Rattle.limbo_meaning.specs.Trees.{Block}

@@ -1,5 +1,5 @@
 -- Runs of the program, as the definition has them.
-use Rattle.std.specs.Prelude.{List, map}
+use Rattle.std.specs.Prelude.{map}
 use Rattle.process_model.specs.Process as process
 use Rattle.process_model.specs.Process.{Entry, Requested, Replied}
 use Rattle.styx_msg.specs.declared.message.Rmsg.{Rmsg}

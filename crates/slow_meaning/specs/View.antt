@@ -1,5 +1,5 @@
 -- The data of the program, as the definitions have them.
-use Rattle.std.specs.Prelude.{ℕ, List, [], ◌∷◌, map}
+use Rattle.std.specs.Prelude.{List, map}
 use Rattle.limbo_typed.specs.View.{view_op, view_piece}
 use Rattle.limbo_meaning.specs.Values.{Value, Num}
 use Rattle.limbo_meaning.specs.Trees.{Term, Evaluated, Awaiting, Constant, Variable, Apply, Call, Terms, NoTerms, MoreTerms, Stm, Over, Assign, Eval, If, While, Return, Leave, Print, Block, Done, Then, Again}

@@ -1,6 +1,6 @@
 -- What the processes of the program share, as the definitions have it.
 use Rattle.std.specs.Prelude.{[]}
-use Rattle.limbo_meaning.specs.World.{File, Files, Link, Links, World}
+use Rattle.limbo_meaning.specs.World.{Link, World}
 use Rattle.slow_meaning.specs.declared.outside.Link as code_link
 use Rattle.slow_meaning.specs.declared.outside.World as code_world
 

@@ -41,8 +41,8 @@ fn with_left(
 ) -> Result<Progress<Value, Term>, AllocError>
     ensures { IfOk result (λ p. view_progress view_value view_term p
         ≡ meaning.after (view_progress view_value view_term right)
-            (λ w. meaning.Stepped (Evaluated (result_of (view_op op) (view_value v) w)))
-            (λ b. Apply (view_op op) (view_term a.now) b)) }
+        (λ w. meaning.Stepped (Evaluated (result_of (view_op op) (view_value v) w)))
+        (λ b. Apply (view_op op) (view_term a.now) b)) }
 {
     match right {
         Progress::Finished(w) => Ok(Progress::Stepped(Term::Evaluated(result_of(op, v, w)))),
@@ -67,8 +67,8 @@ fn with_first(
 ) -> Result<Progress<Vec<Value>, Terms>, AllocError>
     ensures { IfOk result (λ p. view_progress (λ vs. view_values vs.items) view_terms p
         ≡ meaning.after (view_progress (λ vs. view_values vs.items) view_terms others)
-            (λ vs. meaning.Finished (view_value v ∷ vs))
-            (λ ts. MoreTerms (view_term t.now) ts)) }
+        (λ vs. meaning.Finished (view_value v ∷ vs))
+        (λ ts. MoreTerms (view_term t.now) ts)) }
 {
     match others {
         Progress::Finished(values) => Ok(Progress::Finished(in_front(alloc, v, &values)?)),
@@ -150,12 +150,12 @@ pub fn next_all(
                 with_first(alloc, t, v, others)
             }
             Progress::Stepped(first) => {
-                let rest = copy_terms(alloc, rest)?;
-                Ok(Progress::Stepped(one_more(alloc, first, rest)?))
+                let others = copy_terms(alloc, rest)?;
+                Ok(Progress::Stepped(one_more(alloc, first, others)?))
             }
             Progress::Calls(f, args, first) => {
-                let rest = copy_terms(alloc, rest)?;
-                Ok(Progress::Calls(f, args, one_more(alloc, first, rest)?))
+                let others = copy_terms(alloc, rest)?;
+                Ok(Progress::Calls(f, args, one_more(alloc, first, others)?))
             }
             Progress::Blocked => Ok(Progress::Blocked),
         },

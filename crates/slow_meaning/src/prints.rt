@@ -192,12 +192,7 @@ fn hear_count(alloc: Global, count: u32, world: &World, k: &Writing) -> Result<P
 }
 
 /// The reply to a print's request.
-pub fn hear(
-    alloc: Global,
-    reply: &Rmsg,
-    world: &World,
-    k: &Writing,
-) -> Result<Printing, AllocError>
+pub fn hear(alloc: Global, reply: &Rmsg, world: &World, k: &Writing) -> Result<Printing, AllocError>
     ensures { IfOk result (λ g. view_printing g ≡ meaning.hear reply.now (view_world world.now) (view_writing k.now)) }
 {
     match reply {

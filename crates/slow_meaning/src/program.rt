@@ -82,7 +82,11 @@ fn before(alloc: Global, s: &TStmt, rest: Block) -> Result<Block, AllocError>
             let t = term_of(alloc, e)?;
             then(alloc, Stm::Eval(t), rest)
         }
-        TStmt::If { condition, then: ss, other } => {
+        TStmt::If {
+            condition,
+            then: ss,
+            other,
+        } => {
             let t = term_of(alloc, condition)?;
             let a = all_before(alloc, ss, Block::Done)?;
             let b = all_before(alloc, other, Block::Done)?;

@@ -96,12 +96,7 @@ fn went(replies: Vec<Rmsg>, trace: Vec<Told>, e: Effect) -> Result<Alone, AllocE
 }
 
 // After a reply, which is told where it is one to the request.
-fn heard(
-    replies: Vec<Rmsg>,
-    trace: Vec<Told>,
-    r: Rmsg,
-    e: Effect,
-) -> Result<Alone, AllocError>
+fn heard(replies: Vec<Rmsg>, trace: Vec<Told>, r: Rmsg, e: Effect) -> Result<Alone, AllocError>
     ensures { IfOk result (λ a. view_alone a ≡ alone.heard replies.items (map view_told trace.items) r (view_effect e)) }
 {
     match e {

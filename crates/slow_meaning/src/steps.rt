@@ -12,7 +12,9 @@ use crate::copies::{copy_block, copy_term};
 use crate::evaluation::{Progress, next, next_all};
 use crate::outside::World;
 use crate::prints::{hear, print, text_of};
-use crate::processes::{Effect, Process, calls, goes, hears, prints, returns, stands_still, writes};
+use crate::processes::{
+    Effect, Process, calls, goes, hears, prints, returns, stands_still, writes,
+};
 use crate::program::Routine;
 use crate::trees::{Block, Stm, Term, Terms, again, join, then};
 use crate::values::{Value, holds};
@@ -277,7 +279,15 @@ fn work(
         Block::Done => returns(alloc, world, process, Value::Num(0)),
         Block::Then(s, rest) => {
             let s = Box::into_inner(s);
-            act(alloc, limit, routines, world, process, s, Box::into_inner(rest))
+            act(
+                alloc,
+                limit,
+                routines,
+                world,
+                process,
+                s,
+                Box::into_inner(rest),
+            )
         }
         Block::Again(c, body, rest) => {
             let t = copy_term(alloc, &c)?;

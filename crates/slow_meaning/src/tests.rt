@@ -178,8 +178,11 @@ fn outcome(
     }
 }
 
-const SIX: &str = "asks 1 [24, 0, 0, 0, 118, 0, 0, 2, 0, 0, 0, 0, 0, 0, 0, 0, 0, 0, 0, 1, 0, 0, 0, 54]; ";
-const THREE: &str = "asks 1 [24, 0, 0, 0, 118, 0, 0, 2, 0, 0, 0, 0, 0, 0, 0, 0, 0, 0, 0, 1, 0, 0, 0, 51]; ";
+const SIX: &str =
+    "asks 1 [24, 0, 0, 0, 118, 0, 0, 2, 0, 0, 0, 0, 0, 0, 0, 0, 0, 0, 0, 1, 0, 0, 0, 54]; ";
+
+const THREE: &str =
+    "asks 1 [24, 0, 0, 0, 118, 0, 0, 2, 0, 0, 0, 0, 0, 0, 0, 0, 0, 0, 0, 1, 0, 0, 0, 51]; ";
 
 /// The factorial of 3 asks in its step 49 and ends two steps behind the reply.
 #[test]
@@ -192,10 +195,16 @@ fn computes_a_factorial(rt: HostRuntime) -> Result<(), Fail> {
     assert_eq!(rt; asking.as_str(), format!(in alloc; "{SIX}waits")?.as_str());
     let wrote = Rmsg::Write { count: 1 };
     let ending = outcome(alloc, FRAMES_LIMIT, &program, Some(wrote), 51)?;
-    assert_eq!(rt; ending.as_str(), format!(in alloc; "{SIX}replied; goes")?.as_str());
+    assert_eq!(rt;
+        ending.as_str(),
+        format!(in alloc; "{SIX}replied; goes")?.as_str()
+    );
     let wrote = Rmsg::Write { count: 1 };
     let ended = outcome(alloc, FRAMES_LIMIT, &program, Some(wrote), 1000)?;
-    assert_eq!(rt; ended.as_str(), format!(in alloc; "{SIX}replied; ended; over")?.as_str());
+    assert_eq!(rt;
+        ended.as_str(),
+        format!(in alloc; "{SIX}replied; ended; over")?.as_str()
+    );
     let unfit = outcome(alloc, FRAMES_LIMIT, &program, Some(Rmsg::Clunk), 1000)?;
     assert_eq!(rt; unfit.as_str(), format!(in alloc; "{SIX}still")?.as_str());
     Ok(())
@@ -209,7 +218,10 @@ fn loops_and_overflows(rt: HostRuntime) -> Result<(), Fail> {
     let early = outcome(alloc, FRAMES_LIMIT, &program, None, 43)?;
     assert_eq!(rt; early.as_str(), "goes");
     let asking = outcome(alloc, FRAMES_LIMIT, &program, None, 44)?;
-    assert_eq!(rt; asking.as_str(), format!(in alloc; "{THREE}waits")?.as_str());
+    assert_eq!(rt;
+        asking.as_str(),
+        format!(in alloc; "{THREE}waits")?.as_str()
+    );
     let program = endless(alloc)?;
     let early = outcome(alloc, 3, &program, None, 2)?;
     assert_eq!(rt; early.as_str(), "goes");

@@ -1,4 +1,4 @@
-use Rattle.std.proofs.Common.{◌≡◌, ◌-◌, length}
+use Rattle.std.proofs.Common.{◌≡◌, ◌-◌}
 use Rattle.limbo_meaning.specs.World.{least_from}
 use Rattle.slow_meaning.proofs.outside.free_tag.Given as goal
 

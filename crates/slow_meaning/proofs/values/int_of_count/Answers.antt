@@ -1,4 +1,4 @@
-use Rattle.std.proofs.Common.{◌≡◌, ◌∙◌, ap, rules, w64, FitsSigned}
+use Rattle.std.proofs.Common.{◌∙◌, ap, rules, w64, FitsSigned}
 use Rattle.std.specs.Int.{int_wrap, w32}
 use Rattle.std.proofs.lemmas.Int.{to_z-of_z}
 use Rattle.limbo_meaning.specs.Values.{Num}

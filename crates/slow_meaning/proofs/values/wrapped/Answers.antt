@@ -1,4 +1,4 @@
-use Rattle.std.proofs.Common.{◌≡◌, ◌∙◌, ap, rules, unsigned_abs, w64, FitsSigned, to_z}
+use Rattle.std.proofs.Common.{◌∙◌, ap, rules, unsigned_abs, w64, FitsSigned, to_z}
 use Rattle.std.specs.Int.{int_wrap, w32}
 use Rattle.std.proofs.lemmas.Int.{to_z-of_z}
 use Rattle.slow_meaning.proofs.values.wrapped.Goals as goal
