@@ -42,7 +42,8 @@ fn add_pieces(
     pieces: &[Piece],
     values: &[Value],
 ) -> Result<(), AllocError>
-    ensures { IfOk result (λ _. text.new ≡ text.old ++ meaning.text_of (map view_piece pieces.now) (view_values values.now)) }
+    ensures { IfOk result (λ _. text.new
+        ≡ text.old ++ meaning.text_of (map view_piece pieces.now) (view_values values.now)) }
 {
     match pieces {
         [] => Ok(()),
@@ -64,7 +65,8 @@ fn add_argument(
     more: &[Piece],
     values: &[Value],
 ) -> Result<(), AllocError>
-    ensures { IfOk result (λ _. text.new ≡ text.old ++ meaning.text_of (Decimal ∷ map view_piece more.now) (view_values values.now)) }
+    ensures { IfOk result (λ _. text.new
+        ≡ text.old ++ meaning.text_of (Decimal ∷ map view_piece more.now) (view_values values.now)) }
 {
     match values {
         [] => add_pieces(alloc, text, more, values),
@@ -78,7 +80,8 @@ fn add_argument(
 
 /// The text that a format makes of its arguments.
 pub fn text_of(alloc: Global, pieces: &[Piece], values: &[Value]) -> Result<Text, AllocError>
-    ensures { IfOk result (λ t. t ≡ meaning.text_of (map view_piece pieces.now) (view_values values.now)) }
+    ensures { IfOk result (λ t. t
+        ≡ meaning.text_of (map view_piece pieces.now) (view_values values.now)) }
 {
     let mut text = Text::new(alloc);
     add_pieces(alloc, &mut text, pieces, values)?;
@@ -118,7 +121,8 @@ fn ask_piece(
     bytes: &[u8],
 ) -> Result<Printing, AllocError>
     requires { written + length bytes.now < 2 ^ 64 }
-    ensures { IfOk result (λ g. view_printing g ≡ meaning.ask_piece (view_world world) written bytes.now) }
+    ensures { IfOk result (λ g. view_printing g
+        ≡ meaning.ask_piece (view_world world) written bytes.now) }
 {
     let tag = free_tag(&world.links.console);
     let (piece, left) = bytes.split_at(LONGEST_PIECE.min(bytes.len()));
@@ -161,7 +165,8 @@ fn go_on(alloc: Global, world: World, total: u64, left: &[u8]) -> Result<Printin
 // So many bytes of the piece were written, and no more than were asked.
 fn took(alloc: Global, world: World, k: &Writing, count: u32) -> Result<Printing, AllocError>
     requires { count ≤ k.now.asked }
-    ensures { IfOk result (λ g. view_printing g ≡ meaning.took (view_world world) (view_writing k.now) count) }
+    ensures { IfOk result (λ g. view_printing g
+        ≡ meaning.took (view_world world) (view_writing k.now) count) }
 {
     let total = k.written + u64::from(count);
     if count < k.asked {
@@ -182,7 +187,8 @@ fn refused(world: World, written: u64) -> Printing
 
 // The Rwrite of so many bytes.
 fn hear_count(alloc: Global, count: u32, world: &World, k: &Writing) -> Result<Printing, AllocError>
-    ensures { IfOk result (λ g. view_printing g ≡ meaning.hear (Write count) (view_world world.now) (view_writing k.now)) }
+    ensures { IfOk result (λ g. view_printing g
+        ≡ meaning.hear (Write count) (view_world world.now) (view_writing k.now)) }
 {
     if k.asked < count {
         return Ok(Printing::NoReply);
@@ -193,7 +199,8 @@ fn hear_count(alloc: Global, count: u32, world: &World, k: &Writing) -> Result<P
 
 /// The reply to a print's request.
 pub fn hear(alloc: Global, reply: &Rmsg, world: &World, k: &Writing) -> Result<Printing, AllocError>
-    ensures { IfOk result (λ g. view_printing g ≡ meaning.hear reply.now (view_world world.now) (view_writing k.now)) }
+    ensures { IfOk result (λ g. view_printing g
+        ≡ meaning.hear reply.now (view_world world.now) (view_writing k.now)) }
 {
     match reply {
         Rmsg::Write { count } => hear_count(alloc, *count, world, k),

@@ -58,7 +58,8 @@ pub enum Effect {
 
 /// The frame of a call: the arguments, and zeros for the other variables.
 pub fn frame_of(alloc: Global, r: &Routine, args: Vec<Value>) -> Result<Frame, AllocError>
-    ensures { IfOk result (λ f. view_frame f ≡ meaning.frame_of (view_routine r.now) (view_values args.items)) }
+    ensures { IfOk result (λ f. view_frame f
+        ≡ meaning.frame_of (view_routine r.now) (view_values args.items)) }
 {
     let mut variables = args;
     let missing = r.variables.saturating_sub(variables.len());
@@ -154,7 +155,8 @@ pub fn returns(
     process: Process,
     v: Value,
 ) -> Result<Effect, AllocError>
-    ensures { IfOk result (λ e. view_effect e ≡ meaning.returns (view_world world) (view_process process)
+    ensures { IfOk result (λ e. view_effect e
+        ≡ meaning.returns (view_world world) (view_process process)
         (view_frames process.below.items) (view_value v)) }
 {
     let Process {
@@ -195,7 +197,8 @@ fn enters(
     routine: &Routine,
     args: Vec<Value>,
 ) -> Result<Effect, AllocError>
-    ensures { IfOk result (λ e. view_effect e ≡ meaning.calls limit (view_world world) (view_process process)
+    ensures { IfOk result (λ e. view_effect e
+        ≡ meaning.calls limit (view_world world) (view_process process)
         (view_block waits) (Some (view_routine routine.now)) (view_values args.items)) }
 {
     if process.below.len() + 1 >= limit {
@@ -234,7 +237,8 @@ pub fn calls(
     function: u32,
     args: Vec<Value>,
 ) -> Result<Effect, AllocError>
-    ensures { IfOk result (λ e. view_effect e ≡ meaning.calls limit (view_world world) (view_process process)
+    ensures { IfOk result (λ e. view_effect e
+        ≡ meaning.calls limit (view_world world) (view_process process)
         (view_block waits) (slice_get (view_routines routines.now) function) (view_values args.items)) }
 {
     match routines.get(function as usize) {
@@ -245,7 +249,8 @@ pub fn calls(
 
 // The process asks, and waits for the reply.
 fn asks(world: World, m: Request, process: Process, todo: Block, k: Writing) -> Effect
-    ensures { view_effect result ≡ asking (view_world world) (view_request m) (view_process process) (view_block todo) (view_writing k) }
+    ensures { view_effect result
+        ≡ asking (view_world world) (view_request m) (view_process process) (view_block todo) (view_writing k) }
 {
     let Process {
         number,
@@ -272,7 +277,8 @@ pub fn prints(
     rest: Block,
     g: Printing,
 ) -> Result<Effect, AllocError>
-    ensures { IfOk result (λ e. view_effect e ≡ meaning.prints (view_world world) (view_process process) (view_block rest) (view_printing g)) }
+    ensures { IfOk result (λ e. view_effect e
+        ≡ meaning.prints (view_world world) (view_process process) (view_block rest) (view_printing g)) }
 {
     match g {
         Printing::Answers(v, a) => {
@@ -309,7 +315,8 @@ pub fn hears(
     process: Process,
     g: Printing,
 ) -> Result<Effect, AllocError>
-    ensures { IfOk result (λ e. view_effect e ≡ meaning.hears (view_world world) (view_process process) (view_printing g)) }
+    ensures { IfOk result (λ e. view_effect e
+        ≡ meaning.hears (view_world world) (view_process process) (view_printing g)) }
 {
     match g {
         Printing::Answers(v, a) => goes_filled(alloc, v, process, a),

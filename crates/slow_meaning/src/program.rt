@@ -51,7 +51,8 @@ fn terms_of(alloc: Global, es: &[TExpr]) -> Result<Terms, AllocError>
 }
 
 fn return_of(alloc: Global, e: &Option<TExpr>, rest: Block) -> Result<Block, AllocError>
-    ensures { IfOk result (λ b. view_block b ≡ meaning.return_of (option_map view_expr e.now) (view_block rest)) }
+    ensures { IfOk result (λ b. view_block b
+        ≡ meaning.return_of (option_map view_expr e.now) (view_block rest)) }
 {
     match e {
         None => then(alloc, Stm::Leave, rest),
@@ -110,7 +111,8 @@ fn before(alloc: Global, s: &TStmt, rest: Block) -> Result<Block, AllocError>
 #[tactic(auto, using(limbo_typed::proofs::View::the_views))]
 #[cycle(blocks_of)]
 fn all_before(alloc: Global, ss: &[TStmt], rest: Block) -> Result<Block, AllocError>
-    ensures { IfOk result (λ b. view_block b ≡ meaning.all_before (view_stmts ss.now) (view_block rest)) }
+    ensures { IfOk result (λ b. view_block b
+        ≡ meaning.all_before (view_stmts ss.now) (view_block rest)) }
 {
     let mut todo = rest;
     let mut i = ss.len();
@@ -133,7 +135,8 @@ fn routine_of(alloc: Global, f: &TFn) -> Result<Routine, AllocError>
 
 /// The functions of a checked module, as trees of which nothing is done yet.
 pub fn routines(alloc: Global, program: &TypedModule) -> Result<Vec<Routine>, AllocError>
-    ensures { IfOk result (λ rs. map view_routine rs.items ≡ meaning.routines_of (view_module program.now)) }
+    ensures { IfOk result (λ rs. map view_routine rs.items
+        ≡ meaning.routines_of (view_module program.now)) }
 {
     let mut all = Vec::new(alloc);
     for f in &program.functions {

@@ -51,7 +51,8 @@ pub struct Alone {
 }
 
 fn alone_at(standing: Standing, replies: Vec<Rmsg>, trace: Vec<Told>) -> Alone
-    ensures { view_alone result ≡ alone.alone (view_standing standing) replies.items (map view_told trace.items) }
+    ensures { view_alone result
+        ≡ alone.alone (view_standing standing) replies.items (map view_told trace.items) }
 {
     Alone {
         standing,
@@ -61,7 +62,8 @@ fn alone_at(standing: Standing, replies: Vec<Rmsg>, trace: Vec<Told>) -> Alone
 }
 
 fn one_told(trace: Vec<Told>, told: Told) -> Result<Vec<Told>, AllocError>
-    ensures { IfOk result (λ t. map view_told t.items ≡ map view_told trace.items ++ view_told told ∷ []) }
+    ensures { IfOk result (λ t. map view_told t.items
+        ≡ map view_told trace.items ++ view_told told ∷ []) }
 {
     let mut trace = trace;
     trace.push(told)?;
@@ -69,7 +71,8 @@ fn one_told(trace: Vec<Told>, told: Told) -> Result<Vec<Told>, AllocError>
 }
 
 fn two_told(trace: Vec<Told>, first: Told, second: Told) -> Result<Vec<Told>, AllocError>
-    ensures { IfOk result (λ t. map view_told t.items ≡ map view_told trace.items ++ view_told first ∷ view_told second ∷ []) }
+    ensures { IfOk result (λ t. map view_told t.items
+        ≡ map view_told trace.items ++ view_told first ∷ view_told second ∷ []) }
 {
     let mut trace = trace;
     trace.push(first)?;
@@ -79,7 +82,8 @@ fn two_told(trace: Vec<Told>, first: Told, second: Told) -> Result<Vec<Told>, Al
 
 // After a step.
 fn went(replies: Vec<Rmsg>, trace: Vec<Told>, e: Effect) -> Result<Alone, AllocError>
-    ensures { IfOk result (λ a. view_alone a ≡ alone.went replies.items (map view_told trace.items) (view_effect e)) }
+    ensures { IfOk result (λ a. view_alone a
+        ≡ alone.went replies.items (map view_told trace.items) (view_effect e)) }
 {
     match e {
         Effect::Went(w, p) => Ok(alone_at(Standing::Goes(w, p), replies, trace)),
@@ -97,7 +101,8 @@ fn went(replies: Vec<Rmsg>, trace: Vec<Told>, e: Effect) -> Result<Alone, AllocE
 
 // After a reply, which is told where it is one to the request.
 fn heard(replies: Vec<Rmsg>, trace: Vec<Told>, r: Rmsg, e: Effect) -> Result<Alone, AllocError>
-    ensures { IfOk result (λ a. view_alone a ≡ alone.heard replies.items (map view_told trace.items) r (view_effect e)) }
+    ensures { IfOk result (λ a. view_alone a
+        ≡ alone.heard replies.items (map view_told trace.items) r (view_effect e)) }
 {
     match e {
         Effect::Went(w, p) => {
@@ -124,7 +129,8 @@ fn hear_next(
     replies: Vec<Rmsg>,
     trace: Vec<Told>,
 ) -> Result<Alone, AllocError>
-    ensures { IfOk result (λ a. view_alone a ≡ alone.hear_next (view_world w) (view_process p) replies.items (map view_told trace.items)) }
+    ensures { IfOk result (λ a. view_alone a
+        ≡ alone.hear_next (view_world w) (view_process p) replies.items (map view_told trace.items)) }
 {
     let mut replies = replies;
     if replies.is_empty() {
@@ -142,7 +148,8 @@ pub fn advance(
     routines: &[Routine],
     a: Alone,
 ) -> Result<Alone, AllocError>
-    ensures { IfOk result (λ b. view_alone b ≡ alone.advance limit (view_routines routines.now) (view_alone a)) }
+    ensures { IfOk result (λ b. view_alone b
+        ≡ alone.advance limit (view_routines routines.now) (view_alone a)) }
 {
     let Alone {
         standing,
@@ -179,7 +186,8 @@ fn run_on(
     first: Alone,
     most: u64,
 ) -> Result<Alone, AllocError>
-    ensures { IfOk result (λ a. view_alone a ≡ alone.run_on limit (view_routines routines.now) most (view_alone first)) }
+    ensures { IfOk result (λ a. view_alone a
+        ≡ alone.run_on limit (view_routines routines.now) most (view_alone first)) }
 {
     let mut a = first;
     for _ in 0..most {

@@ -32,7 +32,8 @@ fn assigns(
     t: &Term,
     rest: Block,
 ) -> Result<Effect, AllocError>
-    ensures { IfOk result (λ e. view_effect e ≡ meaning.act limit (view_routines routines.now) (view_world world)
+    ensures { IfOk result (λ e. view_effect e
+        ≡ meaning.act limit (view_routines routines.now) (view_world world)
         (view_process process) (trees.Assign x (view_term t.now)) (view_block rest)) }
 {
     match next(alloc, &process.frame.variables, t)? {
@@ -61,7 +62,8 @@ fn evaluates(
     t: &Term,
     rest: Block,
 ) -> Result<Effect, AllocError>
-    ensures { IfOk result (λ e. view_effect e ≡ meaning.act limit (view_routines routines.now) (view_world world)
+    ensures { IfOk result (λ e. view_effect e
+        ≡ meaning.act limit (view_routines routines.now) (view_world world)
         (view_process process) (trees.Eval (view_term t.now)) (view_block rest)) }
 {
     match next(alloc, &process.frame.variables, t)? {
@@ -86,8 +88,10 @@ fn chosen(first: bool, a: Block, b: Block) -> Block
 
 // What follows the decision of an `if`: the end of the condition, what was chosen, and the end of the whole.
 fn behind_if(alloc: Global, v: Value, a: Block, b: Block, rest: Block) -> Result<Block, AllocError>
-    ensures { IfOk result (λ todo. view_block todo ≡ trees.Then trees.Over (trees.join
-        (meaning.chosen (holds (view_value v)) (view_block a) (view_block b)) (trees.Then trees.Over (view_block rest)))) }
+    ensures { IfOk result (λ todo. view_block todo
+        ≡ trees.Then trees.Over (trees.join
+        (meaning.chosen (holds (view_value v)) (view_block a) (view_block b))
+        (trees.Then trees.Over (view_block rest)))) }
 {
     let end = then(alloc, Stm::Over, rest)?;
     let branch = chosen(holds(v), a, b);
@@ -106,7 +110,8 @@ fn decides(
     b: Block,
     rest: Block,
 ) -> Result<Effect, AllocError>
-    ensures { IfOk result (λ e. view_effect e ≡ meaning.act limit (view_routines routines.now) (view_world world)
+    ensures { IfOk result (λ e. view_effect e
+        ≡ meaning.act limit (view_routines routines.now) (view_world world)
         (view_process process) (trees.If (view_term t.now) (view_block a) (view_block b)) (view_block rest)) }
 {
     match next(alloc, &process.frame.variables, t)? {
@@ -134,7 +139,8 @@ fn behind_while(
     body: Block,
     rest: Block,
 ) -> Result<Block, AllocError>
-    ensures { IfOk result (λ todo. view_block todo ≡ trees.Then trees.Over (meaning.chosen (holds (view_value v))
+    ensures { IfOk result (λ todo. view_block todo
+        ≡ trees.Then trees.Over (meaning.chosen (holds (view_value v))
         (trees.join (view_block body) (trees.Again (view_term c) (view_block body) (view_block rest)))
         (trees.Then trees.Over (view_block rest)))) }
 {
@@ -159,7 +165,8 @@ fn loops(
     body: Block,
     rest: Block,
 ) -> Result<Effect, AllocError>
-    ensures { IfOk result (λ e. view_effect e ≡ meaning.act limit (view_routines routines.now) (view_world world)
+    ensures { IfOk result (λ e. view_effect e
+        ≡ meaning.act limit (view_routines routines.now) (view_world world)
         (view_process process) (trees.While (view_term t.now) (view_term c) (view_block body)) (view_block rest)) }
 {
     match next(alloc, &process.frame.variables, t)? {
@@ -188,7 +195,8 @@ fn gives_back(
     t: &Term,
     rest: Block,
 ) -> Result<Effect, AllocError>
-    ensures { IfOk result (λ e. view_effect e ≡ meaning.act limit (view_routines routines.now) (view_world world)
+    ensures { IfOk result (λ e. view_effect e
+        ≡ meaning.act limit (view_routines routines.now) (view_world world)
         (view_process process) (trees.Return (view_term t.now)) (view_block rest)) }
 {
     match next(alloc, &process.frame.variables, t)? {
@@ -215,7 +223,8 @@ fn requests(
     ts: &Terms,
     rest: Block,
 ) -> Result<Effect, AllocError>
-    ensures { IfOk result (λ e. view_effect e ≡ meaning.act limit (view_routines routines.now) (view_world world)
+    ensures { IfOk result (λ e. view_effect e
+        ≡ meaning.act limit (view_routines routines.now) (view_world world)
         (view_process process) (trees.Print (map view_piece pieces.items) (view_terms ts.now)) (view_block rest)) }
 {
     match next_all(alloc, &process.frame.variables, ts)? {
@@ -246,7 +255,8 @@ fn act(
     s: Stm,
     rest: Block,
 ) -> Result<Effect, AllocError>
-    ensures { IfOk result (λ e. view_effect e ≡ meaning.act limit (view_routines routines.now) (view_world world)
+    ensures { IfOk result (λ e. view_effect e
+        ≡ meaning.act limit (view_routines routines.now) (view_world world)
         (view_process process) (view_stm s) (view_block rest)) }
 {
     match s {
@@ -272,7 +282,8 @@ fn work(
     process: Process,
     todo: Block,
 ) -> Result<Effect, AllocError>
-    ensures { IfOk result (λ e. view_effect e ≡ meaning.work limit (view_routines routines.now) (view_world world)
+    ensures { IfOk result (λ e. view_effect e
+        ≡ meaning.work limit (view_routines routines.now) (view_world world)
         (view_process process) (view_block todo)) }
 {
     match todo {
@@ -306,7 +317,8 @@ pub fn step(
     world: World,
     process: Process,
 ) -> Result<Effect, AllocError>
-    ensures { IfOk result (λ e. view_effect e ≡ meaning.step limit (view_routines routines.now) (view_world world)
+    ensures { IfOk result (λ e. view_effect e
+        ≡ meaning.step limit (view_routines routines.now) (view_world world)
         (view_process process)) }
 {
     let todo = copy_block(alloc, &process.frame.todo)?;
@@ -320,7 +332,8 @@ pub fn answer(
     world: World,
     process: Process,
 ) -> Result<Effect, AllocError>
-    ensures { IfOk result (λ e. view_effect e ≡ meaning.answer reply.now (view_world world) (view_process process)) }
+    ensures { IfOk result (λ e. view_effect e
+        ≡ meaning.answer reply.now (view_world world) (view_process process)) }
 {
     match &process.printing {
         None => Ok(stands_still(world, process)),

@@ -79,7 +79,8 @@ pub fn then(alloc: Global, s: Stm, rest: Block) -> Result<Block, AllocError>
 
 /// The end of a loop's body in front of what follows the loop.
 pub fn again(alloc: Global, condition: Term, body: Block, rest: Block) -> Result<Block, AllocError>
-    ensures { IfOk result (λ b. view_block b ≡ meaning.Again (view_term condition) (view_block body) (view_block rest)) }
+    ensures { IfOk result (λ b. view_block b
+        ≡ meaning.Again (view_term condition) (view_block body) (view_block rest)) }
 {
     Ok(Block::Again(condition, Box::new(alloc, body)?, Box::new(alloc, rest)?))
 }
