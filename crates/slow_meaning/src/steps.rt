@@ -22,6 +22,7 @@ use limbo_typed::Piece;
 use std::alloc::{AllocError, Global};
 use styx_msg::Rmsg;
 
+// A step of an assignment.
 fn assigns(
     alloc: Global,
     limit: usize,
@@ -53,6 +54,7 @@ fn assigns(
     }
 }
 
+// A step of an expression that stands alone.
 fn evaluates(
     alloc: Global,
     limit: usize,
@@ -80,6 +82,7 @@ fn evaluates(
     }
 }
 
+// One of two blocks.
 fn chosen(first: bool, a: Block, b: Block) -> Block
     ensures { view_block result ≡ meaning.chosen first (view_block a) (view_block b) }
 {
@@ -99,6 +102,7 @@ fn behind_if(alloc: Global, v: Value, a: Block, b: Block, rest: Block) -> Result
     then(alloc, Stm::Over, joined)
 }
 
+// A step of an `if`.
 fn decides(
     alloc: Global,
     limit: usize,
@@ -154,6 +158,7 @@ fn behind_while(
     then(alloc, Stm::Over, joined)
 }
 
+// A step of a `while`.
 fn loops(
     alloc: Global,
     limit: usize,
@@ -186,6 +191,7 @@ fn loops(
     }
 }
 
+// A step of a `return` with a value.
 fn gives_back(
     alloc: Global,
     limit: usize,
@@ -213,6 +219,7 @@ fn gives_back(
     }
 }
 
+// A step of a print.
 fn requests(
     alloc: Global,
     limit: usize,
