@@ -1,10 +1,10 @@
 -- What the code of a module keeps of its meaning.
-use Rattle.std.specs.Prelude.{ℕ, ◌≡◌, ◌+◌, List, [], ◌∷◌, length, Some, slice_get}
+use Rattle.std.specs.Prelude.{ℕ, ◌≡◌, ◌≤◌, ◌+◌, ◌*◌, List, [], ◌∷◌, length, Some, slice_get}
 use Rattle.styx_msg.specs.declared.message.Rmsg.{Rmsg}
 use Rattle.process_model.specs.Machine.{State, Event, replay}
 use Rattle.process_model.specs.Law.{begins_code}
 use Rattle.process_model.specs.Plain.{PlainFollows, no_counts}
-use Rattle.limbo_typed.specs.Typed.{Module}
+use Rattle.limbo_typed.specs.Typed.{Function, Module}
 use Rattle.limbo_meaning.specs.Values.{Value}
 use Rattle.limbo_meaning.specs.Program.{Routine, routines_of}
 use Rattle.limbo_meaning.specs.World.{World, opening_world}
@@ -16,6 +16,7 @@ use Rattle.core_code.specs.Code as core
 use Rattle.core_code.specs.Code.{bodies}
 use Rattle.core_code.specs.Machine.{Process}
 use Rattle.core_code.specs.Rules as core_rules
+use Rattle.limbo_lower.specs.Sizes.{frame_size}
 use Rattle.limbo_lower.specs.Stands.{Stands, sides}
 
 -- The code follows the meaning: whatever one process of the code does next, the module's process that it stands for does too,
@@ -38,3 +39,8 @@ JournalsAreRuns m c =
 abbrev pub instructions : List core.Function → ℕ
 instructions [] = 0
 instructions (f ∷ fs) = length f.code + instructions fs
+
+-- A frame with all slots, a word of 4 bytes each, and 40 bytes more is no larger than the frame-size rule says.
+abbrev pub FramesFit : Module → core.Module → Type 0
+FramesFit m c =
+    (number : ℕ) (f : Function) (g : core.Function) → slice_get m.functions number ≡ Some f → slice_get c.functions number ≡ Some g → 40 + 4 * g.slots ≤ frame_size f

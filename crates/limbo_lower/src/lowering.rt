@@ -9,7 +9,7 @@ ghost use Rattle.core_code.specs.View.{view_inst};
 ghost use Rattle.limbo_lower.specs.Code as code;
 ghost use Rattle.limbo_lower.specs.Code.{routine_code, function_code, module_code};
 ghost use Rattle.limbo_lower.specs.Sizes.{frame_size, largest_frame, nodes, FrameTooLarge};
-ghost use Rattle.limbo_lower.specs.Keeps.{Keeps, JournalsAreRuns, instructions};
+ghost use Rattle.limbo_lower.specs.Keeps.{Keeps, JournalsAreRuns, FramesFit, instructions};
 
 use crate::expressions::put;
 use crate::fault::LowerFault;
@@ -148,6 +148,9 @@ pub fn lower(alloc: Global, module: &TypedModule) -> Result<CoreModule, LowerFau
 
     // It is no longer than the module, but for a factor.
     ensures few { IfOk result (λ c. instructions (core.view_module c).functions ≤ 8 * nodes (view_module «module».now)) }
+
+    // Its frames are no larger than the frame-size rule says.
+    ensures frames { IfOk result (λ c. FramesFit (view_module «module».now) (core.view_module c)) }
 
     // Exactly the modules with small frames have code, as far as memory goes.
     ensures fits { IfOk result (λ _. FrameTooLarge (view_module «module».now) → ⊥) }

@@ -7,10 +7,11 @@ use Rattle.core_code.specs.View as core
 use Rattle.limbo_lower.specs.declared.fault.LowerFault.{LowerFault}
 use Rattle.limbo_lower.specs.Code.{module_code}
 use Rattle.limbo_lower.specs.Sizes.{nodes}
-use Rattle.limbo_lower.specs.Keeps.{Keeps, JournalsAreRuns, instructions}
+use Rattle.limbo_lower.specs.Keeps.{Keeps, JournalsAreRuns, FramesFit, instructions}
 use Rattle.limbo_lower.proofs.Keeps as proved
 use Rattle.limbo_lower.proofs.Few.{module_few}
 use Rattle.limbo_lower.proofs.ProperCode.{proper_code}
+use Rattle.limbo_lower.proofs.SlotBounds.{frames_fit}
 use Rattle.limbo_lower.proofs.lowering.lower.Goals as goal
 
 -- what holds of a module's code holds of what is made
@@ -37,3 +38,8 @@ pub returns-clause-few : goal.returns-clause-few
 returns-clause-few c =
     let m = view_module c.args.module.now in
     told (λ made. instructions made.functions ≤ 8 * nodes m) (module_code m) c.lowered.result (module_few m) c.lowered.ensures.code
+
+pub returns-clause-frames : goal.returns-clause-frames
+returns-clause-frames c =
+    let m = view_module c.args.module.now in
+    told (FramesFit m) (module_code m) c.lowered.result (frames_fit m c.requires.proper) c.lowered.ensures.code
