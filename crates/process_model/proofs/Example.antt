@@ -1,11 +1,15 @@
 -- A tiny language and a tiny machine, to show that the premises of the law can be met, and that a replay computes.
-use Rattle.std.proofs.Common.{◌≡◌, ℕ, zero, suc, ◌<◌, true, false, List, [], ◌∷◌, Option, Some, None, refl, subst, arith}
+use Rattle.std.proofs.Common.{◌≡◌, ℕ, zero, suc, ◌<◌, true, false, List, [], ◌∷◌, Option, Some, None, refl, sym, ap, subst, arith}
 use Rattle.std.specs.Prelude.{slice_get}
 use Rattle.process_model.specs.Process.{Branch, Effect, Went, Parks, Spawns, Asks, Ends, Rules, Entry, Requested, Replied, Passed, Over, given}
 use Rattle.process_model.specs.Machine.{State, Quantum, Reply, replay}
 use Rattle.process_model.specs.Law.{begins_code}
-use Rattle.process_model.specs.Plain.{PlainSides, no_counts, plain_here, PlainWaits, PlainMatches, PlainMatchesReply, PlainFollows, PlainJournals}
-use Rattle.process_model.proofs.Lifted.{plain_journals}
+use Rattle.process_model.specs.Plain.{PlainSides, itself, no_counts, plain_here, PlainWaits, PlainMatches, PlainMatchesReply, PlainFollows, PlainJournals}
+use Rattle.process_model.specs.Follows.{Follows}
+use Rattle.process_model.specs.Composed.{opened, held, FollowsWithin}
+use Rattle.process_model.proofs.Lifted.{plain_follows, plain_journals}
+use Rattle.process_model.proofs.Itself.{follows_itself}
+use Rattle.process_model.proofs.Composed.{passes_compose}
 
 -- A task: it says a number to the outside until it is heard, sends one, receives one and says it, or starts another task.
 pub data Task : Type 0 where
@@ -155,6 +159,13 @@ follows = record {
 pub law : (t : Task) → PlainJournals toy 0 0 t (frame 0 (compile t)) 2
 unfolding follows
 law t = plain_journals toy follows 0 0 t (frame 0 (compile t)) (fresh t 0) refl
+
+-- Another pass changes nothing. The bound of both is 2, times 1.
+pub twice : FollowsWithin toy (held (itself frames)) 2
+unfolding follows follows_itself plain_follows
+twice =
+    let f2 : Follows (opened (held (itself frames))) = plain_follows (itself frames) (follows_itself frames) in
+    passes_compose toy (held (itself frames)) follows f2 (record { middle = refl; under = place; tells = λ k q r e. ap place (sym e) })
 
 abbrev told : Option (State ℕ Frame ℕ ℕ ℕ ℕ) → Option (List (Entry ℕ ℕ ℕ ℕ))
 told None = None

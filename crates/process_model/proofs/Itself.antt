@@ -5,7 +5,7 @@ use Rattle.process_model.specs.Plain.{itself, plain_here, plain_on, PlainMatches
 use Rattle.process_model.proofs.Lifted.{plain_journals}
 
 module _ {W P D M A H : Type 0} (rules : Rules W P D M A H) where
-  same_step : (w : W) (p : P) (e : Effect W P D M H) → rules.step w p ≡ e → PlainMatches (itself rules) (λ q. 0) 0 w p e
+  pub same_step : (w : W) (p : P) (e : Effect W P D M H) → rules.step w p ≡ e → PlainMatches (itself rules) (λ q. 0) 0 w p e
   same_step w p (Went x q) h = record { steps = 1; world = x; after = q; alone = plain_on h plain_here; related = refl; worlds = refl; pace = λ z. absurd (omega arith) }
   same_step w p (Parks x bs q) h = record { world = x; after = q; comes = record { steps = 0; world = w; before = p; alone = plain_here; does = h }; waits = λ j a v e. refl; worlds = refl }
   same_step w p (Polls x bs q q') h = record { world = x; after = q; by_itself = q'; comes = record { steps = 0; world = w; before = p; alone = plain_here; does = h }; waits = λ j a v e. refl; related = refl; worlds = refl }
@@ -13,7 +13,7 @@ module _ {W P D M A H : Type 0} (rules : Rules W P D M A H) where
   same_step w p (Asks x m q) h = record { world = x; after = q; comes = record { steps = 0; world = w; before = p; alone = plain_here; does = h }; related = refl; worlds = refl }
   same_step w p (Ends x how) h = record { world = x; comes = record { steps = 0; world = w; before = p; alone = plain_here; does = h }; worlds = refl }
 
-  same_reply : (e : Effect W P D M H) → PlainMatchesReply (itself rules) e e
+  pub same_reply : (e : Effect W P D M H) → PlainMatchesReply (itself rules) e e
   same_reply (Went x q) = record { world = x; after = q; does = refl; related = refl; worlds = refl }
   same_reply (Asks x m q) = record { world = x; after = q; does = refl; related = refl; worlds = refl }
   same_reply (Ends x how) = record { world = x; does = refl; worlds = refl }
@@ -21,7 +21,7 @@ module _ {W P D M A H : Type 0} (rules : Rules W P D M A H) where
   same_reply (Polls x bs q q') = tt
   same_reply (Spawns x child q) = tt
 
-  follows_itself : PlainFollows (itself rules)
+  unfoldable pub follows_itself : PlainFollows (itself rules)
   follows_itself = record {
     place = λ q. 0;
     bound = 1;

@@ -14,6 +14,7 @@ pub mod Journals
 pub mod Steady
 pub mod Lifted
 pub mod Itself
+pub mod Composed
 pub mod Example
 pub mod Cells
 pub mod CellsSwept

@@ -4,15 +4,31 @@ use Rattle.process_model.specs.Process.{Branch, Effect, Went, Parks, Polls, Spaw
 use Rattle.process_model.specs.Alone.{Alone, here, on, Comes}
 use Rattle.process_model.specs.Renaming.{Link, SameTable, SameNames, SameEntry, SameTrace}
 use Rattle.process_model.specs.Follows.{Matches, MatchesReply, WaitsAlike, Follows}
-use Rattle.process_model.specs.Plain.{PlainSides, no_names, one_map, lifted, PlainAlone, plain_here, plain_on, PlainComes, PlainWaits, PlainMatches, PlainMatchesReply, PlainFollows, PlainJournals}
+use Rattle.process_model.specs.Plain.{PlainSides, no_names, equal_map, one_map, lifted, PlainAlone, plain_here, plain_on, PlainComes, PlainWaits, PlainMatches, PlainMatchesReply, PlainFollows, PlainJournals}
 use Rattle.process_model.proofs.Journals.{every_journal}
 
--- through one map what is the same is equal
-names_equal : (D : Type 0) (ns ms : List ℕ) → SameNames (one_map {D = D}) tt ns ms → ns ≡ ms
-names_equal D [] [] h = refl
-names_equal D (n ∷ ns) (m ∷ ms) h = ap (λ x. x ∷ ns) h.0 ∙ ap (λ l. m ∷ l) (names_equal D ns ms h.1)
-names_equal D [] (m ∷ ms) h = absurd h
-names_equal D (n ∷ ns) [] h = absurd h
+-- where numbers and values are equal, so are traces that are the same
+module _ {K : Type 0} (grows : K → K → Type 0) (k : K) where
+  names_equal : (D : Type 0) (ns ms : List ℕ) → SameNames (equal_map {D = D} grows) k ns ms → ns ≡ ms
+  names_equal D [] [] h = refl
+  names_equal D (n ∷ ns) (m ∷ ms) h = ap (λ x. x ∷ ns) h.0 ∙ ap (λ l. m ∷ l) (names_equal D ns ms h.1)
+  names_equal D [] (m ∷ ms) h = absurd h
+  names_equal D (n ∷ ns) [] h = absurd h
+
+  module _ {D M A H : Type 0} where
+    entry_equal : (e f : Entry D M A H) → SameEntry (equal_map grows) k e f → e ≡ f
+    entry_equal (Requested i m) (Requested j n) h = let a = h.0 in let b = h.1 in cc
+    entry_equal (Replied i m) (Replied j n) h = let a = h.0 in let b = h.1 in cc
+    entry_equal (Passed c v s b r o) (Passed c' v' s' b' r' o') h = let x0 = h.0 in let x1 = h.1 in let x2 = h.2 in let x3 = h.3 in let x4 = h.4 in let x5 = h.5 in cc
+    entry_equal (Over i m) (Over j n) h = let a = h.0 in let b = h.1 in cc
+    entry_equal (Released i ns) (Released j ms) h = let a = h.0 in let b = names_equal D ns ms h.1 in cc
+    entry_equal _ _ h = absurd h
+
+    pub trace_equal : (es fs : List (Entry D M A H)) → SameTrace (equal_map grows) k es fs → es ≡ fs
+    trace_equal [] [] h = refl
+    trace_equal (e ∷ es) (f ∷ fs) h = ap (λ x. x ∷ es) (entry_equal e f h.0) ∙ ap (λ l. f ∷ l) (trace_equal es fs h.1)
+    trace_equal [] (f ∷ fs) h = absurd h
+    trace_equal (e ∷ es) [] h = absurd h
 
 module _ {D : Type 0} where
   pub one_link : Link (one_map {D = D})
@@ -22,27 +38,12 @@ module _ {D : Type 0} where
   table_self [] = tt
   table_self (b ∷ bs) = ((refl, refl, refl), table_self bs)
 
-  module _ {M A H : Type 0} where
-    entry_equal : (e f : Entry D M A H) → SameEntry one_map tt e f → e ≡ f
-    entry_equal (Requested i m) (Requested j n) h = let a = h.0 in let b = h.1 in cc
-    entry_equal (Replied i m) (Replied j n) h = let a = h.0 in let b = h.1 in cc
-    entry_equal (Passed c v s b r o) (Passed c' v' s' b' r' o') h = let x0 = h.0 in let x1 = h.1 in let x2 = h.2 in let x3 = h.3 in let x4 = h.4 in let x5 = h.5 in cc
-    entry_equal (Over i m) (Over j n) h = let a = h.0 in let b = h.1 in cc
-    entry_equal (Released i ns) (Released j ms) h = let a = h.0 in let b = names_equal D ns ms h.1 in cc
-    entry_equal _ _ h = absurd h
-
-    trace_equal : (es fs : List (Entry D M A H)) → SameTrace one_map tt es fs → es ≡ fs
-    trace_equal [] [] h = refl
-    trace_equal (e ∷ es) (f ∷ fs) h = ap (λ x. x ∷ es) (entry_equal e f h.0) ∙ ap (λ l. f ∷ l) (trace_equal es fs h.1)
-    trace_equal [] (f ∷ fs) h = absurd h
-    trace_equal (e ∷ es) [] h = absurd h
-
 module _ {W X P Q D M A H : Type 0} (s : PlainSides W X P Q D M A H) where
-  alone : (i : ℕ) (others : ℕ → ℕ) {n : ℕ} {w w' : W} {p p' : P} → PlainAlone s n w p w' p' → Alone s.program no_names i others n w p [] w' p'
+  pub alone : (i : ℕ) (others : ℕ → ℕ) {n : ℕ} {w w' : W} {p p' : P} → PlainAlone s n w p w' p' → Alone s.program no_names i others n w p [] w' p'
   alone i others plain_here = here
   alone i others (plain_on e rest) = on e (alone i others rest)
 
-  comes : (i : ℕ) (others : ℕ → ℕ) (w : W) (p : P) (e : Effect W P D M H) → PlainComes s w p e → Comes s.program no_names i others w p e
+  pub comes : (i : ℕ) (others : ℕ → ℕ) (w : W) (p : P) (e : Effect W P D M H) → PlainComes s w p e → Comes s.program no_names i others w p e
   comes i others w p e c = record { steps = c.steps; world = c.world; before = c.before; alone = alone i others c.alone; does = c.does }
 
   waits : (bs : List (Branch D)) (p : P) (q : Q) → PlainWaits s bs p q → WaitsAlike (lifted s) tt bs bs p q
@@ -89,4 +90,4 @@ module _ {W X P Q D M A H : Type 0} (s : PlainSides W X P Q D M A H) where
   unfolding plain_follows
   plain_journals h w x p q r e longest journal t f =
       let k = every_journal (lifted s) (plain_follows h) tt w x p q r e longest journal t f in
-      record { config = k.config; turns = k.turns; run = k.run; makers = k.makers; paced = k.paced; trace = trace_equal k.config.trace t.trace k.trace; processes = k.processes; worlds = k.worlds }
+      record { config = k.config; turns = k.turns; run = k.run; makers = k.makers; paced = k.paced; trace = trace_equal (λ (a b : Unit {0}). Unit {0}) tt k.config.trace t.trace k.trace; processes = k.processes; worlds = k.worlds }

@@ -8,3 +8,4 @@ pub mod Follows
 pub mod Law
 pub mod Laws
 pub mod Plain
+pub mod Composed

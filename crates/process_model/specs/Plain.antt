@@ -24,9 +24,13 @@ no_names = record { names = λ p n. 0; holds = λ bs n. 0; trim = λ named w. w;
 abbrev pub no_counts : {X D : Type 0} → Counting X D
 no_counts = record { freed = λ x. []; passes = λ x bs. x; meets = λ x bs j cs l. x }
 
--- There is one map: numbers and values are equal on both sides.
+-- Numbers and values are equal on both sides, under each map.
+abbrev pub equal_map : {K D : Type 0} → (K → K → Type 0) → Renaming K D D
+equal_map grows = record { grows = grows; name = λ k n m. n ≡ m; value = λ k v u. v ≡ u }
+
+-- There is one map.
 abbrev pub one_map : {D : Type 0} → Renaming (Unit {0}) D D
-one_map = record { grows = λ a b. Unit {0}; name = λ k n m. n ≡ m; value = λ k v u. v ≡ u }
+one_map = equal_map (λ a b. Unit {0})
 
 -- Two languages without a heap, as two with an empty one.
 abbrev pub lifted : {W X P Q D M A H : Type 0} → PlainSides W X P Q D M A H → Sides (Unit {0}) W X P Q D D M A H

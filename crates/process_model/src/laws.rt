@@ -1,8 +1,10 @@
 //! What holds of every language that is given by the steps of one process, and of every two that follow one another.
 
+ghost use Rattle.process_model.specs.Composed.{GrowingSides, PassesCompose, PassesKeepJournals};
 ghost use Rattle.process_model.specs.Follows.{Follows, Sides};
 ghost use Rattle.process_model.specs.Law.{EveryJournal};
 ghost use Rattle.process_model.specs.Laws.{OthersStay, PartnerWaited, TraceGrows, WaitersKept};
+ghost use Rattle.process_model.specs.Plain.{PlainSides};
 
 /// A step of a process leaves each other process as it was, but for the one that it meets.
 pub fn others_stay<W, P, D, M, A, H>()
@@ -54,4 +56,44 @@ pub trait Joining {
 pub fn every_journal<J: Joining>()
     ensures { (follows : Follows J.sides) (k : J.map) (w : J.source_world) (x : J.world) (p : J.source_process) (q : J.process) →
         J.sides.ready k p q → J.sides.worlds k w x (J.sides.naming.names p) → EveryJournal J.sides k w x p q follows.bound }
+{}
+
+/// A source, a middle code and a machine: the types of `composed`, in its order, and the two passes.
+pub trait Chaining {
+    ghost map: { Type 0 };
+
+    ghost source_world: { Type 0 };
+
+    ghost middle_world: { Type 0 };
+
+    ghost world: { Type 0 };
+
+    ghost source_process: { Type 0 };
+
+    ghost middle_process: { Type 0 };
+
+    ghost process: { Type 0 };
+
+    ghost value: { Type 0 };
+
+    ghost request: { Type 0 };
+
+    ghost reply: { Type 0 };
+
+    ghost ending: { Type 0 };
+
+    ghost first: { PlainSides source_world middle_world source_process middle_process value request reply ending };
+
+    ghost second: { GrowingSides map middle_world world middle_process process value request reply ending };
+}
+
+/// Two passes compose: where the middle code follows the source, and the machine the middle code, the machine follows the
+/// source. As many of its instructions may pass without a step as the product of the two bounds allows.
+pub fn passes_compose<C: Chaining>()
+    ensures { PassesCompose C.first C.second }
+{}
+
+/// Every journal of the machine of two passes is a run of the source, with an equal trace and at that pace.
+pub fn passes_keep_journals<C: Chaining>()
+    ensures { PassesKeepJournals C.first C.second }
 {}
