@@ -12,6 +12,8 @@
 //! and the values that are evaluated already. Each instruction stands for at least one step of the program. In `proofs/`, `Terms`
 //! has one step of an expression, `Blocks` and `Steps` where statements are, `Bursts` the steps that no instruction stands for by
 //! itself, `Acts` calls, returns and prints, `Follows` the simulation, and `Examples` whole programs that compute on both sides.
+//! That the functions here write this code is in `Emission`, `Before` and `Branches`; what a frame takes in `Rooms`; how many slots
+//! and instructions there are in `SlotBounds` and `Few`; that the code is proper in `ProperCode`.
 #![tactic(auto)]
 
 mod expressions;
