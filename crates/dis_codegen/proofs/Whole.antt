@@ -1,0 +1,129 @@
+-- What the law asks.
+use Rattle.std.proofs.Common.{◌≡◌, ℕ, zero, suc, ◌+◌, ◌-◌, ◌<◌, ◌≤◌, Bool, true, false, List, [], ◌∷◌, ◌++◌, map, Option, Some, None, refl, sym, ◌∙◌, arith, rules, tests, codes, if◌then◌else◌}
+use Rattle.std.specs.Prelude.{nat_lt}
+use Rattle.process_model.specs.Renaming.{Link}
+use Rattle.process_model.specs.Follows.{Follows}
+use Rattle.limbo_typed.specs.Typed.{Operator, Add, Subtract, Multiply, Less, Equal}
+use Rattle.core_code.specs.Code as core
+use Rattle.core_code.specs.Code.{Inst, Function, Module}
+use Rattle.core_code.specs.Machine as machine
+use Rattle.core_code.specs.Proper.{IsProper}
+use Rattle.dis_meaning.specs.Words.{Word}
+use Rattle.dis_meaning.specs.Process.{Frame, Process}
+use Rattle.dis_codegen.specs.Code.{operation_size, moved_size, size}
+use Rattle.dis_codegen.specs.Objects.{find, entry_size, entry_length}
+use Rattle.dis_codegen.specs.Stands.{Running, Ready, enters, loads, leaves, begins, compares, fails, result, framed, moved, addressed, formats, formatted, passed, prints, returns, Asking, knowledge, sides}
+use Rattle.dis_codegen.specs.Paces.{all_sizes, within, far, place}
+use Rattle.dis_codegen.proofs.Follows.{goes, answers_alike}
+
+-- ---- the bound
+
+under : (a b : ℕ) → nat_lt a b ≡ true → a < b
+under a b h = search (rules, tests, h)
+
+operation_small : (o : Operator) → operation_size o ≤ 4
+operation_small Add = omega arith
+operation_small Subtract = omega arith
+operation_small Multiply = omega arith
+operation_small Less = omega arith
+operation_small Equal = omega arith
+
+moved_small : (n : ℕ) → moved_size n ≤ 1
+moved_small zero = omega arith
+moved_small (suc n) = omega arith
+
+pub small : (i : Inst) → size i ≤ 4
+small (core.Set into n) = omega arith
+small (core.Move into from) = omega arith
+small (core.Operate o into left right) = operation_small o
+small (core.Unless condition n) = omega arith
+small (core.Jump n) = omega arith
+small (core.Back n) = omega arith
+small (core.Call f args count into) = let h = moved_small count in omega (arith, h)
+small (core.Format pieces) = omega arith
+small (core.Print args count into) = let h = moved_small count in omega (arith, h)
+small (core.Return value) = omega arith
+small core.Leave = omega arith
+
+-- None of these is above 4.
+abbrev AllSmall : List ℕ → Type 0
+AllSmall [] = Unit {0}
+AllSmall (s ∷ ss) = (s ≤ 4) × AllSmall ss
+
+all_small : (is : List Inst) (more : List ℕ) → AllSmall more → AllSmall (map size is ++ more)
+all_small [] more h = h
+all_small (i ∷ is) more h = (small i, all_small is more h)
+
+functions_small : (fs : List Function) → AllSmall (all_sizes fs)
+functions_small [] = tt
+functions_small (f ∷ fs) = all_small f.code (all_sizes fs) (functions_small fs)
+
+within_small : (ss : List ℕ) (n : ℕ) → AllSmall ss → within ss n < 4
+within_small [] n h = omega arith
+within_small (s ∷ ss) n h = go (within_small ss (n - s) h.1) (nat_lt n s) refl
+  where
+    go : within ss (n - s) < 4 → (b : Bool) → nat_lt n s ≡ b → (if b then n else within ss (n - s)) < 4
+    go rest true e = let a = under n s e in let b = h.0 in omega (arith, a, b)
+    go rest false e = rest
+
+entry_small : (o : Option ℕ) → entry_length o ≤ 3
+entry_small None = omega arith
+entry_small (Some n) = omega arith
+
+pub far_small : (m : Module) (pc : ℕ) → far m pc < 7
+far_small m pc = go (nat_lt pc (entry_size m.functions)) refl
+  where
+    go : (b : Bool) → nat_lt pc (entry_size m.functions) ≡ b → (if b then pc else 3 + within (all_sizes m.functions) (pc - entry_size m.functions)) < 7
+    go true e = let a = under pc (entry_size m.functions) e in let b = entry_small (find 0 (codes "init") m.functions) in omega (arith, a, b)
+    go false e = let a = within_small (all_sizes m.functions) (pc - entry_size m.functions) (functions_small m.functions) in omega (arith, a)
+
+-- ---- while more is known
+
+abbrev up : (m : Module) (a b : Bool) (p : machine.Process) (r : Process) (offset : ℕ) (w : Word) (made : List Frame) → (a ≡ true → b ≡ true) → Running m a p r offset w made → Running m b p r offset w made
+up m a b p r offset w made g h = record { loaded = g h.loaded; number = h.number; frame = h.frame; stack = h.stack; frames = h.frames; fresh = h.fresh }
+
+pub grows : (m : Module) (a b : Bool) (p : machine.Process) (r : Process) → (a ≡ true → b ≡ true) → Ready m a p r → Ready m b p r
+grows m a b p r g (enters h) = enters h
+grows m a b p r g (loads l h) = loads (g l) h
+grows m a b p r g (leaves l h s) = leaves (g l) h s
+grows m a b p r g (begins h o) = begins (up m a b p r _ _ _ g h) o
+grows m a b p r g (compares {o = o} {into = into} {left = left} {right = right} h e c) = compares {o = o} {into = into} {left = left} {right = right} (up m a b p r _ _ _ g h) e c
+grows m a b p r g (fails {o = o} {into = into} {left = left} {right = right} h e c z) = fails {o = o} {into = into} {left = left} {right = right} (up m a b p r _ _ _ g h) e c z
+grows m a b p r g (result {o = o} {into = into} {left = left} {right = right} h e c) = result {o = o} {into = into} {left = left} {right = right} (up m a b p r _ _ _ g h) e c
+grows m a b p r g (framed {f = f} {args = args} {n = n} {into = into} {callee = callee} {made = made} h e t is its) = framed {f = f} {args = args} {n = n} {into = into} {callee = callee} {made = made} (up m a b p r _ _ _ g h) e t is its
+grows m a b p r g (moved {f = f} {args = args} {n = n} {into = into} {callee = callee} {made = made} h e t is its) = moved {f = f} {args = args} {n = n} {into = into} {callee = callee} {made = made} (up m a b p r _ _ _ g h) e t is its
+grows m a b p r g (addressed {f = f} {args = args} {n = n} {into = into} {callee = callee} {made = made} h e t is its s) = addressed {f = f} {args = args} {n = n} {into = into} {callee = callee} {made = made} (up m a b p r _ _ _ g h) e t is its s
+grows m a b p r g (formats {pieces = pieces} {made = made} h e is its) = formats {pieces = pieces} {made = made} (up m a b p r _ _ _ g h) e is its
+grows m a b p r g (formatted {args = args} {n = n} {into = into} {made = made} h e enough is its) = formatted {args = args} {n = n} {into = into} {made = made} (up m a b p r _ _ _ g h) e enough is its
+grows m a b p r g (passed {args = args} {n = n} {into = into} {made = made} h e enough is its) = passed {args = args} {n = n} {into = into} {made = made} (up m a b p r _ _ _ g h) e enough is its
+grows m a b p r g (prints {args = args} {n = n} {into = into} {made = made} h e enough is its s) = prints {args = args} {n = n} {into = into} {made = made} (up m a b p r _ _ _ g h) e enough is its s
+grows m a b p r g (returns v h s) = returns v (record { loaded = g h.loaded; number = h.number; frame = h.frame; stack = h.stack; frames = h.frames; fresh = h.fresh }) s
+
+pub grows_asking : (m : Module) (a b : Bool) (p : machine.Process) (r : Process) → (a ≡ true → b ≡ true) → Asking m a p r → Asking m b p r
+grows_asking m a b p r g h = record { loaded = g h.loaded; number = h.number; waits = h.waits; stack = h.stack; frames = h.frames; fresh = h.fresh; writing = h.writing; printing = h.printing; printing_too = h.printing_too }
+
+-- ---- all of it
+
+pub link : Link knowledge
+link = record {
+  same = λ k e. e;
+  on = λ a b c g h e. h (g e);
+  name_on = λ a b n o g h. h;
+  value_on = λ a b v u g h. h;
+  one = λ k n o o' e f. sym e ∙ f;
+  other = λ k n n' o e f. e ∙ sym f;
+}
+
+unfoldable pub object_follows : (m : Module) → IsProper m → Follows (sides m)
+object_follows m proper = record {
+  link = link;
+  place = place m;
+  bound = 7;
+  some = omega arith;
+  within = λ k p q h. far_small m q.frame.pc;
+  grow = λ a b p q g h. grows m a b p q g h;
+  grow_asking = λ a b p q g h. grows_asking m a b p q g h;
+  each = λ k i others w x p q h ws. goes m proper k i others w x ws p q h;
+  answers = λ k others a w x p q h ws. answers_alike m proper k others w x ws p q h a;
+  meets = λ k others w x bs cs p q j a bs' cs' p' q' l b w1 e1 w2 e2 f ws. record { worlds = ws; gone = tt };
+}

@@ -1,0 +1,35 @@
+-- What holds of the object of every proper module.
+use Rattle.std.specs.Prelude.{ℕ, ◌≡◌, ◌≤◌, ◌*◌, Bool, false, [], ◌∷◌, length, Some}
+use Rattle.process_model.specs.Process.{Ends}
+use Rattle.process_model.specs.Follows.{Follows}
+use Rattle.limbo_meaning.specs.World as outside
+use Rattle.limbo_meaning.specs.World.{opening_world}
+use Rattle.limbo_meaning.specs.Process.{Faulted}
+use Rattle.limbo_meaning.specs.Runs.{frames_limit}
+use Rattle.core_code.specs.Code.{Module}
+use Rattle.core_code.specs.Machine as machine
+use Rattle.core_code.specs.Rules as core_rules
+use Rattle.dis_meaning.specs.World.{World}
+use Rattle.dis_meaning.specs.Process.{Process}
+use Rattle.dis_meaning.specs.Step.{step}
+use Rattle.dis_codegen.specs.Objects.{init_of, object_of, code_instructions}
+use Rattle.dis_codegen.specs.Start.{opening, first_process}
+use Rattle.dis_codegen.specs.Stands.{Ready, WorldStands, sides}
+
+-- The object follows the module's code: whatever a process of the object does next, the other does too, after some steps of its own. Of
+-- seven instructions in a row at least one stands for a step. Both begin alike, where the module has an `init`.
+pub record Keeps (m : Module) : Type 0 where
+  pub follows : Follows (sides m)
+  pub pace : follows.bound ≡ 7
+  pub begins : (init : ℕ) → init_of m ≡ Some init → Ready m false (core_rules.first_process init) (first_process m)
+  pub begins_in : WorldStands m false opening_world (opening m)
+
+-- No instruction of it is ever wrong.
+abbrev pub NeverFaults : Module → Type 0
+NeverFaults m =
+    (k : Bool) (w : outside.World) (x y : World) (p : machine.Process) (r : Process) (number pc : ℕ) →
+    Ready m k p r → WorldStands m k w x → step frames_limit (object_of m ∷ []) x r ≡ Ends y (Faulted number pc) → ⊥
+
+-- It has at most four instructions for each of the module's code, whose own beginning counts as one.
+abbrev pub IsFew : Module → Type 0
+IsFew m = length (object_of m).insts ≤ 4 * code_instructions m.functions

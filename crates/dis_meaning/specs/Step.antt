@@ -1,0 +1,298 @@
+-- One instruction of a process (Dis Virtual Machine Specification, the instructions by name). A source is looked at first, then the
+-- middle, then the destination; the first of them that is wrong decides.
+use Rattle.std.specs.Prelude.{ℕ, zero, suc, ℤ, pos, negsuc, ◌+ℤ◌, ◌-ℤ◌, ◌*ℤ◌, Bool, true, false, List, [], ◌∷◌, ◌++◌, length, map, drop, Option, Some, None, slice_get, nat_eq, nat_lt, int_lt, codes, if◌then◌else◌}
+use Rattle.std.specs.Int.{int_wrap, w32}
+use Rattle.std.specs.Ordering.{int_eq}
+use Rattle.std.specs.Str.{bytes_eq}
+use Rattle.styx_msg.specs.declared.message.Rmsg.{Rmsg}
+use Rattle.process_model.specs.Process.{Went, Asks, Ends}
+use Rattle.dis_isa.specs.declared.inst.Inst.{Inst}
+use Rattle.dis_isa.specs.declared.inst.Middle.{Middle}
+use Rattle.dis_isa.specs.declared.inst.Middle.TheVariants as middle
+use Rattle.dis_isa.specs.declared.inst.Operand.{Operand}
+use Rattle.dis_isa.specs.declared.inst.Operand.TheVariants as operand
+use Rattle.dis_isa.specs.declared.op.Op.{Op}
+use Rattle.dis_isa.specs.declared.op.Op.TheVariants as op
+use Rattle.dis_file.specs.declared.object.Import.{Import}
+use Rattle.dis_file.specs.declared.object.Object.{Object}
+use Rattle.limbo_meaning.specs.Values.{Value, Num}
+use Rattle.limbo_meaning.specs.World as outside
+use Rattle.limbo_meaning.specs.Prints.{Printing, Answers, Requests, NoReply, print, hear}
+use Rattle.limbo_meaning.specs.Process.{Ended, Broken}
+use Rattle.dis_meaning.specs.Words.{Place, InBlock, InFrame, Word, Plain, Refer, Address, Access, Found, Wrong, ◌>>=◌, type_check, bad_jump, dead_address, or_wrong, word_at, number_in, plain, reference, word_number, replaced, blank}
+use Rattle.dis_meaning.specs.World.{Content, Text, Instance, Sys, World, block, with_block}
+use Rattle.dis_meaning.specs.Process as process
+use Rattle.dis_meaning.specs.Process.{Frame, Process, Does, height, at_pc, with_words, with_frames, stands_still, or_fault}
+use Rattle.dis_meaning.specs.Places.{Spot, Far, Memory, read, store, spot, source_number, source_plain, source_word, middle_number, words_at, with_words_at, place_in, address, behind}
+use Rattle.dis_meaning.specs.Formats.{formatted}
+
+-- The process goes on with the next instruction.
+abbrev pub next : Memory → Does
+next m = Went m.world (with_frames m.process (at_pc m.process.frame (suc m.process.frame.pc)) m.process.below m.process.made)
+
+-- A number that isn't below 0.
+abbrev pub at_least_zero : ℤ → Access ℕ
+at_least_zero (pos n) = Found n
+at_least_zero (negsuc n) = Wrong type_check
+
+-- The number of an immediate: a type, a function or a place in the code.
+abbrev pub immediate : Operand → Access ℕ
+immediate (operand.Imm n) = at_least_zero n
+immediate _ = Wrong type_check
+
+abbrev pub middle_immediate : Middle → Access ℕ
+middle_immediate (middle.Imm n) = at_least_zero n
+middle_immediate _ = Wrong type_check
+
+-- The frame whose address a word is, among those that are made.
+abbrev pub made_frame : List Frame → ℕ → Access Frame
+made_frame [] s = Wrong dead_address
+made_frame (f ∷ fs) s = if nat_eq f.serial s then Found f else made_frame fs s
+
+abbrev pub frame_at : Process → Word → Access Frame
+frame_at p (Address (InFrame s) at) = made_frame p.made s
+frame_at p (Address (InBlock n) at) = Wrong dead_address
+frame_at p _ = Wrong type_check
+
+-- The others.
+abbrev pub without : ℕ → List Frame → List Frame
+without s [] = []
+without s (f ∷ fs) = if nat_eq f.serial s then without s fs else f ∷ without s fs
+
+-- So many words of a list, from one on, all plain.
+abbrev pub plains : List Word → (from count : ℕ) → Access (List Word)
+plains words from zero = Found []
+plains words from (suc n) = or_wrong type_check (slice_get words from) >>= λ w. plain w >>= λ v. plains words (suc from) n >>= λ vs. Found (v ∷ vs)
+
+-- These words in place of those from one on.
+abbrev pub all_replaced : List Word → (from : ℕ) → List Word → Access (List Word)
+all_replaced words from [] = Found words
+all_replaced words from (v ∷ vs) = replaced words from v >>= λ after. all_replaced after (suc from) vs
+
+-- The text of a path or a format: that of nil is empty.
+abbrev pub text_of : Content → Access (List ℕ)
+text_of (Text chars) = Found chars
+text_of _ = Wrong type_check
+
+abbrev pub text_at : World → Option ℕ → Access (List ℕ)
+text_at x None = Found []
+text_at x (Some n) = block x n >>= text_of
+
+-- The numbers in these words.
+abbrev pub numbers : List Word → Access (List ℤ)
+numbers [] = Found []
+numbers (w ∷ ws) = number_in w >>= λ n. numbers ws >>= λ ns. Found (n ∷ ns)
+
+-- Where a call's answer goes: the address that stands at 16 of its frame.
+abbrev pub answer_spot : List Word → Access Spot
+answer_spot words = word_at words (pos 16) >>= λ w. behind w (pos 0)
+
+-- What a print's frame holds: the format is the first argument, at 32, and the others follow.
+abbrev pub printed : World → List Word → Access (List ℕ)
+printed x words =
+    word_at words (pos 32) >>= reference >>= text_at x >>= λ format.
+    numbers (drop 9 words) >>= λ args.
+    or_wrong type_check (formatted format args)
+
+abbrev pub word_of : Value → Word
+word_of (Num n) = Plain n
+
+abbrev pub outside_is : World → outside.World → World
+outside_is x w = record { blocks = x.blocks; outside = w }
+
+-- An answer goes to its place.
+abbrev pub answered : World → Process → Place → ℤ → Value → Access Memory
+answered x p place at v = store x p (Far place at) (word_of v)
+
+abbrev pub place_of : Spot → Access Place
+place_of (Far place at) = Found place
+place_of _ = Wrong type_check
+
+-- The print's answer is stored at once, or once a reply has come.
+abbrev pub prints : World → Process → Place → ℤ → Printing → Access Does
+prints x p place at (Answers w v) = answered (outside_is x w) p place at v >>= λ m. Found (next m)
+prints x p place at (Requests w m k) =
+    Found (Asks (outside_is x w) m (record {
+      number = p.number;
+      frame = at_pc p.frame (suc p.frame.pc);
+      below = p.below;
+      made = p.made;
+      frames = p.frames;
+      printing = Some (record { writing = k; place = place; at = at });
+    }))
+prints x p place at NoReply = Found (stands_still x p)
+
+-- A call of print, whose frame goes.
+abbrev pub print_call : World → Process → Frame → Access Does
+print_call x p f =
+    printed x f.words >>= λ text.
+    answer_spot f.words >>= λ s.
+    place_of s >>= λ place.
+    prints x (with_frames p p.frame p.below (without f.serial p.made)) place (place_in s) (print x.outside text)
+
+-- The built-in functions of Sys, by their names: so far print.
+abbrev pub sys_call : World → Process → (name : List ℕ) → Frame → Access Does
+sys_call x p name f = if bytes_eq name (codes "print") then print_call x p f else Wrong type_check
+
+abbrev pub function_of : Content → ℕ → Access (List ℕ)
+function_of (Sys names) k = or_wrong type_check (slice_get names k)
+function_of _ k = Wrong type_check
+
+abbrev pub module_at : World → Option ℕ → Access Content
+module_at x None = Wrong type_check
+module_at x (Some n) = block x n
+
+abbrev pub names : List Import → List (List ℕ)
+names imports = map (λ i. i.name) imports
+
+abbrev pub path_of_sys : List ℕ
+path_of_sys = codes "$Sys"
+
+-- A new block, and a reference to it.
+abbrev pub loaded : World → Process → Spot → List ℕ → List Import → Access Memory
+loaded x p s path table =
+    if bytes_eq path path_of_sys then store (with_block x (Sys (names table))) p s (Refer (Some (length x.blocks)))
+    else store x p s (Refer None)
+
+-- A new frame, and its address.
+abbrev pub new_frame : Process → List Word → Process
+new_frame p words = record {
+  number = p.number;
+  frame = p.frame;
+  below = p.below;
+  made = p.made ++ record { serial = p.frames; instance = p.frame.instance; pc = 0; words = words } ∷ [];
+  frames = suc p.frames;
+  printing = None;
+}
+
+abbrev pub framed : Memory → List Word → Memory
+framed m words = record { world = m.world; process = new_frame m.process words }
+
+-- A place in the code.
+abbrev pub target : Object → Operand → Access ℕ
+target o d = immediate d >>= λ pc. if nat_lt pc (length o.insts) then Found pc else Wrong bad_jump
+
+-- The process goes on there.
+abbrev pub jumps : World → Process → ℕ → Does
+jumps x p pc = Went x (with_frames p (at_pc p.frame pc) p.below p.made)
+
+abbrev pub branch : World → Process → Bool → ℕ → Does
+branch x p true pc = jumps x p pc
+branch x p false pc = next (record { world = x; process = p })
+
+-- A return: the frame goes, and the frame below goes on. The first function's return ends the process.
+abbrev pub returns : World → Process → List Frame → Does
+returns x p [] = Ends x Ended
+returns x p (f ∷ below) = Went x (with_frames p f below p.made)
+
+-- A call: the frame that calls waits below the one that is called. There are at most so many; one more breaks the process.
+abbrev pub calls : (limit : ℕ) → World → Process → Frame → ℕ → Does
+calls limit x p f pc =
+    if nat_lt (height p) limit then Went x (with_frames p (at_pc f pc) (at_pc p.frame (suc p.frame.pc) ∷ p.below) (without f.serial p.made))
+    else Ends x (Broken (codes "stack overflow"))
+
+-- An operation on two numbers, whose result is stored.
+abbrev pub operates : World → Process → Inst → (ℤ → ℤ → ℤ) → Access Does
+operates x p i f =
+    source_number x p i.src >>= λ s.
+    middle_number x p i.middle i.dst >>= λ m.
+    spot x p i.dst >>= λ d.
+    store x p d (Plain (int_wrap w32 (f m s))) >>= λ after.
+    Found (next after)
+
+-- A branch where a test of two numbers holds.
+abbrev pub tests : Object → World → Process → Inst → (ℤ → ℤ → Bool) → Access Does
+tests o x p i f =
+    source_number x p i.src >>= λ s.
+    middle_number x p i.middle i.dst >>= λ m.
+    target o i.dst >>= λ pc.
+    Found (branch x p (f s m) pc)
+
+module _ (limit : ℕ) (o : Object) where
+  -- What an instruction does. Operations that aren't in this part are faults.
+  abbrev pub obey : World → Process → Inst → Op → Access Does
+  obey x p i op.Movw =
+      source_plain x p i.src >>= λ w. spot x p i.dst >>= λ d. store x p d w >>= λ m. Found (next m)
+  obey x p i op.Movp =
+      source_word x p i.src >>= reference >>= λ r. spot x p i.dst >>= λ d. store x p d (Refer r) >>= λ m. Found (next m)
+  obey x p i op.Movm =
+      spot x p i.src >>= λ s.
+      words_at x p s >>= λ from.
+      word_number (place_in s) >>= λ k.
+      middle_number x p i.middle i.dst >>= at_least_zero >>= λ bytes.
+      word_number (pos bytes) >>= λ count.
+      plains from k count >>= λ vs.
+      spot x p i.dst >>= λ d.
+      words_at x p d >>= λ into.
+      word_number (place_in d) >>= λ j.
+      all_replaced into j vs >>= with_words_at x p d >>= λ m.
+      Found (next m)
+  obey x p i op.Lea =
+      spot x p i.src >>= λ s. read x p s >>= λ w. spot x p i.dst >>= λ d. store x p d (address p s) >>= λ m. Found (next m)
+  obey x p i op.Addw = operates x p i (λ m s. m +ℤ s)
+  obey x p i op.Subw = operates x p i (λ m s. m -ℤ s)
+  obey x p i op.Mulw = operates x p i (λ m s. m *ℤ s)
+  obey x p i op.Beqw = tests o x p i int_eq
+  obey x p i op.Bltw = tests o x p i int_lt
+  obey x p i op.Jmp = target o i.dst >>= λ pc. Found (jumps x p pc)
+  obey x p i op.Frame =
+      immediate i.src >>= λ n.
+      or_wrong type_check (slice_get o.types n) >>= λ desc.
+      spot x p i.dst >>= λ d.
+      store x p d (Address (InFrame p.frames) (pos 0)) >>= λ m.
+      Found (next (framed m (blank desc)))
+  obey x p i op.Call =
+      source_word x p i.src >>= frame_at p >>= λ f. target o i.dst >>= λ pc. Found (calls limit x p f pc)
+  obey x p i op.Ret = Found (returns x p p.below)
+  obey x p i op.Load =
+      source_word x p i.src >>= reference >>= text_at x >>= λ path.
+      middle_immediate i.middle >>= λ n.
+      or_wrong type_check (slice_get o.imports n) >>= λ table.
+      spot x p i.dst >>= λ d.
+      loaded x p d path table >>= λ m.
+      Found (next m)
+  obey x p i op.Mcall =
+      source_word x p i.src >>= frame_at p >>= λ f.
+      middle_immediate i.middle >>= λ k.
+      source_word x p i.dst >>= reference >>= module_at x >>= λ c.
+      function_of c k >>= λ name.
+      sys_call x p name f
+  obey x p i _ = Wrong type_check
+
+  -- The instruction at the frame's place.
+  abbrev pub work : World → Process → Access Does
+  work x p = or_wrong bad_jump (slice_get o.insts p.frame.pc) >>= λ i. obey x p i i.op
+
+abbrev pub object_of : Content → Access ℕ
+object_of (Instance o words) = Found o
+object_of _ = Wrong type_check
+
+module _ (limit : ℕ) (objects : List Object) where
+  -- The object whose code a process runs.
+  abbrev pub code_of : World → Process → Access Object
+  code_of x p = block x p.frame.instance >>= object_of >>= λ n. or_wrong type_check (slice_get objects n)
+
+  abbrev pub step : World → Process → Does
+  step x p = or_fault x p (code_of x p >>= λ o. work limit o x p)
+
+-- A reply to a print.
+abbrev pub hears : World → Process → Place → ℤ → Printing → Does
+hears x p place at (Answers w v) = or_fault x p (answered (outside_is x w) p place at v >>= λ m. Found (Went m.world (with_frames m.process m.process.frame m.process.below m.process.made)))
+hears x p place at (Requests w m k) =
+    Asks (outside_is x w) m (record {
+      number = p.number;
+      frame = p.frame;
+      below = p.below;
+      made = p.made;
+      frames = p.frames;
+      printing = Some (record { writing = k; place = place; at = at });
+    })
+hears x p place at NoReply = stands_still x p
+
+-- A reply, where one is waited for.
+abbrev pub heard : Rmsg → World → Process → Option process.Printing → Does
+heard a x p None = stands_still x p
+heard a x p (Some k) = hears x p k.place k.at (hear a x.outside k.writing)
+
+abbrev pub answer : Rmsg → World → Process → Does
+answer a x p = heard a x p p.printing

@@ -1,0 +1,9 @@
+//! What holds of every instruction.
+
+ghost use Rattle.dis_meaning.specs.Laws.{FaultsChangeNothing};
+
+/// An instruction that is wrong changes nothing: the process ends with the fault and the place of the instruction, and what all share
+/// is as it was.
+pub fn faults_change_nothing()
+    ensures { FaultsChangeNothing }
+{}

@@ -1,0 +1,14 @@
+//! What one instruction of the Dis machine does, as a definition. No code stands here, only definitions and laws.
+//!
+//! `specs/` in the order of reading: `Words` (words of memory, and the numbers of faults), `World` (blocks, and the outside), `Process`
+//! (frames), `Places` (the words that operands name), `Formats` (what a format makes of its arguments), `Step` (one instruction),
+//! `Rules` (the instructions as a language of process_model).
+//!
+//! A word is plain, a reference or an address, and takes only its own kind. Blocks and frames have serials, each of which is used once. A
+//! frame is there for its own process alone. The instructions are so far `load`, `frame`, `call`, `mcall` of `print`, `ret`, `jmp`,
+//! `lea`, `movw`, `movp`, `movm`, `addw`, `subw`, `mulw`, `beqw` and `bltw`; every other is a fault. None of these lets a block go.
+#![tactic(auto)]
+
+mod laws;
+
+pub use laws::faults_change_nothing;
