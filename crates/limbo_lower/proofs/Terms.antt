@@ -1,7 +1,5 @@
 -- One step of an expression, and the instruction that does it.
-use Rattle.std.proofs.Common.{◌≡◌, ℕ, suc, ◌<◌, ◌≤◌, Bool, true, false, List, [], ◌∷◌, ◌++◌, refl, sym, ap, ◌∙◌, subst, arith, if◌then◌else◌}
-use Rattle.std.specs.Prelude.{nat_eq}
-use Rattle.std.proofs.lemmas.Bool.{eq-eqb, eqb-true}
+use Rattle.std.proofs.Common.{◌≡◌, ℕ, suc, ◌≤◌, true, false, List, [], ◌∷◌, ◌++◌, refl, sym, ap, ◌∙◌, subst, arith}
 use Rattle.limbo_typed.specs.Typed.{Operator}
 use Rattle.limbo_meaning.specs.Values.{Value, Num, result_of}
 use Rattle.limbo_meaning.specs.Trees.{Term, Evaluated, Awaiting, Constant, Variable, Apply, Call, Terms, NoTerms, MoreTerms}

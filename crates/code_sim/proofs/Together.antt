@@ -1,0 +1,87 @@
+-- Both passes of the compiler together.
+use Rattle.std.proofs.Common.{◌≡◌, ◌*◌, Bool, false, Option, Some, None, refl, sym, ap, ◌∙◌, subst}
+use Rattle.std.specs.Prelude.{slice_get}
+use Rattle.process_model.specs.Law.{Paced}
+use Rattle.process_model.specs.Composed.{FollowsWithin}
+use Rattle.process_model.proofs.Composed.{passes_compose, growing_journals}
+use Rattle.limbo_typed.specs.Typed.{Module}
+use Rattle.limbo_typed.specs.Proper.{IsProper}
+use Rattle.limbo_meaning.specs.Program.{routines_of}
+use Rattle.limbo_meaning.specs.World.{opening_world}
+use Rattle.limbo_meaning.specs.Runs.{first_process}
+use Rattle.core_code.specs.Code as core
+use Rattle.core_code.specs.Code.{Inst, bodies}
+use Rattle.core_code.specs.Machine as machine
+use Rattle.core_code.specs.Step.{fetch}
+use Rattle.core_code.specs.Rules as core_rules
+use Rattle.limbo_lower.specs.Code.{module_code}
+use Rattle.limbo_lower.specs.Stands as lower
+use Rattle.limbo_lower.proofs.Acts.{rank}
+use Rattle.limbo_lower.proofs.Keeps as first_pass
+use Rattle.limbo_lower.proofs.ProperCode.{proper_code}
+use Rattle.dis_meaning.specs.Process.{Process}
+use Rattle.dis_codegen.specs.Start as start
+use Rattle.dis_codegen.specs.Start.{opening}
+use Rattle.dis_codegen.specs.Stands.{Ready}
+use Rattle.dis_codegen.specs.Paces.{inst_at, print_rank}
+use Rattle.dis_codegen.proofs.Kept as second_pass
+use Rattle.dis_codegen.proofs.Under.{same_instruction}
+use Rattle.code_sim.specs.Keeps.{code_and_object, sides, Keeps, JournalsAreRuns}
+
+same_rank : (i : Option Inst) → rank i ≡ print_rank i
+same_rank None = refl
+same_rank (Some (core.Set into n)) = refl
+same_rank (Some (core.Move into from)) = refl
+same_rank (Some (core.Operate o into left right)) = refl
+same_rank (Some (core.Unless condition n)) = refl
+same_rank (Some (core.Jump n)) = refl
+same_rank (Some (core.Back n)) = refl
+same_rank (Some (core.Call f args n into)) = refl
+same_rank (Some (core.Format pieces)) = refl
+same_rank (Some (core.Print args n into)) = refl
+same_rank (Some (core.Return value)) = refl
+same_rank (Some core.Leave) = refl
+
+module _ (m : Module) (proper : IsProper m) where
+  abbrev code : core.Module
+  code = module_code m
+
+  -- How far along the three-address code is, as a process of the object tells.
+  tells : (f : first_pass.FollowsBy m (bodies code)) (k : Bool) (q : machine.Process) (r : Process) → Ready code k q r → print_rank (inst_at code r.frame.pc) ≡ f.follows.place q
+  tells f k q r h =
+      same_instruction code (proper_code m proper) k q r h
+      ∙ sym (same_rank (fetch (slice_get (bodies code) q.frame.function) q.frame.pc))
+      ∙ sym (f.placed q)
+
+  joined : FollowsWithin (lower.sides (routines_of m) (bodies code)) (code_and_object code) 14
+  joined =
+      let f = first_pass.follows_by m proper in
+      let g = second_pass.keeps code (proper_code m proper) in
+      let both = passes_compose (lower.sides (routines_of m) (bodies code)) (code_and_object code) f.follows g.follows
+      (record { middle = refl; under = λ r. print_rank (inst_at code r.frame.pc); tells = λ k q r h. tells f k q r h }) in
+      record { follows = both.follows; pace = both.pace ∙ ap (λ b. b * g.follows.bound) f.pace ∙ ap (λ b. 2 * b) g.pace }
+
+pub keeps : (m : Module) → IsProper m → Keeps m
+keeps m proper =
+    let both = joined m proper in
+    let f = first_pass.keeps m proper in
+    let g = second_pass.keeps (module_code m) (proper_code m proper) in
+    record {
+      follows = both.follows;
+      pace = both.pace;
+      begins = λ init first h. (core_rules.first_process init, f.begins init first h.there, g.begins init h.named);
+      begins_in = (opening_world, refl, g.begins_in);
+    }
+
+pub journals : (m : Module) → IsProper m → JournalsAreRuns m
+journals m proper init first h longest journal t e =
+    let kept = keeps m proper in
+    let b = growing_journals (sides m) kept.follows false opening_world (opening (module_code m)) (first_process first) (start.first_process (module_code m)) (kept.begins init first h) kept.begins_in longest journal t e in
+    record {
+      turns = b.turns;
+      config = b.config;
+      run = record { first = first; there = h.there; run = b.run };
+      makers = b.makers;
+      paced = subst (λ bound. Paced bound (λ j. 0) b.turns) kept.pace b.paced;
+      told = b.trace;
+    }
