@@ -5,4 +5,5 @@ pub mod Places
 pub mod Formats
 pub mod Step
 pub mod Rules
+pub mod Counts
 pub mod Laws
