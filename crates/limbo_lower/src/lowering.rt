@@ -142,6 +142,7 @@ fn lowered(alloc: Global, module: &TypedModule) -> Result<CoreModule, LowerFault
 /// `FrameTooLarge` only where a function's frame passes 65,536 bytes, and such a module has no code; `NoMemory`.
 pub fn lower(alloc: Global, module: &TypedModule) -> Result<CoreModule, LowerFault>
     requires proper { IsProper (view_module «module».now) }
+    ensures code { IfOk result (λ c. core.view_module c ≡ module_code (view_module «module».now)) }
     ensures keeps { IfOk result (λ c. Keeps (view_module «module».now) (core.view_module c)) }
     ensures journals { IfOk result (λ c. JournalsAreRuns (view_module «module».now) (core.view_module c)) }
     ensures proper_code { IfOk result (λ c. core_proper.IsProper (core.view_module c)) }
