@@ -1,14 +1,21 @@
 -- Both passes of the compiler together.
-use Rattle.std.proofs.Common.{◌≡◌, ◌*◌, Bool, false, Option, Some, None, refl, sym, ap, ◌∙◌, subst}
+use Rattle.std.proofs.Common.{◌≡◌, ℕ, [], ◌∷◌, ◌*◌, Bool, false, Option, Some, None, refl, sym, ap, ◌∙◌, subst}
 use Rattle.std.specs.Prelude.{slice_get}
+use Rattle.process_model.specs.Process as doing
+use Rattle.process_model.specs.Process.{Doing, Ends}
+use Rattle.process_model.specs.Follows.{StandsAlike}
 use Rattle.process_model.specs.Law.{Paced}
-use Rattle.process_model.specs.Composed.{FollowsWithin}
+use Rattle.process_model.specs.Composed.{opened, FollowsWithin}
 use Rattle.process_model.proofs.Composed.{passes_compose, growing_journals}
 use Rattle.limbo_typed.specs.Typed.{Module}
 use Rattle.limbo_typed.specs.Proper.{IsProper}
 use Rattle.limbo_meaning.specs.Program.{routines_of}
+use Rattle.limbo_meaning.specs.Values.{Value}
+use Rattle.limbo_meaning.specs.World as outside
 use Rattle.limbo_meaning.specs.World.{opening_world}
-use Rattle.limbo_meaning.specs.Runs.{first_process}
+use Rattle.limbo_meaning.specs.Process as source
+use Rattle.limbo_meaning.specs.Process.{Faulted}
+use Rattle.limbo_meaning.specs.Runs.{first_process, frames_limit}
 use Rattle.core_code.specs.Code as core
 use Rattle.core_code.specs.Code.{Inst, bodies}
 use Rattle.core_code.specs.Machine as machine
@@ -19,14 +26,16 @@ use Rattle.limbo_lower.specs.Stands as lower
 use Rattle.limbo_lower.proofs.Acts.{rank}
 use Rattle.limbo_lower.proofs.Keeps as first_pass
 use Rattle.limbo_lower.proofs.ProperCode.{proper_code}
+use Rattle.dis_meaning.specs.World.{World}
 use Rattle.dis_meaning.specs.Process.{Process}
+use Rattle.dis_meaning.specs.Step.{step}
 use Rattle.dis_codegen.specs.Start as start
 use Rattle.dis_codegen.specs.Start.{opening}
 use Rattle.dis_codegen.specs.Stands.{Ready}
 use Rattle.dis_codegen.specs.Paces.{inst_at, print_rank}
 use Rattle.dis_codegen.proofs.Kept as second_pass
 use Rattle.dis_codegen.proofs.Under.{same_instruction}
-use Rattle.code_sim.specs.Keeps.{code_and_object, sides, Keeps, JournalsAreRuns}
+use Rattle.code_sim.specs.Keeps.{object_for, code_and_object, sides, Keeps, JournalsAreRuns, NeverFaults}
 
 same_rank : (i : Option Inst) → rank i ≡ print_rank i
 same_rank None = refl
@@ -85,3 +94,19 @@ journals m proper init first h longest journal t e =
       paced = subst (λ bound. Paced bound (λ j. 0) b.turns) kept.pace b.paced;
       told = b.trace;
     }
+
+module _ (m : Module) (proper : IsProper m) (k : Bool) (w : outside.World) (x y : World) (number pc : ℕ) (r : Process) where
+  -- A process that stands for one of the module isn't at a wrong instruction.
+  never_wrong : (o : Option (Doing source.Process Value)) → StandsAlike (opened (sides m)) k o (Some (doing.Ready r)) → (sides m).worlds k w x → step frames_limit (object_for m ∷ []) x r ≡ Ends y (Faulted number pc) → ⊥
+  never_wrong (Some (doing.Ready p)) h e does = second_pass.never_faults (module_code m) (proper_code m proper) k e.0 x y h.0 r number pc h.2 e.2 does
+  never_wrong None h e does = h
+  never_wrong (Some (doing.Waiting bs p)) h e does = h
+  never_wrong (Some (doing.Asking p)) h e does = h
+  never_wrong (Some doing.Gone) h e does = h
+
+pub never_faults : (m : Module) → IsProper m → NeverFaults m
+never_faults m proper init first h longest journal t e j r there y number pc does =
+    let kept = keeps m proper in
+    let b = growing_journals (sides m) kept.follows false opening_world (opening (module_code m)) (first_process first) (start.first_process (module_code m)) (kept.begins init first h) kept.begins_in longest journal t e in
+    never_wrong m proper b.now b.config.world t.world y number pc r (slice_get b.config.processes j)
+    (subst (λ o. StandsAlike (opened (sides m)) b.now (slice_get b.config.processes j) o) there (b.processes j)) b.worlds does

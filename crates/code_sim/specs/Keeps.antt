@@ -1,6 +1,8 @@
 -- What the object of a module keeps of its meaning.
 use Rattle.std.specs.Prelude.{ℕ, ◌≡◌, Bool, true, false, List, [], ◌∷◌, Some, slice_get}
 use Rattle.styx_msg.specs.declared.message.Rmsg.{Rmsg}
+use Rattle.process_model.specs.Process as process
+use Rattle.process_model.specs.Process.{Ends}
 use Rattle.process_model.specs.Source.{Turn}
 use Rattle.process_model.specs.Machine.{State, Event, replay}
 use Rattle.process_model.specs.Follows.{Follows}
@@ -15,7 +17,7 @@ use Rattle.limbo_meaning.specs.World as outside
 use Rattle.limbo_meaning.specs.World.{opening_world}
 use Rattle.limbo_meaning.specs.Prints.{Request}
 use Rattle.limbo_meaning.specs.Process as source
-use Rattle.limbo_meaning.specs.Process.{Ending}
+use Rattle.limbo_meaning.specs.Process.{Ending, Faulted}
 use Rattle.limbo_meaning.specs.Runs as runs
 use Rattle.limbo_meaning.specs.Runs.{Meaning, MeaningRun, frames_limit}
 use Rattle.core_code.specs.Code as core
@@ -26,6 +28,7 @@ use Rattle.limbo_lower.specs.Code.{module_code}
 use Rattle.limbo_lower.specs.Stands as lower
 use Rattle.dis_meaning.specs.World.{World}
 use Rattle.dis_meaning.specs.Process.{Process}
+use Rattle.dis_meaning.specs.Step.{step}
 use Rattle.dis_meaning.specs.Rules as dis_rules
 use Rattle.dis_codegen.specs.Objects.{init_of, object_of}
 use Rattle.dis_codegen.specs.Start.{opening, first_process}
@@ -80,3 +83,12 @@ JournalsAreRuns m =
     (longest : ℕ) (journal : List (Event Rmsg)) (t : State World Process Value Request Rmsg Ending) →
     replay (dis_rules.rules frames_limit (object_for m ∷ [])) no_counts longest (begins_code (opening (module_code m)) (first_process (module_code m))) journal ≡ Some t →
     RunBeside m init journal t
+
+-- After no journal is the next instruction of a process wrong.
+abbrev pub NeverFaults : Module → Type 0
+NeverFaults m =
+    (init : ℕ) (first : Routine) → BeginsWith m init first →
+    (longest : ℕ) (journal : List (Event Rmsg)) (t : State World Process Value Request Rmsg Ending) →
+    replay (dis_rules.rules frames_limit (object_for m ∷ [])) no_counts longest (begins_code (opening (module_code m)) (first_process (module_code m))) journal ≡ Some t →
+    (j : ℕ) (r : Process) → slice_get t.processes j ≡ Some (process.Ready r) →
+    (y : World) (number pc : ℕ) → step frames_limit (object_for m ∷ []) t.world r ≡ Ends y (Faulted number pc) → ⊥

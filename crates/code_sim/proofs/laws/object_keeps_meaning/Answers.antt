@@ -6,3 +6,6 @@ returns-clause-keeps c = proved.keeps
 
 pub returns-clause-journals : goal.returns-clause-journals
 returns-clause-journals c = proved.journals
+
+pub returns-clause-never_faults : goal.returns-clause-never_faults
+returns-clause-never_faults c = proved.never_faults
