@@ -2,6 +2,10 @@
 
 ghost use Rattle.limbo_typed.specs.Typed.{Module};
 ghost use Rattle.limbo_typed.specs.Proper.{IsProper};
+ghost use Rattle.core_code.specs.Proper as core;
+ghost use Rattle.limbo_lower.specs.Code.{module_code};
+ghost use Rattle.limbo_lower.specs.Sizes.{FrameTooLarge};
+ghost use Rattle.dis_codegen.specs.Sites.{AllSmall};
 ghost use Rattle.code_sim.specs.Keeps.{Keeps, JournalsAreRuns, NeverFaults};
 
 /// The object of a module that the checker would take keeps its meaning: both passes of the compiler together.
@@ -9,4 +13,10 @@ pub fn object_keeps_meaning()
     ensures keeps { (m : Module) → IsProper m → Keeps m }
     ensures journals { (m : Module) → IsProper m → JournalsAreRuns m }
     ensures never_faults { (m : Module) → IsProper m → NeverFaults m }
+{}
+
+/// What the first pass makes, the second takes: it is proper code, and its frames are small enough.
+pub fn passes_fit()
+    ensures proper { (m : Module) → IsProper m → core.IsProper (module_code m) }
+    ensures small { (m : Module) → IsProper m → (FrameTooLarge m → ⊥) → AllSmall (module_code m).functions }
 {}

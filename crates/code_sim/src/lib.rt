@@ -6,4 +6,4 @@
 
 mod laws;
 
-pub use laws::object_keeps_meaning;
+pub use laws::{object_keeps_meaning, passes_fit};

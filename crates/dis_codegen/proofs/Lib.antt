@@ -1,4 +1,10 @@
 pub mod Examples
+pub mod Emission
+pub mod Ready
+pub mod Words
+pub mod Maps
+pub mod CodeSize
+pub mod Assembly
 pub mod Memory
 pub mod Instructions
 pub mod Lookups

@@ -1,5 +1,7 @@
 pub mod Code
 pub mod Objects
+pub mod Sites
+pub mod Site
 pub mod Start
 pub mod Stands
 pub mod Paces

@@ -1,0 +1,9 @@
+use Rattle.limbo_lower.proofs.ProperCode.{proper_code}
+use Rattle.code_sim.proofs.Small.{all_small}
+use Rattle.code_sim.proofs.laws.passes_fit.Goals as goal
+
+pub returns-clause-proper : goal.returns-clause-proper
+returns-clause-proper c = proper_code
+
+pub returns-clause-small : goal.returns-clause-small
+returns-clause-small c = λ m proper fits n f there. all_small m proper fits n f there

@@ -1,0 +1,53 @@
+-- The items of the module's data, one behind another.
+use Rattle.std.proofs.Common.{◌≡◌, ℕ, suc, ◌+◌, ◌*◌, List, [], ◌∷◌, ◌++◌, length, refl, sym, ap, ◌∙◌, arith, append_assoc, length-append}
+use Rattle.std.specs.Prelude.{Some, slice_get}
+use Rattle.dis_file.specs.declared.object.Item.{Item}
+use Rattle.limbo_typed.specs.Typed.{Piece, Chars, Decimal}
+use Rattle.core_code.specs.Code as core
+use Rattle.core_code.specs.Code.{Inst, Function}
+use Rattle.dis_codegen.specs.Code.{Datum, format_text}
+use Rattle.dis_codegen.specs.Objects.{item_of, items_from}
+use Rattle.dis_codegen.specs.Sites.{Stands, SmallDatum, piece_text}
+use Rattle.dis_codegen.proofs.Emission.{count_small}
+
+-- A format begins with the text of its first piece.
+pub format_text-piece : (p : Piece) (ps : List Piece) → format_text (p ∷ ps) ≡ piece_text p ++ format_text ps
+format_text-piece (Chars cs) ps = refl
+format_text-piece Decimal ps = refl
+
+pub items_length : (offset : ℕ) (ds : List Datum) → length (items_from offset ds) ≡ length ds
+items_length offset [] = refl
+items_length offset (d ∷ ds) = let r = items_length (offset + 4) ds in omega (arith, r)
+
+items_append : (offset : ℕ) (a b : List Datum) → items_from offset (a ++ b) ≡ items_from offset a ++ items_from (offset + 4 * length a) b
+items_append offset [] b = let e : offset ≡ offset + 4 * 0 = omega arith in ap (λ o. items_from o b) e
+items_append offset (d ∷ a) b =
+    let e : offset + 4 + 4 * length a ≡ offset + 4 * suc (length a) = omega arith in
+    ap (λ xs. item_of offset d ∷ xs) (items_append (offset + 4) a b ∙ ap (λ o. items_from (offset + 4) a ++ items_from o b) e)
+
+-- What is added behind some items, and what will be behind that.
+pub next_items : (olds news : List Item) (a b : List Datum) → news ≡ olds ++ items_from (4 + 4 * length olds) a →
+    news ++ items_from (4 + 4 * length news) b ≡ olds ++ items_from (4 + 4 * length olds) (a ++ b)
+next_items olds news a b e =
+    let o = 4 + 4 * length olds in
+    let l = ap length e ∙ length-append olds (items_from o a) in
+    let n = items_length o a in
+    let at : 4 + 4 * length news ≡ o + 4 * length a = omega (arith, l, n) in
+    ap (λ xs. xs ++ items_from (4 + 4 * length news) b) e
+    ∙ append_assoc olds (items_from o a) (items_from (4 + 4 * length news) b)
+    ∙ ap (λ p. olds ++ (items_from o a ++ items_from p b)) at
+    ∙ ap (λ xs. olds ++ xs) (sym (items_append o a b))
+
+-- In proper code with small frames all data are small.
+pub small_datum : (fs : List Function) (number : ℕ) (f : Function) (entries places : List ℕ) → Stands fs number f entries places → (pc : ℕ) (i : Inst) → slice_get f.code pc ≡ Some i → SmallDatum i
+small_datum fs number f entries places h pc (core.Set into n) e = (h.proper.each pc _ e).1
+small_datum fs number f entries places h pc (core.Move into from) e = tt
+small_datum fs number f entries places h pc (core.Operate o into left right) e = tt
+small_datum fs number f entries places h pc (core.Unless condition n) e = tt
+small_datum fs number f entries places h pc (core.Jump n) e = tt
+small_datum fs number f entries places h pc (core.Back n) e = tt
+small_datum fs number f entries places h pc (core.Call g args count into) e = count_small fs number f entries places h args count (h.proper.each pc _ e).1
+small_datum fs number f entries places h pc (core.Format pieces) e = tt
+small_datum fs number f entries places h pc (core.Print args count into) e = count_small fs number f entries places h args count (h.proper.each pc _ e).0
+small_datum fs number f entries places h pc (core.Return value) e = tt
+small_datum fs number f entries places h pc core.Leave e = tt

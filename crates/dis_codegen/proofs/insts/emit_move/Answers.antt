@@ -1,0 +1,12 @@
+use Rattle.dis_codegen.proofs.Emission.{slot_small}
+use Rattle.dis_codegen.proofs.insts.emit_move.Goals as goal
+
+pub slot-requires : goal.slot-requires
+slot-requires c =
+    let p = c.requires.stands.proper.each _ _ c.requires.there in
+    slot_small _ _ _ _ _ c.requires.stands _ p.1
+
+pub slot-requires-2 : goal.slot-requires-2
+slot-requires-2 c =
+    let p = c.requires.stands.proper.each _ _ c.requires.there in
+    slot_small _ _ _ _ _ c.requires.stands _ p.0

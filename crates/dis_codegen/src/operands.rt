@@ -1,0 +1,96 @@
+ghost use Rattle.std.specs.Prelude.{◌≡◌, ◌+◌, ◌*◌, ◌<◌, ◌≤◌, pos};
+ghost use Rattle.dis_codegen.specs.Code as dis;
+
+use dis_isa::{Inst, Middle, Op, Operand};
+
+// The least and greatest immediates of a source, and the greatest of a middle.
+const LEAST_SOURCE: i64 = -536_870_912;
+
+const GREATEST_SOURCE: i64 = 536_870_911;
+
+const GREATEST_MIDDLE: u64 = 32_767;
+
+/// An instruction of these operands.
+pub(crate) fn make(op: Op, src: Operand, middle: Middle, dst: Operand) -> Inst
+    ensures { result ≡ dis.inst op src middle dst }
+{
+    Inst {
+        op,
+        middle,
+        src,
+        dst,
+    }
+}
+
+/// Where a slot stands in its frame: behind the linkage.
+pub(crate) fn slot_offset(number: u32) -> i32
+    requires { number < 16384 }
+    ensures { result ≡ dis.slot_offset number }
+{
+    (32 + 4 * number) as i32
+}
+
+/// A slot.
+pub(crate) fn slot(number: u32) -> Operand
+    requires { number < 16384 }
+    ensures { result ≡ dis.slot number }
+{
+    Operand::Fp(slot_offset(number))
+}
+
+/// A word of the frame that is made in a function of so many slots.
+pub(crate) fn in_made(slots: u32, offset: i32) -> Operand
+    requires { slots < 16384 }
+    ensures { result ≡ dis.in_made slots offset }
+{
+    Operand::IndFp {
+        inner: slot_offset(slots),
+        outer: offset,
+    }
+}
+
+/// Where a datum stands in the module's data: behind the path of Sys and the module.
+pub(crate) fn datum_offset(number: u32) -> i32
+    requires { number ≤ 1048576 }
+    ensures { result ≡ dis.datum_offset number }
+{
+    (8 + 4 * number) as i32
+}
+
+/// Whether a number is an immediate of a source, which has 30 bits.
+pub(crate) fn fits_source(number: i64) -> bool
+    ensures { result ≡ dis.fits_source number }
+{
+    LEAST_SOURCE <= number && number <= GREATEST_SOURCE
+}
+
+/// Whether a number is an immediate of a middle, which has 16 bits.
+pub(crate) fn fits_middle(number: u64) -> bool
+    ensures { result ≡ dis.fits_middle number }
+{
+    number <= GREATEST_MIDDLE
+}
+
+/// A number as a source: an immediate, or the word of a datum.
+pub(crate) fn number_source(number: i64, datum: u32) -> Operand
+    requires { datum ≤ 1048576 }
+    ensures { result ≡ dis.number_source (dis.fits_source number) number datum }
+{
+    if fits_source(number) {
+        Operand::Imm(number as i32)
+    } else {
+        Operand::Mp(datum_offset(datum))
+    }
+}
+
+/// A number as a middle: an immediate, or the word of a datum.
+pub(crate) fn number_middle(number: u32, datum: u32) -> Middle
+    requires { datum ≤ 1048576 }
+    ensures { result ≡ dis.number_middle (dis.fits_middle number) number datum }
+{
+    if fits_middle(u64::from(number)) {
+        Middle::Imm(number as i32)
+    } else {
+        Middle::Mp(datum_offset(datum))
+    }
+}
