@@ -30,6 +30,8 @@ mod object;
 mod operands;
 mod site;
 mod sizes;
+#[cfg(test)]
+mod tests;
 mod types;
 
 pub use fault::GenFault;
