@@ -1,5 +1,5 @@
 use Rattle.std.proofs.Common.{◌+◌, ◌*◌, length}
-use Rattle.slow_meaning.proofs.prints.+adding.Given as goal
+use Rattle.slow_meaning.proofs.formats.+adding.Given as goal
 
 abbrev pub decreases-add_argument : goal.decreases-add_argument
 decreases-add_argument l = 2 * length l.more.now + 1

@@ -1,8 +1,8 @@
 -- What the processes of the program share, as the definitions have it.
 use Rattle.std.specs.Prelude.{[]}
 use Rattle.limbo_meaning.specs.World.{Link, World}
-use Rattle.slow_meaning.specs.declared.outside.Link as code_link
-use Rattle.slow_meaning.specs.declared.outside.World as code_world
+use Rattle.sys_print.specs.declared.outside.Link as code_link
+use Rattle.sys_print.specs.declared.outside.World as code_world
 
 abbrev pub view_link : code_link.Link → Link
 view_link l = record { waiting = l.waiting.items }

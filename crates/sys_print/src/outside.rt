@@ -1,6 +1,6 @@
 ghost use Rattle.std.specs.Prelude.{◌≡◌, IfOk};
 ghost use Rattle.limbo_meaning.specs.World as meaning;
-ghost use Rattle.slow_meaning.specs.Worlds.{view_link, view_world};
+ghost use Rattle.sys_print.specs.Worlds.{view_link, view_world};
 
 use std::alloc::{AllocError, Global};
 

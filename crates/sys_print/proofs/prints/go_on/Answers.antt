@@ -1,7 +1,7 @@
 use Rattle.std.proofs.Common.{◌<◌, length, rules, tests}
-use Rattle.slow_meaning.specs.Worlds.{view_world}
-use Rattle.slow_meaning.proofs.Pieces.{goes_on}
-use Rattle.slow_meaning.proofs.prints.go_on.Goals as goal
+use Rattle.sys_print.specs.Worlds.{view_world}
+use Rattle.sys_print.proofs.Pieces.{goes_on}
+use Rattle.sys_print.proofs.prints.go_on.Goals as goal
 
 pub returns : goal.returns
 returns c =

@@ -1,8 +1,8 @@
 use Rattle.std.proofs.Common.{◌∙◌, ap, take, drop}
-use Rattle.slow_meaning.specs.Worlds.{view_world}
-use Rattle.slow_meaning.specs.Printing.{view_request}
-use Rattle.slow_meaning.proofs.Pieces.{asks_piece}
-use Rattle.slow_meaning.proofs.prints.ask_piece.Goals as goal
+use Rattle.sys_print.specs.Worlds.{view_world}
+use Rattle.sys_print.specs.Printing.{view_request}
+use Rattle.sys_print.proofs.Pieces.{asks_piece}
+use Rattle.sys_print.proofs.prints.ask_piece.Goals as goal
 
 pub returns : goal.returns
 returns c =

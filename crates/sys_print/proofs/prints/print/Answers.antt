@@ -1,8 +1,8 @@
 use Rattle.std.proofs.Common.{◌≡◌, ◌<◌, ◌∙◌, sym, ap, length, rules, tests}
 use Rattle.limbo_meaning.specs.Prints.{ask_piece, print}
-use Rattle.slow_meaning.specs.Worlds.{view_world}
-use Rattle.slow_meaning.proofs.Pieces.{prints_some}
-use Rattle.slow_meaning.proofs.prints.print.Goals as goal
+use Rattle.sys_print.specs.Worlds.{view_world}
+use Rattle.sys_print.proofs.Pieces.{prints_some}
+use Rattle.sys_print.proofs.prints.print.Goals as goal
 
 pub returns : goal.returns
 returns c =

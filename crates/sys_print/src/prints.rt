@@ -1,18 +1,14 @@
-ghost use Rattle.std.specs.Prelude.{◌≡◌, ◌+◌, ◌^◌, ◌<◌, ◌≤◌, ◌++◌, ◌∷◌, length, map, IfOk};
-ghost use Rattle.limbo_typed.specs.Typed.{Decimal};
-ghost use Rattle.limbo_typed.specs.View.{view_piece};
+ghost use Rattle.std.specs.Prelude.{◌≡◌, ◌+◌, ◌^◌, ◌<◌, ◌≤◌, length, pos, IfOk};
 ghost use Rattle.styx_msg.specs.declared.message.Rmsg.TheVariants.{Write};
-ghost use Rattle.limbo_meaning.specs.Prints as meaning;
-ghost use Rattle.slow_meaning.specs.View.{view_value, view_values};
-ghost use Rattle.slow_meaning.specs.Worlds.{view_world};
-ghost use Rattle.slow_meaning.specs.Printing.{view_request, view_writing, view_printing};
 ghost use Rattle.styx_msg.specs.declared.fault.StyxFault.TheVariants.{NoMemory};
+ghost use Rattle.limbo_meaning.specs.Prints as meaning;
+ghost use Rattle.limbo_meaning.specs.Values.{Num, int_of};
+ghost use Rattle.sys_print.specs.Worlds.{view_world};
+ghost use Rattle.sys_print.specs.Printing.{view_request, view_writing, view_printing};
 
 use crate::outside::{World, begin_wait, copy_world, end_wait, free_tag, wrote};
-use crate::values::{Value, int_of_count};
 use crate::writing::{Request, Writing};
-use inf_text::{Seq, Text, decimal};
-use limbo_typed::Piece;
+use inf_text::{Seq, Text};
 use std::alloc::{AllocError, Global};
 use styx_msg::{Rmsg, StyxFault, Tmsg, encode_t};
 
@@ -22,70 +18,17 @@ const LONGEST_PIECE: usize = 8192;
 /// What a print comes to: it answers, asks, or is given a reply that is none to its request.
 #[derive(Drop)]
 pub enum Printing {
-    Answers(World, Value),
+    /// The world, and the number that the print answers.
+    Answers(World, i32),
     Requests(World, Request, Writing),
     NoReply,
 }
 
-fn decimal_text(alloc: Global, v: Value) -> Result<Text, AllocError>
-    ensures { IfOk result (λ t. t ≡ meaning.decimal_text (view_value v)) }
+/// What is left of a count in 32 bits, signed.
+fn int_of_count(n: u64) -> i32
+    ensures { Num result ≡ int_of (pos n) }
 {
-    let Value::Num(n) = v;
-    decimal(alloc, n)
-}
-
-// Adds what a format makes of its arguments.
-#[cycle(adding)]
-fn add_pieces(
-    alloc: Global,
-    text: &mut Text,
-    pieces: &[Piece],
-    values: &[Value],
-) -> Result<(), AllocError>
-    ensures { IfOk result (λ _. text.new
-        ≡ text.old ++ meaning.text_of (map view_piece pieces.now) (view_values values.now)) }
-{
-    match pieces {
-        [] => Ok(()),
-        [piece, more @ ..] => match piece {
-            Piece::Chars(chars) => {
-                text.push_all(chars.as_slice())?;
-                add_pieces(alloc, text, more, values)
-            }
-            Piece::Decimal => add_argument(alloc, text, more, values),
-        },
-    }
-}
-
-// The same, where the format goes on behind a `%d`.
-#[cycle(adding)]
-fn add_argument(
-    alloc: Global,
-    text: &mut Text,
-    more: &[Piece],
-    values: &[Value],
-) -> Result<(), AllocError>
-    ensures { IfOk result (λ _. text.new
-        ≡ text.old ++ meaning.text_of (Decimal ∷ map view_piece more.now) (view_values values.now)) }
-{
-    match values {
-        [] => add_pieces(alloc, text, more, values),
-        [v, others @ ..] => {
-            let digits = decimal_text(alloc, *v)?;
-            text.push_all(digits.as_slice())?;
-            add_pieces(alloc, text, more, others)
-        }
-    }
-}
-
-/// The text that a format makes of its arguments.
-pub fn text_of(alloc: Global, pieces: &[Piece], values: &[Value]) -> Result<Text, AllocError>
-    ensures { IfOk result (λ t. t
-        ≡ meaning.text_of (map view_piece pieces.now) (view_values values.now)) }
-{
-    let mut text = Text::new(alloc);
-    add_pieces(alloc, &mut text, pieces, values)?;
-    Ok(text)
+    ((n % 4_294_967_296) as u32).cast_signed()
 }
 
 // A request of a print is never too long, so only memory can be wanting.
@@ -180,7 +123,7 @@ fn refused(world: World, written: u64) -> Printing
     ensures { view_printing result ≡ meaning.refused (view_world world) written }
 {
     if written == 0 {
-        return Printing::Answers(world, Value::Num(-1));
+        return Printing::Answers(world, -1);
     }
     Printing::Answers(world, int_of_count(written))
 }
