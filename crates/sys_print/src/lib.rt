@@ -3,7 +3,8 @@
 //!
 //! A print of a text is a row of Twrites to the console, one behind the reply to the other: `print` makes the first of them and `hear`
 //! goes on with a reply. The contract of each is the definition of its name in limbo_meaning's `Prints`; `specs/Worlds` and
-//! `specs/Printing` join the data here to those of the definitions. The slow program of the meaning and the machine stand on it.
+//! `specs/Printing` join the data here to those of the definitions, and `specs/Sent` says that what
+//! is asked is a message. The slow program of the meaning and the machine stand on it.
 #![tactic(auto)]
 
 mod outside;

@@ -5,6 +5,7 @@ ghost use Rattle.limbo_meaning.specs.Prints as meaning;
 ghost use Rattle.limbo_meaning.specs.Values.{Num, int_of};
 ghost use Rattle.sys_print.specs.Worlds.{view_world};
 ghost use Rattle.sys_print.specs.Printing.{view_request, view_writing, view_printing};
+ghost use Rattle.sys_print.specs.Sent.{IsSent, Sent};
 
 use crate::outside::{World, begin_wait, copy_world, end_wait, free_tag, wrote};
 use crate::writing::{Request, Writing};
@@ -40,9 +41,10 @@ fn want_of_memory(fault: StyxFault) -> AllocError
 }
 
 // The Twrite of these bytes to the output, where it stands, with this tag.
-fn twrite(alloc: Global, world: &World, tag: u64, piece: &[u8]) -> Result<Request, AllocError>
+fn twrite(alloc: Global, world: &World, tag: u16, piece: &[u8]) -> Result<Request, AllocError>
     requires { length piece.now ≤ 8192 }
-    ensures { IfOk result (λ m. view_request m ≡ meaning.twrite (view_world world.now) tag piece.now) }
+    ensures request { IfOk result (λ m. view_request m ≡ meaning.twrite (view_world world.now) tag piece.now) }
+    ensures sent { IfOk result (λ m. IsSent m.frame.items tag (length piece.now)) }
 {
     let piece = Vec::from_slice(alloc, piece)?;
     let message = Tmsg::Write {
@@ -50,7 +52,7 @@ fn twrite(alloc: Global, world: &World, tag: u64, piece: &[u8]) -> Result<Reques
         offset: world.files.output.offset,
         piece: Seq::from_vec(piece),
     };
-    match encode_t(alloc, (tag % 65536) as u16, &message) {
+    match encode_t(alloc, tag, &message) {
         Ok(frame) => Ok(Request { link: 1, frame }),
         Err(fault) => Err(want_of_memory(fault)),
     }
@@ -64,17 +66,21 @@ fn ask_piece(
     bytes: &[u8],
 ) -> Result<Printing, AllocError>
     requires { written + length bytes.now < 2 ^ 64 }
-    ensures { IfOk result (λ g. view_printing g
+    ensures printing { IfOk result (λ g. view_printing g
         ≡ meaning.ask_piece (view_world world) written bytes.now) }
+    ensures sent { IfOk result Sent }
 {
-    let tag = free_tag(&world.links.console);
+    // A tag has 16 bits. That so many requests wait isn't met, as there are fewer processes.
+    let Ok(tag) = u16::try_from(free_tag(&world.links.console)) else {
+        return Err(AllocError);
+    };
     let (piece, left) = bytes.split_at(LONGEST_PIECE.min(bytes.len()));
     let request = twrite(alloc, &world, tag, piece)?;
     let asked = piece.len() as u32;
     let left = Vec::from_slice(alloc, left)?;
-    let world = begin_wait(tag, world)?;
+    let world = begin_wait(u64::from(tag), world)?;
     let writing = Writing {
-        tag,
+        tag: u64::from(tag),
         written,
         asked,
         left,
@@ -84,7 +90,8 @@ fn ask_piece(
 
 /// A print of this text: an empty one asks nothing and answers 0.
 pub fn print(alloc: Global, world: &World, text: &Text) -> Result<Printing, AllocError>
-    ensures { IfOk result (λ g. view_printing g ≡ meaning.print (view_world world.now) text.now) }
+    ensures printing { IfOk result (λ g. view_printing g ≡ meaning.print (view_world world.now) text.now) }
+    ensures sent { IfOk result Sent }
 {
     let world = copy_world(world)?;
     if text.len() == 0 {
@@ -97,7 +104,8 @@ pub fn print(alloc: Global, world: &World, text: &Text) -> Result<Printing, Allo
 // So many bytes were written, and these are left.
 fn go_on(alloc: Global, world: World, total: u64, left: &[u8]) -> Result<Printing, AllocError>
     requires { total + length left.now < 2 ^ 64 }
-    ensures { IfOk result (λ g. view_printing g ≡ meaning.go_on (view_world world) total left.now) }
+    ensures printing { IfOk result (λ g. view_printing g ≡ meaning.go_on (view_world world) total left.now) }
+    ensures sent { IfOk result Sent }
 {
     if left.is_empty() {
         return Ok(Printing::Answers(world, int_of_count(total)));
@@ -108,8 +116,9 @@ fn go_on(alloc: Global, world: World, total: u64, left: &[u8]) -> Result<Printin
 // So many bytes of the piece were written, and no more than were asked.
 fn took(alloc: Global, world: World, k: &Writing, count: u32) -> Result<Printing, AllocError>
     requires { count ≤ k.now.asked }
-    ensures { IfOk result (λ g. view_printing g
+    ensures printing { IfOk result (λ g. view_printing g
         ≡ meaning.took (view_world world) (view_writing k.now) count) }
+    ensures sent { IfOk result Sent }
 {
     let total = k.written + u64::from(count);
     if count < k.asked {
@@ -130,8 +139,9 @@ fn refused(world: World, written: u64) -> Printing
 
 // The Rwrite of so many bytes.
 fn hear_count(alloc: Global, count: u32, world: &World, k: &Writing) -> Result<Printing, AllocError>
-    ensures { IfOk result (λ g. view_printing g
+    ensures printing { IfOk result (λ g. view_printing g
         ≡ meaning.hear (Write count) (view_world world.now) (view_writing k.now)) }
+    ensures sent { IfOk result Sent }
 {
     if k.asked < count {
         return Ok(Printing::NoReply);
@@ -142,8 +152,9 @@ fn hear_count(alloc: Global, count: u32, world: &World, k: &Writing) -> Result<P
 
 /// The reply to a print's request.
 pub fn hear(alloc: Global, reply: &Rmsg, world: &World, k: &Writing) -> Result<Printing, AllocError>
-    ensures { IfOk result (λ g. view_printing g
+    ensures printing { IfOk result (λ g. view_printing g
         ≡ meaning.hear reply.now (view_world world.now) (view_writing k.now)) }
+    ensures sent { IfOk result Sent }
 {
     match reply {
         Rmsg::Write { count } => hear_count(alloc, *count, world, k),
