@@ -4,7 +4,7 @@ use Rattle.std.specs.Io.KnownBytes.{Appends}
 use Rattle.styx_msg.specs.declared.message.Rmsg.{Rmsg}
 use Rattle.styx_msg.specs.declared.message.Tmsg.{Tmsg}
 use Rattle.styx_msg.specs.Styx.{t_row, r_row, spelling, Fits}
-use Rattle.first_host.specs.Console.{Answers}
+use Rattle.console_server.specs.Console.{Answers}
 
 -- the frame is this request under this tag
 pub record IsRequest (frame : List ℕ) (tag : ℕ) (m : Tmsg) : Type 0 where

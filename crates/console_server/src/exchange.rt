@@ -6,8 +6,8 @@ ghost use Rattle.inf_ports.specs.Outside.{Rose};
 ghost use Rattle.styx_msg.specs.declared.message.Tmsg.{Tmsg as AnyRequest};
 ghost use Rattle.styx_msg.specs.declared.message.Rmsg.{Rmsg as AnyReply};
 ghost use Rattle.styx_msg.specs.Styx.{t_row, r_row, spelling, Fits};
-ghost use Rattle.first_host.specs.Console.{Answers, IsSmall, IsShortReply};
-ghost use Rattle.first_host.specs.Exchange.{IsRequest, IsServed};
+ghost use Rattle.console_server.specs.Console.{Answers, IsSmall, IsShortReply};
+ghost use Rattle.console_server.specs.Exchange.{IsRequest, IsServed};
 
 use crate::console::Console;
 use inf_ports::Sink;
@@ -49,7 +49,7 @@ fn frame_of(alloc: Global, tag: u16, reply: &Rmsg) -> Result<Vec<u8>, AllocError
 ///
 /// # Errors
 /// Want of memory. Then the request was served or not.
-pub(crate) fn answer<K: Sink>(
+pub fn answer<K: Sink>(
     alloc: Global,
     console: &mut Console,
     frame: &[u8],

@@ -7,8 +7,8 @@ use Rattle.std.specs.Io.KnownBytes.{Appends}
 use Rattle.styx_msg.specs.declared.message.Tmsg.{Tmsg}
 use Rattle.styx_msg.specs.declared.message.Rmsg.{Rmsg}
 use Rattle.styx_msg.specs.Styx.{r_row, spelling, Fits}
-use Rattle.first_host.specs.Console.{Answers}
-use Rattle.first_host.specs.Exchange.{IsRequest, IsServed}
+use Rattle.console_server.specs.Console.{Answers}
+use Rattle.console_server.specs.Exchange.{IsRequest, IsServed}
 
 -- the console answered the request that was read
 abbrev pub Read : Bool → Tmsg → Rmsg → Bool → Option (List ℕ) → Option (List ℕ) → Type 0

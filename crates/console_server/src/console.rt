@@ -2,7 +2,7 @@ ghost use Rattle.std.specs.Prelude.{◌≡◌, ◌<◌, ◌≤◌, ◌^◌, ◌�
 ghost use Rattle.std.specs.Io.KnownBytes.{Appends, Keeps};
 ghost use Rattle.inf_ports.specs.Outside.{Rose};
 ghost use Rattle.styx_msg.specs.declared.message.Rmsg.TheVariants.{Error};
-ghost use Rattle.first_host.specs.Console.{Answers, Writes, IsSmall, IsShortReply};
+ghost use Rattle.console_server.specs.Console.{Answers, Writes, IsSmall, IsShortReply};
 
 use inf_ports::{Sink, write_whole};
 use inf_text::Text;
@@ -22,7 +22,8 @@ const UNKNOWN_FID: [char; 11] = ['u', 'n', 'k', 'n', 'o', 'w', 'n', ' ', 'f', 'i
 /// From the first fault of the sink on, each use of it is refused. No other request is built yet.
 #[derive(Drop, Debug)]
 pub struct Console {
-    failed: bool,
+    /// Whether its sink has failed.
+    pub failed: bool,
 }
 
 /// A refusal with this text.

@@ -1,5 +1,5 @@
-use Rattle.first_host.proofs.Served.{answered, stopped}
-use Rattle.first_host.proofs.exchange.answer.Goals as goal
+use Rattle.console_server.proofs.Served.{answered, stopped}
+use Rattle.console_server.proofs.exchange.answer.Goals as goal
 
 pub returns-clause-answered : goal.returns-clause-answered
 returns-clause-answered g c =
