@@ -11,8 +11,8 @@ use Rattle.first_machine.specs.declared.event.Event.{Event}
 use Rattle.first_machine.specs.declared.event.Event.TheVariants as event
 use Rattle.first_machine.specs.Step.{content_of}
 use Rattle.first_machine.specs.Run.{State, request, waiting_for, Happens, replies_of, initial, IsJournal}
-use Rattle.first_host.specs.Console.{Serves}
-use Rattle.first_host.specs.Exchange.{IsServed}
+use Rattle.console_server.specs.Console.{Serves}
+use Rattle.console_server.specs.Exchange.{IsServed}
 use Rattle.first_host.specs.Conversation.{Conversation, requests_for, SayCounts, bytes_of}
 use Rattle.first_host.specs.Talk.{Talk}
 use Rattle.first_host.proofs.Journals.{requests_more, serves_more, serves_each, whole_journal, cut_journal}

@@ -5,7 +5,7 @@ use Rattle.dis_file.specs.declared.object.Object.{Object}
 use Rattle.first_machine.specs.declared.event.Event.{Event}
 use Rattle.first_machine.specs.declared.event.Event.TheVariants as event
 use Rattle.first_machine.specs.Run.{State, request, Happens, IsFull, requests_of, Replays, replies_of, IsJournal, initial}
-use Rattle.first_host.specs.Console.{Exchange, Serves}
+use Rattle.console_server.specs.Console.{Exchange, Serves}
 use Rattle.first_host.specs.Conversation.{requests_for, SaysCount, SayCounts}
 use Rattle.first_host.specs.Talk.{taken_after}
 

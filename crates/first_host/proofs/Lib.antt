@@ -1,4 +1,3 @@
-mod Served
 mod Says
 mod Journals
 mod Talks

@@ -13,7 +13,7 @@ use Rattle.first_machine.specs.declared.event.Event.TheVariants as event
 use Rattle.first_machine.specs.Step.{content_of}
 use Rattle.first_machine.specs.Run.{State, request, waiting_for, Happens, IsFull, CanAsk, initial}
 use Rattle.first_machine.specs.Machine.{Journaled, Entered, outbox_after}
-use Rattle.first_host.specs.Exchange.{IsRequest, IsServed}
+use Rattle.console_server.specs.Exchange.{IsRequest, IsServed}
 use Rattle.first_host.specs.Conversation.{Conversation}
 use Rattle.first_host.specs.Talk.{Saying, Talk, readiness, work}
 use Rattle.first_host.proofs.Says.{Onward, turns_say, reply_says}

@@ -15,8 +15,8 @@ use Rattle.first_machine.specs.declared.event.Event.{Event}
 use Rattle.first_machine.specs.declared.event.Event.TheVariants as event
 use Rattle.first_machine.specs.Step.{content_of}
 use Rattle.first_machine.specs.Run.{State, request, waiting_for, Happens, IsFull, Replays, replies_of, replied, answer_of}
-use Rattle.first_host.specs.Console.{Writes, Exchange, Serves}
-use Rattle.first_host.specs.Exchange.{IsServed}
+use Rattle.console_server.specs.Console.{Writes, Exchange, Serves}
+use Rattle.console_server.specs.Exchange.{IsServed}
 use Rattle.first_host.specs.Conversation.{requests_for, SayCounts, count_in, bytes_of}
 use Rattle.first_host.specs.Talk.{Saying, Talk, taken_after, work}
 use Rattle.first_host.proofs.Says.{turns_say, reply_says}

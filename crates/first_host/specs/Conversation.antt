@@ -11,7 +11,7 @@ use Rattle.styx_msg.specs.Styx.{r_row, spelling}
 use Rattle.first_machine.specs.declared.doing.Doing.TheVariants as doing
 use Rattle.first_machine.specs.declared.event.Event.{Event}
 use Rattle.first_machine.specs.Run.{State, request, replies_of, IsJournal}
-use Rattle.first_host.specs.Console.{Serves}
+use Rattle.console_server.specs.Console.{Serves}
 
 -- The requests that texts be written, in order: each on the console's link with the tag 0 and the fid 2, behind as many
 -- bytes as the replies before it said were taken. The request behind the last reply is made too.

@@ -1,5 +1,3 @@
-pub mod Console
-pub mod Exchange
 pub mod Conversation
 pub mod Talk
 pub mod Ends

@@ -7,7 +7,7 @@ use Rattle.first_machine.specs.declared.event.Event.{Event}
 use Rattle.first_machine.specs.Memory.{Blocks}
 use Rattle.first_machine.specs.Step.{answered, content_of}
 use Rattle.first_machine.specs.Run.{State, Says, Replays, replies_of}
-use Rattle.first_host.specs.Console.{Serves}
+use Rattle.console_server.specs.Console.{Serves}
 use Rattle.first_host.specs.Conversation.{requests_for, SayCounts, bytes_of}
 
 -- The process will print these texts and return, whatever its prints are answered; the first of them is that of the print

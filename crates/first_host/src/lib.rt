@@ -1,13 +1,10 @@
 //! Runs a machine: hands its requests to the console, and the replies to the machine.
 //!
-//! `Console` answers one request by `specs/Console.antt`. `run_machine` runs a machine to its end; its contract cites
-//! `Conversation` of `specs/Conversation.antt`, which says what the journal, the requests, the replies and the bytes on
+//! `run_machine` runs a machine to its end; its contract cites `Conversation` of
+//! `specs/Conversation.antt`, which says what the journal, the requests, the replies and the bytes on
 //! the output are for a program that prints these texts. The program stands on it.
 #![tactic(auto)]
 
-mod console;
-mod exchange;
 mod run;
 
-pub use console::Console;
 pub use run::{Ran, RunEnd, run_machine};

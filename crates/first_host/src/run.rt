@@ -10,8 +10,7 @@ ghost use Rattle.first_host.specs.Conversation.{Conversation, bytes_of};
 ghost use Rattle.first_host.specs.Talk.{Saying, Talk, work};
 ghost use Rattle.first_host.specs.Ends.{IsDone, is_done};
 
-use crate::console::Console;
-use crate::exchange::answer;
+use console_server::{Console, answer};
 use dis_file::Object;
 use first_machine::{End, Journal, Machine, ReplyFault};
 use inf_ports::Sink;

@@ -1,7 +1,5 @@
 pub mod View
 pub mod Routines
-pub mod Worlds
-pub mod Printing
 pub mod Processes
 pub mod Alone
 pub mod Stories

@@ -13,8 +13,8 @@ use Rattle.slow_meaning.specs.declared.processes.Ending.TheVariants as ending
 use Rattle.slow_meaning.specs.declared.processes.Effect as code_effect
 use Rattle.slow_meaning.specs.declared.processes.Effect.TheVariants as effect
 use Rattle.slow_meaning.specs.View.{view_values, view_block}
-use Rattle.slow_meaning.specs.Worlds.{view_world}
-use Rattle.slow_meaning.specs.Printing.{view_request, view_writing}
+use Rattle.sys_print.specs.Worlds.{view_world}
+use Rattle.sys_print.specs.Printing.{view_request, view_writing}
 
 abbrev pub view_frame : code_frame.Frame → Frame
 view_frame f = record { variables = view_values f.variables.items; todo = view_block f.todo }

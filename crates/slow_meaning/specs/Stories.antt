@@ -12,8 +12,8 @@ use Rattle.slow_meaning.specs.declared.running.Standing.TheVariants as standing
 use Rattle.slow_meaning.specs.declared.running.Told as code_told
 use Rattle.slow_meaning.specs.declared.running.Told.TheVariants as told
 use Rattle.slow_meaning.specs.declared.running.Alone as code_alone
-use Rattle.slow_meaning.specs.Worlds.{view_world}
-use Rattle.slow_meaning.specs.Printing.{view_request}
+use Rattle.sys_print.specs.Worlds.{view_world}
+use Rattle.sys_print.specs.Printing.{view_request}
 use Rattle.slow_meaning.specs.Processes.{view_process, view_ending}
 
 abbrev pub view_standing : code_standing.Standing → Standing

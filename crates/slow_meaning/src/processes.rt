@@ -5,20 +5,18 @@ ghost use Rattle.limbo_meaning.specs.Evaluation.{fill_block};
 ghost use Rattle.limbo_meaning.specs.Runs as runs;
 ghost use Rattle.slow_meaning.specs.View.{view_value, view_values, view_block};
 ghost use Rattle.slow_meaning.specs.Routines.{view_routine, view_routines};
-ghost use Rattle.slow_meaning.specs.Worlds.{view_world};
-ghost use Rattle.slow_meaning.specs.Printing.{view_request, view_writing, view_printing};
+ghost use Rattle.sys_print.specs.Worlds.{view_world};
+ghost use Rattle.sys_print.specs.Printing.{view_request, view_writing, view_printing};
 ghost use Rattle.slow_meaning.specs.Processes.{view_frame, view_frames, view_process, view_effect, asking};
 
 use crate::copies::copy_block;
 use crate::filling::fill_block;
-use crate::outside::World;
-use crate::prints::Printing;
 use crate::program::Routine;
 use crate::trees::{Block, Stm, Term, then};
 use crate::values::Value;
-use crate::writing::{Request, Writing};
 use inf_text::Text;
 use std::alloc::{AllocError, Global};
+use sys_print::{Printing, Request, World, Writing};
 
 /// A call of a function: its variables by their numbers, and what is left of its body.
 #[derive(Drop)]
@@ -282,7 +280,8 @@ pub fn prints(
 {
     match g {
         Printing::Answers(v, a) => {
-            let todo = then(alloc, Stm::Eval(Term::Evaluated(a)), rest)?;
+            let answer = Value::Num(i64::from(a));
+            let todo = then(alloc, Stm::Eval(Term::Evaluated(answer)), rest)?;
             Ok(goes(v, process, todo))
         }
         Printing::Requests(v, m, k) => {
@@ -319,7 +318,7 @@ pub fn hears(
         ≡ meaning.hears (view_world world) (view_process process) (view_printing g)) }
 {
     match g {
-        Printing::Answers(v, a) => goes_filled(alloc, v, process, a),
+        Printing::Answers(v, a) => goes_filled(alloc, v, process, Value::Num(i64::from(a))),
         Printing::Requests(v, m, k) => {
             let todo = copy_block(alloc, &process.frame.todo)?;
             Ok(asks(v, m, process, todo, k))

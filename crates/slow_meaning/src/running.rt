@@ -5,18 +5,17 @@ ghost use Rattle.limbo_meaning.specs.Runs.{frames_limit};
 ghost use Rattle.limbo_meaning.specs.Replays.{HasRun};
 ghost use Rattle.slow_meaning.specs.Alone as alone;
 ghost use Rattle.slow_meaning.specs.Routines.{view_routine, view_routines};
-ghost use Rattle.slow_meaning.specs.Worlds.{view_world};
+ghost use Rattle.sys_print.specs.Worlds.{view_world};
 ghost use Rattle.slow_meaning.specs.Processes.{view_process, view_effect};
 ghost use Rattle.slow_meaning.specs.Stories.{view_standing, view_told, view_alone};
 
-use crate::outside::{World, opening_world};
 use crate::processes::{Effect, Ending, Process, first_process};
 use crate::program::{Routine, routines};
 use crate::steps::{answer, step};
-use crate::writing::Request;
 use limbo_typed::TypedModule;
 use std::alloc::{AllocError, Global};
 use styx_msg::Rmsg;
+use sys_print::{Request, World, opening_world};
 
 /// How many frames a process may have.
 pub const FRAMES_LIMIT: usize = 10_000;

@@ -5,13 +5,12 @@ ghost use Rattle.limbo_meaning.specs.Values.{holds};
 ghost use Rattle.limbo_meaning.specs.Step as meaning;
 ghost use Rattle.slow_meaning.specs.View.{view_value, view_term, view_terms, view_stm, view_block};
 ghost use Rattle.slow_meaning.specs.Routines.{view_routines};
-ghost use Rattle.slow_meaning.specs.Worlds.{view_world};
+ghost use Rattle.sys_print.specs.Worlds.{view_world};
 ghost use Rattle.slow_meaning.specs.Processes.{view_process, view_effect};
 
 use crate::copies::{copy_block, copy_term};
 use crate::evaluation::{Progress, next, next_all};
-use crate::outside::World;
-use crate::prints::{hear, print, text_of};
+use crate::formats::text_of;
 use crate::processes::{
     Effect, Process, calls, goes, hears, prints, returns, stands_still, writes,
 };
@@ -21,6 +20,7 @@ use crate::values::{Value, holds};
 use limbo_typed::Piece;
 use std::alloc::{AllocError, Global};
 use styx_msg::Rmsg;
+use sys_print::{World, hear, print};
 
 // A step of an assignment.
 fn assigns(

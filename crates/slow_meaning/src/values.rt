@@ -1,4 +1,4 @@
-ghost use Rattle.std.specs.Prelude.{◌≡◌, pos, ◌+ℤ◌, ◌-ℤ◌, ◌*ℤ◌};
+ghost use Rattle.std.specs.Prelude.{◌≡◌, ◌+ℤ◌, ◌-ℤ◌, ◌*ℤ◌};
 ghost use Rattle.std.specs.Int.{int_wrap, w32};
 ghost use Rattle.limbo_typed.specs.View.{view_op};
 ghost use Rattle.limbo_meaning.specs.Values as meaning;
@@ -17,14 +17,6 @@ fn wrapped(n: i64) -> i32
     ensures { result ≡ int_wrap w32 n }
 {
     (n.rem_euclid(4_294_967_296) as u32).cast_signed()
-}
-
-/// What is left of a count in 32 bits, signed.
-pub fn int_of_count(n: u64) -> Value
-    ensures { view_value result ≡ meaning.int_of (pos n) }
-{
-    let low = (n % 4_294_967_296) as u32;
-    Value::Num(i64::from(low.cast_signed()))
 }
 
 fn truth(b: bool) -> Value

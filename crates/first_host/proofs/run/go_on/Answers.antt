@@ -3,7 +3,7 @@ use Rattle.styx_msg.specs.declared.message.Tmsg.TheVariants as t
 use Rattle.first_machine.specs.Step.{content_of}
 use Rattle.first_machine.specs.Run.{waiting_for}
 use Rattle.std.proofs.Common.{false}
-use Rattle.first_host.specs.Exchange.{IsRequest}
+use Rattle.console_server.specs.Exchange.{IsRequest}
 use Rattle.first_host.specs.Conversation.{Conversation}
 use Rattle.first_host.specs.Talk.{work}
 use Rattle.first_host.proofs.Ends.{stopped_asking, stopped_served}

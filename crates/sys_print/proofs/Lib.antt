@@ -1,0 +1,3 @@
+pub mod Tags
+pub mod Sizes
+pub mod Pieces

@@ -1,0 +1,6 @@
+use Rattle.std.proofs.Common.{◌≡◌, ◌-◌}
+use Rattle.limbo_meaning.specs.World.{least_from}
+use Rattle.sys_print.proofs.outside.free_tag.Given as goal
+
+abbrev pub invariant-loop-tag : goal.invariant-loop-tag
+invariant-loop-tag l = least_from (l.tries - l.tag) l.tag l.link.waiting.items ≡ least_from l.tries 0 l.link.waiting.items
