@@ -5,5 +5,6 @@ pub mod Places
 pub mod Formats
 pub mod Step
 pub mod Rules
+pub mod Opening
 pub mod Counts
 pub mod Laws

@@ -1,0 +1,4 @@
+pub mod Journal
+pub mod Frames
+pub mod Ends
+pub mod Translated

@@ -1,0 +1,8 @@
+//! What holds of every journal.
+
+ghost use Rattle.machine_core.specs.Translated.{JournalsTranslate};
+
+/// The replay of a machine's journal is that of its translation: what is known of the journals of process_model is known of it.
+pub fn journals_translate()
+    ensures { JournalsTranslate }
+{}
