@@ -1,0 +1,4 @@
+pub mod Words
+pub mod Frames
+pub mod View
+pub mod Outcomes
