@@ -1,4 +1,5 @@
 pub mod Words
 pub mod Frames
 pub mod View
+pub mod Storing
 pub mod Outcomes

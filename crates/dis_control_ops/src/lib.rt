@@ -10,7 +10,9 @@
 #![tactic(auto)]
 
 mod begin;
+mod blocks;
 mod frame;
+mod frames;
 mod memory;
 mod outcome;
 mod process;

@@ -1,6 +1,8 @@
-ghost use Rattle.std.specs.Prelude.{◌≡◌, ◌<◌, length, slice_get, OnOk, OnErr, IfErr};
+ghost use Rattle.std.specs.Prelude.{◌≡◌, ◌<◌, length, slice_get, OnOk, OnErr, true};
 ghost use Rattle.dis_meaning.specs.Words as meaning;
-ghost use Rattle.dis_control_ops.specs.Words.{number_of, view_word, view_words, Gives, GivesFault};
+ghost use Rattle.dis_meaning.specs.Step as step;
+ghost use Rattle.dis_control_ops.specs.Words.{view_word, view_words, GivesFault};
+ghost use Rattle.dis_control_ops.specs.Storing.{put_all, takes_all};
 
 use crate::word::{Fault, Word};
 
@@ -53,8 +55,7 @@ fn fits(old: Word, new: Word) -> bool
 
 /// Replaces the word of this number, by one of its kind.
 pub(crate) fn replace(words: &mut Vec<Word>, k: usize, new: Word) -> Result<(), Fault>
-    ensures found { OnOk result (meaning.replaced (view_words words.old.items) k (view_word new) ≡ meaning.Found (view_words words.new.items)) }
-    ensures wrong { IfErr result (λ f. meaning.replaced (view_words words.old.items) k (view_word new) ≡ meaning.Wrong (number_of f)) }
+    ensures gives { GivesFault (λ _. view_words words.new.items) result (meaning.replaced (view_words words.old.items) k (view_word new)) }
     ensures kept { OnErr result (words.new ≡ words.old) }
 {
     let old = nth(words, k)?;
@@ -67,10 +68,49 @@ pub(crate) fn replace(words: &mut Vec<Word>, k: usize, new: Word) -> Result<(), 
 
 /// Stores a word at a byte, where one of its kind stands.
 pub fn put(words: &mut Vec<Word>, at: i64, new: Word) -> Result<(), Fault>
-    ensures found { OnOk result (meaning.stored (view_words words.old.items) at (view_word new) ≡ meaning.Found (view_words words.new.items)) }
-    ensures wrong { IfErr result (λ f. meaning.stored (view_words words.old.items) at (view_word new) ≡ meaning.Wrong (number_of f)) }
+    ensures gives { GivesFault (λ _. view_words words.new.items) result (meaning.stored (view_words words.old.items) at (view_word new)) }
     ensures kept { OnErr result (words.new ≡ words.old) }
 {
     let k = word_number(at)?;
     replace(words, k, new)
+}
+
+// Whether each word has a word of its kind to replace, from this number on.
+fn take_all(words: &[Word], from: usize, new: &[Word]) -> Result<(), Fault>
+    ensures { GivesFault (λ _. true) result (takes_all (view_words words.now) from (view_words new.now)) }
+{
+    let mut k = from;
+    for word in new {
+        let old = nth(words, k)?;
+        if !fits(old, *word) {
+            return Err(Fault::TypeCheck);
+        }
+        k += 1;
+    }
+    Ok(())
+}
+
+// Replaces words from this number on, where each has one of its kind to replace.
+fn replace_all(words: &mut Vec<Word>, from: usize, new: &[Word])
+    requires { takes_all (view_words words.old.items) from (view_words new.now) ≡ meaning.Found true }
+    ensures { step.all_replaced (view_words words.old.items) from (view_words new.now) ≡ meaning.Found (view_words words.new.items) }
+{
+    let mut k = from;
+    for word in new {
+        words[k] = *word;
+        k += 1;
+    }
+}
+
+/// Stores words from a byte on, all of them or none.
+pub(crate) fn put_all(words: &mut Vec<Word>, at: i64, new: &[Word]) -> Result<(), Fault>
+    ensures gives { GivesFault (λ _. view_words words.new.items) result (put_all (view_words words.old.items) at (view_words new.now)) }
+    ensures kept { OnErr result (words.new ≡ words.old) }
+{
+    let from = word_number(at)?;
+    if let Err(fault) = take_all(words, from, new) {
+        return Err(fault);
+    }
+    replace_all(words, from, new);
+    Ok(())
 }
