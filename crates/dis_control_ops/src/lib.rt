@@ -17,6 +17,7 @@ mod memory;
 mod outcome;
 mod process;
 mod replies;
+mod spots;
 mod steps;
 mod store;
 mod word;
