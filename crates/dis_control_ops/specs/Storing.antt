@@ -2,9 +2,9 @@
 use Rattle.std.specs.Prelude.{◌≡◌, ℕ, suc, ℤ, Bool, true, List, [], ◌∷◌, slice_get, if◌then◌else◌}
 use Rattle.dis_meaning.specs.Words.{Word, Access, Found, Wrong, ◌>>=◌, type_check, or_wrong, fits, word_number}
 use Rattle.dis_meaning.specs.World.{Content, World}
-use Rattle.dis_meaning.specs.Process.{Process, with_frames}
+use Rattle.dis_meaning.specs.Process.{Process, Does, with_frames, at_pc}
 use Rattle.dis_meaning.specs.Places.{Spot, Memory, words_in, all_frames, data_of, data_at, words_at, with_words_at, with_frame_words, renewed, with_data, place_in}
-use Rattle.dis_meaning.specs.Step.{all_replaced}
+use Rattle.dis_meaning.specs.Step.{all_replaced, next}
 use Rattle.dis_control_ops.specs.declared.frames.Slot.{Slot}
 use Rattle.dis_control_ops.specs.declared.frames.Slot.TheVariants as slot
 use Rattle.dis_control_ops.specs.declared.process.Proc.{Proc}
@@ -30,13 +30,27 @@ block_written x n at vs = data_at x n >>= (λ words. put_all words at vs) >>= wi
 abbrev pub frame_written : Process → (serial : ℕ) → (at : ℤ) → List Word → Access Process
 frame_written p s at vs = words_in s (all_frames p) >>= (λ words. put_all words at vs) >>= λ words. Found (with_frame_words p s words)
 
--- Memory with these words in that place, from its byte on.
-abbrev pub written : World → Process → Spot → List Word → Access Memory
-written x p s vs = words_at x p s >>= λ words. put_all words (place_in s) vs >>= with_words_at x p s
-
 -- A process that doesn't wait for a reply.
 abbrev pub settled : Process → Process
 settled p = with_frames p p.frame p.below p.made
+
+abbrev pub memory : World → Process → Memory
+memory x p = record { world = x; process = p }
+
+abbrev pub resting : Memory → Memory
+resting m = memory m.world (settled m.process)
+
+-- Memory with these words in that place, from its byte on, where the process doesn't wait for a reply.
+abbrev pub written : World → Process → Spot → List Word → Access Memory
+written x p s vs = words_at x p s >>= (λ words. put_all words (place_in s) vs) >>= with_words_at x p s >>= λ m. Found (resting m)
+
+-- The process at its next instruction.
+abbrev pub moved_on : Process → Process
+moved_on p = with_frames p (at_pc p.frame (suc p.frame.pc)) p.below p.made
+
+-- The next instruction follows.
+abbrev pub goes_on : Access Memory → Access Does
+goes_on a = a >>= λ m. Found (next m)
 
 -- The frame of this serial stands there, or there is none.
 abbrev pub Stands : Slot → (serial : ℕ) → Proc → Type 0

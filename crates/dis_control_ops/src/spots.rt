@@ -167,6 +167,15 @@ fn number_at(store: &Store, proc: &Proc, source: Operand) -> Result<i32, Halt>
     Ok(number_in(word)?)
 }
 
+// The plain word that an operand names.
+fn plain_at(store: &Store, proc: &Proc, source: Operand) -> Result<Word, Halt>
+    ensures { Gives view_word result (words.◌>>=◌ (words.◌>>=◌ (meaning.spot (view_world store.now) (view_process proc.now) source)
+        (meaning.read (view_world store.now) (view_process proc.now))) words.plain) }
+{
+    let word = source_word(store, proc, source)?;
+    Ok(plain(word)?)
+}
+
 /// The number of a source.
 pub(crate) fn source_number(store: &Store, proc: &Proc, source: Operand) -> Result<i32, Halt>
     ensures { Gives (λ n. n) result (meaning.source_number (view_world store.now) (view_process proc.now) source) }
@@ -178,5 +187,42 @@ pub(crate) fn source_number(store: &Store, proc: &Proc, source: Operand) -> Resu
         Operand::Mp(_) => number_at(store, proc, source),
         Operand::IndFp { .. } => number_at(store, proc, source),
         Operand::IndMp { .. } => number_at(store, proc, source),
+    }
+}
+
+/// The word of a source that is plain; an immediate is the number itself.
+pub(crate) fn source_plain(store: &Store, proc: &Proc, source: Operand) -> Result<Word, Halt>
+    ensures { Gives view_word result (meaning.source_plain (view_world store.now) (view_process proc.now) source) }
+{
+    match source {
+        Operand::Imm(n) => Ok(Word::Plain(n)),
+        Operand::None => plain_at(store, proc, source),
+        Operand::Fp(_) => plain_at(store, proc, source),
+        Operand::Mp(_) => plain_at(store, proc, source),
+        Operand::IndFp { .. } => plain_at(store, proc, source),
+        Operand::IndMp { .. } => plain_at(store, proc, source),
+    }
+}
+
+/// The number of a middle; where there is none, the destination's.
+pub(crate) fn middle_number(
+    store: &Store,
+    proc: &Proc,
+    middle: Middle,
+    destination: Operand,
+) -> Result<i32, Halt>
+    ensures { Gives (λ n. n) result (meaning.middle_number (view_world store.now) (view_process proc.now) middle destination) }
+{
+    match middle {
+        Middle::Imm(n) => Ok(n),
+        Middle::Fp(at) => {
+            let word = read(store, proc, Spot::Own(i64::from(at)))?;
+            Ok(number_in(word)?)
+        }
+        Middle::Mp(at) => {
+            let word = read(store, proc, Spot::Data(i64::from(at)))?;
+            Ok(number_in(word)?)
+        }
+        Middle::None => source_number(store, proc, destination),
     }
 }
