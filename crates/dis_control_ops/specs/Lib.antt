@@ -3,4 +3,8 @@ pub mod Frames
 pub mod View
 pub mod Spots
 pub mod Storing
+pub mod Made
+pub mod Plans
+pub mod Loading
 pub mod Outcomes
+pub mod Formatting

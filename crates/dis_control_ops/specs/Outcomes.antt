@@ -1,15 +1,29 @@
 -- What an instruction and a reply come to, as the definitions have it.
-use Rattle.std.specs.Prelude.{◌≡◌, [], Bool, true, false}
+use Rattle.std.specs.Prelude.{◌≡◌, ℕ, List, [], Bool, true, false, Result, Ok, Err, slice_get}
+use Rattle.dis_file.specs.declared.object.Object.{Object}
+use Rattle.dis_meaning.specs.Words.{Access, ◌>>=◌, type_check, or_wrong}
+use Rattle.dis_meaning.specs.Step.{object_of, work}
 use Rattle.process_model.specs.Process.{Went, Parks, Asks, Ends}
 use Rattle.limbo_meaning.specs.Process.{Ended, Broken, Faulted}
-use Rattle.dis_meaning.specs.World.{World}
+use Rattle.dis_meaning.specs.World.{World, block}
 use Rattle.dis_meaning.specs.Process.{Process, Does}
 use Rattle.sys_print.specs.Printing.{view_request}
+use Rattle.dis_control_ops.specs.declared.word.Halt.{Halt}
+use Rattle.dis_control_ops.specs.declared.word.Halt.TheVariants as halt
+use Rattle.dis_control_ops.specs.declared.outcome.Does as code_does
+use Rattle.dis_control_ops.specs.declared.outcome.Does.TheVariants as does
 use Rattle.dis_control_ops.specs.declared.outcome.Stepped.{Stepped}
 use Rattle.dis_control_ops.specs.declared.outcome.Stepped.TheVariants as stepped
 use Rattle.dis_control_ops.specs.declared.outcome.Heard.{Heard}
 use Rattle.dis_control_ops.specs.declared.outcome.Heard.TheVariants as heard
 use Rattle.dis_control_ops.specs.Words.{number_of}
+
+-- What an instruction does that left this world and this process.
+abbrev pub effect_of : code_does.Does → World → Process → Does
+effect_of does.Went y q = Went y q
+effect_of (does.Asked m) y q = Asks y (view_request m) q
+effect_of does.Ended y q = Ends y Ended
+effect_of (does.Broken text) y q = Ends y (Broken text)
 
 -- The instruction of this process does what it came to, and left this world and this process. Of want of memory nothing is said.
 abbrev pub Steps : Stepped → (before : Process) → World → Process → Does → Type 0
@@ -47,3 +61,39 @@ stays_after_reply heard.NoMemory = true
 abbrev pub Stays : Bool → World → Process → World → Process → Type 0
 Stays true x p y q = (y ≡ x) × (q ≡ p)
 Stays false x p y q = Unit {0}
+
+-- The same inside.
+abbrev pub ends : code_does.Does → Bool
+ends does.Went = false
+ends (does.Asked m) = false
+ends does.Ended = true
+ends (does.Broken text) = true
+
+abbrev pub Kept : Result code_does.Does Halt → World → Process → World → Process → Type 0
+Kept (Ok d) x p y q = Stays (ends d) x p y q
+Kept (Err h) x p y q = Stays true x p y q
+
+abbrev pub went_of : Result (Unit {0}) Halt → Result code_does.Does Halt
+went_of (Ok u) = Ok does.Went
+went_of (Err h) = Err h
+
+abbrev pub does_told : code_does.Does → Stepped
+does_told does.Went = stepped.Went
+does_told (does.Asked m) = stepped.Asked m
+does_told does.Ended = stepped.Ended
+does_told (does.Broken text) = stepped.Broken text
+
+abbrev pub halt_told : Halt → Stepped
+halt_told halt.NoMemory = stepped.NoMemory
+halt_told (halt.Fault f) = stepped.Fault f
+
+abbrev pub stepped_of : Result code_does.Does Halt → Stepped
+stepped_of (Ok d) = does_told d
+stepped_of (Err h) = halt_told h
+
+-- The object whose code a process runs, and what its instruction there does.
+abbrev pub running : List Object → World → Process → Access Object
+running objects x p = block x p.frame.instance >>= object_of >>= λ n. or_wrong type_check (slice_get objects n)
+
+abbrev pub worked : (limit : ℕ) → List Object → World → Process → Access Does
+worked limit objects x p = running objects x p >>= λ o. work limit o x p

@@ -1,10 +1,12 @@
 -- Words that are stored.
-use Rattle.std.specs.Prelude.{◌≡◌, ℕ, suc, ℤ, Bool, true, List, [], ◌∷◌, slice_get, if◌then◌else◌}
-use Rattle.dis_meaning.specs.Words.{Word, Access, Found, Wrong, ◌>>=◌, type_check, or_wrong, fits, word_number}
+use Rattle.std.specs.Prelude.{◌≡◌, ℕ, suc, ℤ, pos, Vec, vec_len, vec_capacity, Bool, true, List, [], ◌∷◌, slice_get, if◌then◌else◌}
+use Rattle.std.specs.Global.{Global}
+use Rattle.dis_meaning.specs.Words.{InFrame, Word, Address, Access, Found, Wrong, ◌>>=◌, type_check, or_wrong, fits, word_number}
 use Rattle.dis_meaning.specs.World.{Content, World}
 use Rattle.dis_meaning.specs.Process.{Process, Does, with_frames, at_pc}
-use Rattle.dis_meaning.specs.Places.{Spot, Memory, words_in, all_frames, data_of, data_at, words_at, with_words_at, with_frame_words, renewed, with_data, place_in}
-use Rattle.dis_meaning.specs.Step.{all_replaced, next}
+use Rattle.dis_meaning.specs.Places.{Spot, Memory, words_in, all_frames, data_of, data_at, words_at, with_words_at, with_frame_words, renewed, with_data, place_in, store}
+use Rattle.dis_meaning.specs.Step.{all_replaced, next, framed}
+use Rattle.dis_control_ops.specs.declared.frame.Frame.{Frame}
 use Rattle.dis_control_ops.specs.declared.frames.Slot.{Slot}
 use Rattle.dis_control_ops.specs.declared.frames.Slot.TheVariants as slot
 use Rattle.dis_control_ops.specs.declared.process.Proc.{Proc}
@@ -51,6 +53,22 @@ moved_on p = with_frames p (at_pc p.frame (suc p.frame.pc)) p.below p.made
 -- The next instruction follows.
 abbrev pub goes_on : Access Memory → Access Does
 goes_on a = a >>= λ m. Found (next m)
+
+-- Words that a row of others gave are stored, and the next instruction follows.
+abbrev pub row_stored : World → Process → Spot → List Word → Access Does
+row_stored x p s vs =
+    words_at x p s >>= λ into.
+    word_number (place_in s) >>= λ j.
+    all_replaced into j vs >>= with_words_at x p s >>= λ m.
+    Found (next m)
+
+-- The address of a new frame is stored, the frame of these words is made, and the next instruction follows.
+abbrev pub frame_stored : World → Process → Spot → List Word → Access Does
+frame_stored x p s words = store x p s (Address (InFrame p.frames) (pos 0)) >>= λ m. Found (next (framed m words))
+
+-- As many fit in without more memory as before.
+abbrev pub SameRoom : Vec Frame Global → Vec Frame Global → Type 0
+SameRoom old new = (vec_len new ≡ vec_len old) × (vec_capacity new ≡ vec_capacity old)
 
 -- The frame of this serial stands there, or there is none.
 abbrev pub Stands : Slot → (serial : ℕ) → Proc → Type 0

@@ -5,7 +5,7 @@ ghost use Rattle.dis_meaning.specs.Places as meaning;
 ghost use Rattle.dis_control_ops.specs.Words.{view_words, GivesFault};
 ghost use Rattle.dis_control_ops.specs.Frames.{view_frames, count, IsAt};
 ghost use Rattle.dis_control_ops.specs.View.{view_process};
-ghost use Rattle.dis_control_ops.specs.Storing.{Stands, settled, frame_written};
+ghost use Rattle.dis_control_ops.specs.Storing.{Stands, settled, frame_written, SameRoom};
 
 use crate::frame::Frame;
 use crate::memory::put_all;
@@ -21,8 +21,8 @@ pub(crate) enum Slot {
     Gone,
 }
 
-// The place of the frame of this serial, looked for from the end.
-fn position(frames: &[Frame], serial: u64) -> Option<usize>
+/// The place of the frame of this serial, looked for from the end.
+pub(crate) fn position(frames: &[Frame], serial: u64) -> Option<usize>
     ensures found { IfSome result (IsAt serial (view_frames frames.now)) }
     ensures absent { IfNone result (count serial (view_frames frames.now) ≡ 0) }
 {
@@ -67,6 +67,8 @@ pub(crate) fn words_in(proc: &Proc, serial: u64) -> Result<&[Word], Fault>
 pub(crate) fn write_frame(proc: &mut Proc, serial: u64, at: i64, new: &[Word]) -> Result<(), Fault>
     ensures gives { GivesFault (λ _. settled (view_process proc.new)) result
         (frame_written (view_process proc.old) serial at (view_words new.now)) }
+    ensures same_place { proc.new.frame.pc ≡ proc.old.frame.pc }
+    ensures same_room { SameRoom proc.old.made proc.new.made }
     ensures kept { OnErr result (proc.new ≡ proc.old) }
 {
     match find(proc, serial) {

@@ -11,17 +11,24 @@
 
 mod begin;
 mod blocks;
+mod control;
 mod frame;
+mod formats;
 mod frames;
 mod memory;
+mod making;
 mod moves;
 mod outcome;
+mod printing;
 mod process;
 mod replies;
+mod rows;
 mod spots;
 mod storing;
 mod steps;
 mod store;
+mod sys;
+mod texts;
 mod word;
 
 pub use frame::{Frame, blank};

@@ -1,9 +1,10 @@
 //! Moves of words, and arithmetic.
 
-ghost use Rattle.std.specs.Prelude.{◌≡◌, ◌+◌, ◌<◌, ◌^◌, ◌+ℤ◌, ◌-ℤ◌, ◌*ℤ◌, OnErr};
+ghost use Rattle.std.specs.Prelude.{◌≡◌, ℕ, ◌+◌, ◌<◌, ◌^◌, ◌+ℤ◌, ◌-ℤ◌, ◌*ℤ◌, OnErr};
 ghost use Rattle.std.specs.Int.{int_wrap, w32};
 ghost use Rattle.process_model.specs.Process.{Went};
 ghost use Rattle.dis_isa.specs.declared.op.Op.TheVariants as op;
+ghost use Rattle.dis_file.specs.declared.object.Object.{Object};
 ghost use Rattle.dis_meaning.specs.Step as meaning;
 ghost use Rattle.dis_control_ops.specs.Words.{Gives};
 ghost use Rattle.dis_control_ops.specs.View.{view_process, view_world};
@@ -13,14 +14,13 @@ use crate::spots::{address, middle_number, read, reference, source_number, sourc
 use crate::store::Store;
 use crate::storing::finish;
 use crate::word::{Halt, Word};
-use dis_file::Object;
 use dis_isa::Inst;
 
 /// `movw`: a plain word.
-pub(crate) fn move_word(object: &Object, store: &mut Store, proc: &mut Proc, inst: Inst) -> Result<(), Halt>
+pub(crate) fn move_word(store: &mut Store, proc: &mut Proc, inst: Inst) -> Result<(), Halt>
     requires { proc.old.frame.pc + 1 < 2 ^ 64 }
-    ensures gives { Gives (λ _. Went (view_world store.new) (view_process proc.new)) result
-        (meaning.obey 0 object.now (view_world store.old) (view_process proc.old) inst op.Movw) }
+    ensures gives { (limit : ℕ) (o : Object) → Gives (λ _. Went (view_world store.new) (view_process proc.new)) result
+        (meaning.obey limit o (view_world store.old) (view_process proc.old) inst op.Movw) }
     ensures kept { OnErr result ((view_world store.new ≡ view_world store.old) × (view_process proc.new ≡ view_process proc.old)) }
 {
     let word = source_plain(store, proc, inst.src)?;
@@ -29,10 +29,10 @@ pub(crate) fn move_word(object: &Object, store: &mut Store, proc: &mut Proc, ins
 }
 
 /// `movp`: a reference.
-pub(crate) fn move_reference(object: &Object, store: &mut Store, proc: &mut Proc, inst: Inst) -> Result<(), Halt>
+pub(crate) fn move_reference(store: &mut Store, proc: &mut Proc, inst: Inst) -> Result<(), Halt>
     requires { proc.old.frame.pc + 1 < 2 ^ 64 }
-    ensures gives { Gives (λ _. Went (view_world store.new) (view_process proc.new)) result
-        (meaning.obey 0 object.now (view_world store.old) (view_process proc.old) inst op.Movp) }
+    ensures gives { (limit : ℕ) (o : Object) → Gives (λ _. Went (view_world store.new) (view_process proc.new)) result
+        (meaning.obey limit o (view_world store.old) (view_process proc.old) inst op.Movp) }
     ensures kept { OnErr result ((view_world store.new ≡ view_world store.old) × (view_process proc.new ≡ view_process proc.old)) }
 {
     let word = source_word(store, proc, inst.src)?;
@@ -42,10 +42,10 @@ pub(crate) fn move_reference(object: &Object, store: &mut Store, proc: &mut Proc
 }
 
 /// `lea`: the address of a source.
-pub(crate) fn load_address(object: &Object, store: &mut Store, proc: &mut Proc, inst: Inst) -> Result<(), Halt>
+pub(crate) fn load_address(store: &mut Store, proc: &mut Proc, inst: Inst) -> Result<(), Halt>
     requires { proc.old.frame.pc + 1 < 2 ^ 64 }
-    ensures gives { Gives (λ _. Went (view_world store.new) (view_process proc.new)) result
-        (meaning.obey 0 object.now (view_world store.old) (view_process proc.old) inst op.Lea) }
+    ensures gives { (limit : ℕ) (o : Object) → Gives (λ _. Went (view_world store.new) (view_process proc.new)) result
+        (meaning.obey limit o (view_world store.old) (view_process proc.old) inst op.Lea) }
     ensures kept { OnErr result ((view_world store.new ≡ view_world store.old) × (view_process proc.new ≡ view_process proc.old)) }
 {
     let from = spot_of(store, proc, inst.src)?;
@@ -55,3 +55,60 @@ pub(crate) fn load_address(object: &Object, store: &mut Store, proc: &mut Proc, 
     Ok(finish(store, proc, to, word)?)
 }
 
+
+fn sum(x: i32, y: i32) -> i32
+    ensures { result ≡ int_wrap w32 (x +ℤ y) }
+{
+    x.wrapping_add(y)
+}
+
+fn difference(x: i32, y: i32) -> i32
+    ensures { result ≡ int_wrap w32 (x -ℤ y) }
+{
+    x.wrapping_sub(y)
+}
+
+fn product(x: i32, y: i32) -> i32
+    ensures { result ≡ int_wrap w32 (x *ℤ y) }
+{
+    x.wrapping_mul(y)
+}
+
+/// `addw`: the source is added to the middle.
+pub(crate) fn add(store: &mut Store, proc: &mut Proc, inst: Inst) -> Result<(), Halt>
+    requires { proc.old.frame.pc + 1 < 2 ^ 64 }
+    ensures gives { (limit : ℕ) (o : Object) → Gives (λ _. Went (view_world store.new) (view_process proc.new)) result
+        (meaning.obey limit o (view_world store.old) (view_process proc.old) inst op.Addw) }
+    ensures kept { OnErr result ((view_world store.new ≡ view_world store.old) × (view_process proc.new ≡ view_process proc.old)) }
+{
+    let right = source_number(store, proc, inst.src)?;
+    let left = middle_number(store, proc, inst.middle, inst.dst)?;
+    let to = spot_of(store, proc, inst.dst)?;
+    Ok(finish(store, proc, to, Word::Plain(sum(left, right)))?)
+}
+
+/// `subw`: the source is subtracted from the middle.
+pub(crate) fn subtract(store: &mut Store, proc: &mut Proc, inst: Inst) -> Result<(), Halt>
+    requires { proc.old.frame.pc + 1 < 2 ^ 64 }
+    ensures gives { (limit : ℕ) (o : Object) → Gives (λ _. Went (view_world store.new) (view_process proc.new)) result
+        (meaning.obey limit o (view_world store.old) (view_process proc.old) inst op.Subw) }
+    ensures kept { OnErr result ((view_world store.new ≡ view_world store.old) × (view_process proc.new ≡ view_process proc.old)) }
+{
+    let right = source_number(store, proc, inst.src)?;
+    let left = middle_number(store, proc, inst.middle, inst.dst)?;
+    let to = spot_of(store, proc, inst.dst)?;
+    Ok(finish(store, proc, to, Word::Plain(difference(left, right)))?)
+}
+
+/// `mulw`: the middle by the source.
+pub(crate) fn multiply(store: &mut Store, proc: &mut Proc, inst: Inst) -> Result<(), Halt>
+    requires { proc.old.frame.pc + 1 < 2 ^ 64 }
+    ensures gives { (limit : ℕ) (o : Object) → Gives (λ _. Went (view_world store.new) (view_process proc.new)) result
+        (meaning.obey limit o (view_world store.old) (view_process proc.old) inst op.Mulw) }
+    ensures kept { OnErr result ((view_world store.new ≡ view_world store.old) × (view_process proc.new ≡ view_process proc.old)) }
+{
+    let right = source_number(store, proc, inst.src)?;
+    let left = middle_number(store, proc, inst.middle, inst.dst)?;
+    let to = spot_of(store, proc, inst.dst)?;
+    Ok(finish(store, proc, to, Word::Plain(product(left, right)))?)
+}

@@ -2,6 +2,15 @@ use crate::word::Fault;
 use inf_text::Text;
 use sys_print::Request;
 
+/// What an instruction came to that is no fault.
+#[derive(Drop)]
+pub(crate) enum Does {
+    Went,
+    Asked(Request),
+    Ended,
+    Broken(Text),
+}
+
 /// What an instruction came to.
 #[derive(Drop)]
 pub enum Stepped {

@@ -1,15 +1,165 @@
-ghost use Rattle.dis_meaning.specs.Step as meaning;
-ghost use Rattle.dis_control_ops.specs.View.{view_world, view_process, codes_of};
-ghost use Rattle.dis_control_ops.specs.Outcomes.{Steps, stays_after, Stays};
+//! One instruction of a process.
 
-use crate::outcome::Stepped;
+ghost use Rattle.std.specs.Prelude.{◌≡◌, ◌+◌, ◌<◌, ◌^◌, slice_get, OnOk};
+ghost use Rattle.dis_meaning.specs.Words as words;
+ghost use Rattle.dis_meaning.specs.Step as meaning;
+ghost use Rattle.dis_control_ops.specs.Words.{Gives, GivesFault};
+ghost use Rattle.dis_control_ops.specs.View.{view_content, view_world, view_process, codes_of};
+ghost use Rattle.dis_control_ops.specs.Outcomes.{effect_of, went_of, does_told, halt_told, stepped_of, running, worked, Kept, Steps, stays_after, Stays};
+
+use crate::blocks::block;
+use crate::control::{branch_equal, branch_less, call, give_back, jump};
+use crate::making::make_frame;
+use crate::moves::{add, load_address, move_reference, move_word, multiply, subtract};
+use crate::outcome::{Does, Stepped};
 use crate::process::Proc;
-use crate::store::Store;
+use crate::rows::move_words;
+use crate::store::{Content, Store};
+use crate::sys::{call_module, load};
+use crate::word::{Fault, Halt};
 use dis_file::Object;
+use dis_isa::{Inst, Op};
 use inf_text::Text;
 use std::alloc::Global;
 
-/// One instruction of a process, where at most `limit` frames may be called.
+fn object_of(content: &Content) -> Result<usize, Fault>
+    ensures { GivesFault (λ n. n) result (meaning.object_of (view_content content.now)) }
+{
+    match content {
+        Content::Instance { object, .. } => Ok(*object),
+        Content::Text(_) => Err(Fault::TypeCheck),
+        Content::Sys(_) => Err(Fault::TypeCheck),
+    }
+}
+
+// The object of this number.
+fn object_at(objects: &[(Text, Object)], number: usize) -> Result<&Object, Fault>
+    ensures { GivesFault (λ o. o.now) result (words.or_wrong words.type_check (slice_get (codes_of objects.now) number)) }
+{
+    match objects.get(number) {
+        Some(object) => Ok(&object.1),
+        None => Err(Fault::TypeCheck),
+    }
+}
+
+// The object whose code a process runs.
+fn code_of<'a>(
+    objects: &'a [(Text, Object)],
+    store: &Store,
+    proc: &Proc,
+) -> Result<&'a Object, Fault>
+    ensures { GivesFault (λ o. o.now) result
+        (running (codes_of objects.now) (view_world store.now) (view_process proc.now)) }
+{
+    let content = block(store, proc.frame.instance)?;
+    let number = object_of(content)?;
+    object_at(objects, number)
+}
+
+// An instruction that goes on, or not.
+fn went(outcome: Result<(), Halt>) -> Result<Does, Halt>
+    ensures { result ≡ went_of outcome }
+{
+    match outcome {
+        Ok(()) => Ok(Does::Went),
+        Err(halt) => Err(halt),
+    }
+}
+
+// The instruction at a place of the code.
+fn inst_at(object: &Object, pc: usize) -> Result<Inst, Fault>
+    ensures inst { GivesFault (λ i. i) result (words.or_wrong words.bad_jump (slice_get object.now.insts pc)) }
+    ensures within { OnOk result (pc + 1 < 2 ^ 64) }
+{
+    match object.insts.as_slice().get(pc) {
+        Some(inst) => Ok(*inst),
+        None => Err(Fault::BadJump),
+    }
+}
+
+// Runs this instruction.
+fn obey(
+    alloc: Global,
+    limit: usize,
+    object: &Object,
+    store: &mut Store,
+    proc: &mut Proc,
+    inst: Inst,
+) -> Result<Does, Halt>
+    requires { proc.old.frame.pc + 1 < 2 ^ 64 }
+    ensures gives { Gives (λ d. effect_of d (view_world store.new) (view_process proc.new)) result
+        (meaning.obey limit object.now (view_world store.old) (view_process proc.old) inst inst.op) }
+    ensures kept { Kept result (view_world store.old) (view_process proc.old) (view_world store.new) (view_process proc.new) }
+{
+    match inst.op {
+        Op::Movw => went(move_word(store, proc, inst)),
+        Op::Movp => went(move_reference(store, proc, inst)),
+        Op::Movm => went(move_words(alloc, store, proc, inst)),
+        Op::Lea => went(load_address(store, proc, inst)),
+        Op::Addw => went(add(store, proc, inst)),
+        Op::Subw => went(subtract(store, proc, inst)),
+        Op::Mulw => went(multiply(store, proc, inst)),
+        Op::Beqw => went(branch_equal(object, store, proc, inst)),
+        Op::Bltw => went(branch_less(object, store, proc, inst)),
+        Op::Jmp => went(jump(object, proc, inst)),
+        Op::Frame => went(make_frame(alloc, object, store, proc, inst)),
+        Op::Call => call(alloc, limit, object, store, proc, inst),
+        Op::Ret => Ok(give_back(proc)),
+        Op::Load => went(load(alloc, object, store, proc, inst)),
+        Op::Mcall => call_module(alloc, store, proc, inst),
+        // No other operation is in this part.
+        _ => Err(Halt::Fault(Fault::TypeCheck)),
+    }
+}
+
+// Runs the instruction at the process's place.
+fn run(
+    alloc: Global,
+    limit: usize,
+    objects: &[(Text, Object)],
+    store: &mut Store,
+    proc: &mut Proc,
+) -> Result<Does, Halt>
+    ensures gives { Gives (λ d. effect_of d (view_world store.new) (view_process proc.new)) result
+        (worked limit (codes_of objects.now) (view_world store.old) (view_process proc.old)) }
+    ensures kept { Kept result (view_world store.old) (view_process proc.old) (view_world store.new) (view_process proc.new) }
+{
+    let object = code_of(objects, store, proc)?;
+    let inst = inst_at(object, proc.frame.pc)?;
+    obey(alloc, limit, object, store, proc, inst)
+}
+
+fn told_does(does: Does) -> Stepped
+    ensures { result ≡ does_told does }
+{
+    match does {
+        Does::Went => Stepped::Went,
+        Does::Asked(request) => Stepped::Asked(request),
+        Does::Ended => Stepped::Ended,
+        Does::Broken(text) => Stepped::Broken(text),
+    }
+}
+
+fn told_halt(halt: Halt) -> Stepped
+    ensures { result ≡ halt_told halt }
+{
+    match halt {
+        Halt::NoMemory => Stepped::NoMemory,
+        Halt::Fault(fault) => Stepped::Fault(fault),
+    }
+}
+
+// What it came to, as it is told.
+fn told(outcome: Result<Does, Halt>) -> Stepped
+    ensures { result ≡ stepped_of outcome }
+{
+    match outcome {
+        Ok(does) => told_does(does),
+        Err(halt) => told_halt(halt),
+    }
+}
+
+/// One instruction of a process, where at most `limit` frames may be called. Where it neither goes on nor asks, nothing is changed.
 pub fn step(
     alloc: Global,
     limit: usize,
@@ -22,5 +172,5 @@ pub fn step(
     ensures kept { Stays (stays_after result) (view_world store.old) (view_process proc.old)
         (view_world store.new) (view_process proc.new) }
 {
-    Stepped::NoMemory
+    told(run(alloc, limit, objects, store, proc))
 }

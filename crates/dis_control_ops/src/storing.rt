@@ -6,7 +6,7 @@ ghost use Rattle.dis_meaning.specs.Places as places;
 ghost use Rattle.dis_control_ops.specs.Words.{view_word, view_words, GivesFault};
 ghost use Rattle.dis_control_ops.specs.View.{view_process, view_world};
 ghost use Rattle.dis_control_ops.specs.Spots.{view_spot};
-ghost use Rattle.dis_control_ops.specs.Storing.{memory, resting, written, moved_on, goes_on};
+ghost use Rattle.dis_control_ops.specs.Storing.{memory, resting, written, moved_on, goes_on, row_stored, SameRoom};
 
 use crate::blocks::write_block;
 use crate::frames::write_frame;
@@ -21,6 +21,7 @@ pub(crate) fn write(store: &mut Store, proc: &mut Proc, spot: Spot, new: &[Word]
     ensures gives { GivesFault (λ _. resting (memory (view_world store.new) (view_process proc.new))) result
         (written (view_world store.old) (view_process proc.old) (view_spot spot) (view_words new.now)) }
     ensures same_place { proc.new.frame.pc ≡ proc.old.frame.pc }
+    ensures same_room { SameRoom proc.old.made proc.new.made }
     ensures kept { OnErr result ((view_world store.new ≡ view_world store.old) × (proc.new ≡ proc.old)) }
 {
     match spot {
@@ -60,4 +61,14 @@ pub(crate) fn finish(store: &mut Store, proc: &mut Proc, spot: Spot, new: Word) 
     ensures kept { OnErr result ((view_world store.new ≡ view_world store.old) × (proc.new ≡ proc.old)) }
 {
     finish_all(store, proc, spot, &[new])
+}
+
+/// Stores words that a row of others gave, and the process goes on with the next instruction.
+pub(crate) fn finish_row(store: &mut Store, proc: &mut Proc, spot: Spot, row: &[Word]) -> Result<(), Fault>
+    requires { proc.old.frame.pc + 1 < 2 ^ 64 }
+    ensures gives { GivesFault (λ _. Went (view_world store.new) (view_process proc.new)) result
+        (row_stored (view_world store.old) (view_process proc.old) (view_spot spot) (view_words row.now)) }
+    ensures kept { OnErr result ((view_world store.new ≡ view_world store.old) × (proc.new ≡ proc.old)) }
+{
+    finish_all(store, proc, spot, row)
 }

@@ -1,0 +1,61 @@
+-- What an instruction came to, as it is told.
+use Rattle.std.proofs.Common.{◌≡◌, ℕ, Result, Ok, Err, OnErr, sym, ap, ◌∙◌, subst}
+use Rattle.process_model.specs.Process.{Went, Ends}
+use Rattle.limbo_meaning.specs.Process.{Faulted}
+use Rattle.dis_isa.specs.declared.inst.Inst.{Inst}
+use Rattle.dis_isa.specs.declared.op.Op.{Op}
+use Rattle.dis_isa.specs.declared.op.Op.TheVariants as op
+use Rattle.dis_file.specs.declared.object.Object.{Object}
+use Rattle.dis_meaning.specs.Words.{Access, Wrong, type_check}
+use Rattle.dis_meaning.specs.World.{World}
+use Rattle.dis_meaning.specs.Process.{Process, Does, or_fault}
+use Rattle.dis_meaning.specs.Step.{obey}
+use Rattle.dis_control_ops.specs.declared.word.Halt.{Halt}
+use Rattle.dis_control_ops.specs.declared.word.Halt.TheVariants as halt
+use Rattle.dis_control_ops.specs.declared.outcome.Does as code_does
+use Rattle.dis_control_ops.specs.declared.outcome.Does.TheVariants as does
+use Rattle.dis_control_ops.specs.declared.outcome.Stepped.{Stepped}
+use Rattle.dis_control_ops.specs.Words.{Gives, number_of}
+use Rattle.dis_control_ops.specs.Outcomes.{effect_of, went_of, stepped_of, Steps, Stays, stays_after, Kept}
+
+pub steps_told : (r : Result code_does.Does Halt) (x : World) (p : Process) (y : World) (q : Process) (a : Access Does) →
+    Gives (λ d. effect_of d y q) r a → Kept r x p y q → Steps (stepped_of r) p y q (or_fault x p a)
+steps_told (Ok does.Went) x p y q a h k = ap (or_fault x p) h
+steps_told (Ok (does.Asked m)) x p y q a h k = ap (or_fault x p) h
+steps_told (Ok does.Ended) x p y q a h k = ap (or_fault x p) h
+steps_told (Ok (does.Broken text)) x p y q a h k = ap (or_fault x p) h
+steps_told (Err (halt.Fault f)) x p y q a h k = ap (or_fault x p) h ∙ ap (λ w. Ends w (Faulted (number_of f) p.frame.pc)) (sym k.0)
+steps_told (Err halt.NoMemory) x p y q a h k = tt
+
+pub stays_told : (r : Result code_does.Does Halt) (x : World) (p : Process) (y : World) (q : Process) → Kept r x p y q → Stays (stays_after (stepped_of r)) x p y q
+stays_told (Ok does.Went) x p y q k = k
+stays_told (Ok (does.Asked m)) x p y q k = k
+stays_told (Ok does.Ended) x p y q k = k
+stays_told (Ok (does.Broken text)) x p y q k = k
+stays_told (Err (halt.Fault f)) x p y q k = k
+stays_told (Err halt.NoMemory) x p y q k = k
+
+pub gives_went : (r : Result (Unit {0}) Halt) (s : Result code_does.Does Halt) (y : World) (q : Process) (a : Access Does) → s ≡ went_of r →
+    Gives (λ _. Went y q) r a → Gives (λ d. effect_of d y q) s a
+gives_went r s y q a e h = subst (λ s. Gives (λ d. effect_of d y q) s a) (sym e) (go r h)
+  where
+    go : (r : Result (Unit {0}) Halt) → Gives (λ _. Went y q) r a → Gives (λ d. effect_of d y q) (went_of r) a
+    go (Ok u) h = h
+    go (Err f) h = h
+
+pub kept_went : (r : Result (Unit {0}) Halt) (s : Result code_does.Does Halt) (x : World) (p : Process) (y : World) (q : Process) → s ≡ went_of r →
+    OnErr r ((y ≡ x) × (q ≡ p)) → Kept s x p y q
+kept_went r s x p y q e h = subst (λ s. Kept s x p y q) (sym e) (go r h)
+  where
+    go : (r : Result (Unit {0}) Halt) → OnErr r ((y ≡ x) × (q ≡ p)) → Kept (went_of r) x p y q
+    go (Ok u) h = tt
+    go (Err f) h = h
+
+-- The operation is the instruction's.
+pub gives_at : {S : Type 0} (see : S → Does) (r : Result S Halt) (limit : ℕ) (o : Object) (x : World) (p : Process) (i : Inst) (k : Op) → i.op ≡ k →
+    Gives see r (obey limit o x p i k) → Gives see r (obey limit o x p i i.op)
+gives_at see r limit o x p i k e h = subst (λ k. Gives see r (obey limit o x p i k)) (sym e) h
+
+pub gives_op : (r : Result (Unit {0}) Halt) (s : Result code_does.Does Halt) (y : World) (q : Process) (limit : ℕ) (o : Object) (x : World) (p : Process) (i : Inst) (k : Op) → i.op ≡ k → s ≡ went_of r →
+    Gives (λ _. Went y q) r (obey limit o x p i k) → Gives (λ d. effect_of d y q) s (obey limit o x p i i.op)
+gives_op r s y q limit o x p i k e w h = gives_at (λ d. effect_of d y q) s limit o x p i k e (gives_went r s y q (obey limit o x p i k) w h)
