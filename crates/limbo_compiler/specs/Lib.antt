@@ -1,2 +1,3 @@
+pub mod Fine
 pub mod Limits
 pub mod Means

@@ -1,5 +1,5 @@
 -- How large a module may be.
-use Rattle.std.specs.Prelude.{◌<◌, List, length}
+use Rattle.std.specs.Prelude.{◌<◌, length}
 use Rattle.limbo_typed.specs.Typed.{Module}
 use Rattle.limbo_lower.specs.Code.{module_code}
 use Rattle.limbo_lower.specs.Sizes.{FrameTooLarge}

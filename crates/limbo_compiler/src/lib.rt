@@ -5,8 +5,8 @@
 //! was told, at the pace. The law `journals_mean` has it for each journal of a machine, the object's replay being machine_core's.
 #![tactic(auto)]
 
-mod compile;
 mod laws;
+mod passes;
 
-pub use compile::{CompileFault, compile};
 pub use laws::journals_mean;
+pub use passes::{CompileFault, compile};

@@ -2,6 +2,7 @@ ghost use Rattle.std.specs.Prelude.{◌≡◌, IfOk};
 ghost use Rattle.limbo_typed.specs.View.{view_module};
 ghost use Rattle.limbo_typed.specs.Proper.{IsProper};
 ghost use Rattle.limbo_lower.specs.Sizes.{FrameTooLarge};
+ghost use Rattle.dis_meaning.specs.Opening.{StringsSpell};
 ghost use Rattle.code_sim.specs.Keeps.{object_for};
 ghost use Rattle.limbo_compiler.specs.Limits.{CodeTooLarge, IsWithin};
 
@@ -29,6 +30,7 @@ pub enum CompileFault {
 pub fn compile(alloc: Global, module: &TypedModule) -> Result<Object, CompileFault>
     requires proper { IsProper (view_module «module».now) }
     ensures object { IfOk result (λ o. o ≡ object_for (view_module «module».now)) }
+    ensures spelled { IfOk result StringsSpell }
     ensures within { IfOk result (λ _. IsWithin (view_module «module».now)) }
     ensures frames { result ≡ Err CompileFault.FrameTooLarge → FrameTooLarge (view_module «module».now) }
     ensures code { result ≡ Err CompileFault.CodeTooLarge → CodeTooLarge (view_module «module».now) }

@@ -1,2 +1,0 @@
-//! Runs a machine.
-#![tactic(auto)]
