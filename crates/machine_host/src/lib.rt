@@ -1,0 +1,2 @@
+//! Runs a machine.
+#![tactic(auto)]
