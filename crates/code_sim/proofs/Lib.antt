@@ -1,2 +1,4 @@
 pub mod Together
 pub mod Small
+pub mod Beginning
+pub mod Behind

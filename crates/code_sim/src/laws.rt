@@ -5,8 +5,10 @@ ghost use Rattle.limbo_typed.specs.Proper.{IsProper};
 ghost use Rattle.core_code.specs.Proper as core;
 ghost use Rattle.limbo_lower.specs.Code.{module_code};
 ghost use Rattle.limbo_lower.specs.Sizes.{FrameTooLarge};
+ghost use Rattle.dis_meaning.specs.Opening.{StringsSpell};
 ghost use Rattle.dis_codegen.specs.Sites.{AllSmall};
-ghost use Rattle.code_sim.specs.Keeps.{Keeps, JournalsAreRuns, NeverFaults};
+ghost use Rattle.code_sim.specs.Keeps.{object_for, Keeps, JournalsAreRuns, NeverFaults};
+ghost use Rattle.code_sim.specs.Begins.{Begins};
 
 /// The object of a module that the checker would take keeps its meaning: both passes of the compiler together.
 pub fn object_keeps_meaning()
@@ -19,4 +21,9 @@ pub fn object_keeps_meaning()
 pub fn passes_fit()
     ensures proper { (m : Module) → IsProper m → core.IsProper (module_code m) }
     ensures small { (m : Module) → IsProper m → (FrameTooLarge m → ⊥) → AllSmall (module_code m).functions }
+{}
+
+/// A machine of a module's object can begin, and begins with just what the object's keeping of the module begins with.
+pub fn machine_begins()
+    ensures { (m : Module) → IsProper m → (FrameTooLarge m → ⊥) → StringsSpell (object_for m) → Begins m }
 {}

@@ -25,3 +25,4 @@ pub mod Follows
 pub mod Whole
 pub mod Kept
 pub mod Under
+pub mod Spelled

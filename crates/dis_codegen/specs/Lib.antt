@@ -6,3 +6,4 @@ pub mod Start
 pub mod Stands
 pub mod Paces
 pub mod Laws
+pub mod Spelled

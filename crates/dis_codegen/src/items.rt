@@ -5,6 +5,7 @@ ghost use Rattle.core_code.specs.View.{view_inst, view_function};
 ghost use Rattle.dis_codegen.specs.Code as dis;
 ghost use Rattle.dis_codegen.specs.Objects as objects;
 ghost use Rattle.dis_codegen.specs.Sites.{SmallDatum};
+ghost use Rattle.dis_codegen.specs.Spelled.{IsSpelled, AreSpelled};
 
 use crate::formats::format_text;
 use crate::links::to_text;
@@ -43,7 +44,8 @@ pub(crate) fn data_count(inst: &CoreInst) -> u32
 
 // A string of the module's data. One of 4 GiB or more counts as want of memory.
 fn make_string(alloc: Global, offset: u32, text: &Text) -> Result<Item, AllocError>
-    ensures { IfOk result (λ item. item ≡ objects.string_item offset text.now) }
+    ensures item { IfOk result (λ item. item ≡ objects.string_item offset text.now) }
+    ensures spelled { IfOk result IsSpelled }
 {
     let content = text.to_utf8(alloc)?;
     if content.len() > u32::MAX as usize {
@@ -60,7 +62,8 @@ fn make_string(alloc: Global, offset: u32, text: &Text) -> Result<Item, AllocErr
 // A word of the module's data, the high byte first.
 fn make_word(alloc: Global, offset: u32, number: i64) -> Result<Item, AllocError>
     requires { FitsSigned w32 number }
-    ensures { IfOk result (λ item. item ≡ objects.word_item offset number) }
+    ensures item { IfOk result (λ item. item ≡ objects.word_item offset number) }
+    ensures spelled { IfOk result IsSpelled }
 {
     let bytes = (number as i32).to_be_bytes();
     Ok(Item {
@@ -81,8 +84,10 @@ fn next_offset(items: &[Item]) -> u32
 
 // Adds a text.
 fn put_text(alloc: Global, items: &mut Vec<Item>, text: &Text) -> Result<(), AllocError>
-    requires { length items.old.items ≤ 1048577 }
-    ensures { OnOk result (items.new.items ≡ items.old.items ++ objects.string_item (4 + 4 * length items.old.items) text.now ∷ []) }
+    requires few { length items.old.items ≤ 1048577 }
+    requires spelled { AreSpelled items.old.items }
+    ensures items { OnOk result (items.new.items ≡ items.old.items ++ objects.string_item (4 + 4 * length items.old.items) text.now ∷ []) }
+    ensures spelled { OnOk result (AreSpelled items.new.items) }
 {
     let offset = next_offset(items);
     items.push(make_string(alloc, offset, text)?)?;
@@ -98,7 +103,9 @@ fn put_number(
 ) -> Result<(), AllocError>
     requires number { FitsSigned w32 number }
     requires few { length items.old.items ≤ 1048577 }
-    ensures { OnOk result (items.new.items ≡ items.old.items ++ objects.items_from (4 + 4 * length items.old.items) (dis.number_datum fits number)) }
+    requires spelled { AreSpelled items.old.items }
+    ensures items { OnOk result (items.new.items ≡ items.old.items ++ objects.items_from (4 + 4 * length items.old.items) (dis.number_datum fits number)) }
+    ensures spelled { OnOk result (AreSpelled items.new.items) }
 {
     if fits {
         return Ok(());
@@ -112,7 +119,9 @@ fn put_number(
 fn put_bytes(alloc: Global, items: &mut Vec<Item>, count: u32) -> Result<(), AllocError>
     requires count { count ≤ 16384 }
     requires few { length items.old.items ≤ 1048577 }
-    ensures { OnOk result (items.new.items ≡ items.old.items ++ objects.items_from (4 + 4 * length items.old.items) (dis.number_datum (dis.fits_middle (4 * count)) (pos (4 * count)))) }
+    requires spelled { AreSpelled items.old.items }
+    ensures items { OnOk result (items.new.items ≡ items.old.items ++ objects.items_from (4 + 4 * length items.old.items) (dis.number_datum (dis.fits_middle (4 * count)) (pos (4 * count)))) }
+    ensures spelled { OnOk result (AreSpelled items.new.items) }
 {
     let fits = fits_middle(bytes_of(count));
     put_number(alloc, items, fits, i64::from(4 * count))
@@ -122,7 +131,9 @@ fn put_bytes(alloc: Global, items: &mut Vec<Item>, count: u32) -> Result<(), All
 fn put_datum(alloc: Global, items: &mut Vec<Item>, inst: &CoreInst) -> Result<(), AllocError>
     requires datum { SmallDatum (view_inst inst.now) }
     requires few { length items.old.items ≤ 1048577 }
-    ensures { OnOk result (items.new.items ≡ items.old.items ++ objects.items_from (4 + 4 * length items.old.items) (dis.data_of (view_inst inst.now))) }
+    requires spelled { AreSpelled items.old.items }
+    ensures items { OnOk result (items.new.items ≡ items.old.items ++ objects.items_from (4 + 4 * length items.old.items) (dis.data_of (view_inst inst.now))) }
+    ensures spelled { OnOk result (AreSpelled items.new.items) }
 {
     match inst {
         CoreInst::Set { value, .. } => put_number(alloc, items, fits_source(*value), *value),
@@ -146,7 +157,9 @@ fn put_datum(alloc: Global, items: &mut Vec<Item>, inst: &CoreInst) -> Result<()
 fn put_data(alloc: Global, items: &mut Vec<Item>, insts: &[CoreInst]) -> Result<(), AllocError>
     requires data { (pc : ℕ) (i : Inst) → slice_get (map view_inst insts.now) pc ≡ Some i → SmallDatum i }
     requires few { length items.old.items + length (dis.all_data (map view_inst insts.now)) ≤ 1048577 }
-    ensures { OnOk result (items.new.items ≡ items.old.items ++ objects.items_from (4 + 4 * length items.old.items) (dis.all_data (map view_inst insts.now))) }
+    requires spelled { AreSpelled items.old.items }
+    ensures items { OnOk result (items.new.items ≡ items.old.items ++ objects.items_from (4 + 4 * length items.old.items) (dis.all_data (map view_inst insts.now))) }
+    ensures spelled { OnOk result (AreSpelled items.new.items) }
 {
     for inst in insts {
         put_datum(alloc, items, inst)?;
@@ -161,7 +174,8 @@ fn put_data(alloc: Global, items: &mut Vec<Item>, insts: &[CoreInst]) -> Result<
 pub(crate) fn items_of(alloc: Global, functions: &[CoreFn]) -> Result<Vec<Item>, AllocError>
     requires data { (n : ℕ) (f : Function) → slice_get (map view_function functions.now) n ≡ Some f → (pc : ℕ) (i : Inst) → slice_get f.code pc ≡ Some i → SmallDatum i }
     requires few { length (objects.module_data (map view_function functions.now)) ≤ 1048576 }
-    ensures { IfOk result (λ items. items.items ≡ objects.string_item 0 (codes "$Sys") ∷ objects.items_from 8 (objects.module_data (map view_function functions.now))) }
+    ensures items { IfOk result (λ items. items.items ≡ objects.string_item 0 (codes "$Sys") ∷ objects.items_from 8 (objects.module_data (map view_function functions.now))) }
+    ensures spelled { IfOk result (λ items. AreSpelled items.items) }
 {
     let mut items = Vec::new(alloc);
     let path = to_text(alloc, b"$Sys")?;

@@ -5,6 +5,7 @@ ghost use Rattle.core_code.specs.View.{view_function, view_module};
 ghost use Rattle.dis_codegen.specs.Objects as objects;
 ghost use Rattle.dis_codegen.specs.Objects.{object_of, all_code, code_instructions, most_instructions};
 ghost use Rattle.dis_codegen.specs.Sites.{AllSmall, IsReady};
+ghost use Rattle.dis_codegen.specs.Spelled.{AreSpelled};
 
 use crate::fault::GenFault;
 use crate::functions::{emit_entry, emit_functions};
@@ -69,7 +70,8 @@ fn make_object(
     requires ready { IsReady (view_module «module».now).functions entries.now }
     requires init { init ≡ objects.init_of (view_module «module».now) }
     requires within { ForSome init (λ n. n < length «module».now.functions.items) }
-    ensures { IfOk result (λ o. o ≡ object_of (view_module «module».now)) }
+    ensures object { IfOk result (λ o. o ≡ object_of (view_module «module».now)) }
+    ensures spelled { IfOk result (λ o. AreSpelled o.items) }
 {
     let functions = module.functions.as_slice();
     let items = items_of(alloc, functions)?;
@@ -98,6 +100,9 @@ pub fn generate(alloc: Global, module: &CoreModule) -> Result<Object, GenFault>
     requires proper { IsProper (view_module «module».now) }
     requires small { AllSmall (view_module «module».now).functions }
     ensures object { IfOk result (λ o. o ≡ object_of (view_module «module».now)) }
+
+    // Its strings are such as a machine reads.
+    ensures spelled { IfOk result (λ o. AreSpelled o.items) }
 
     // It has at most four instructions for each of the code's.
     ensures few { IfOk result (λ o. length o.insts ≤ 4 * code_instructions (view_module «module».now).functions) }

@@ -14,7 +14,7 @@ pub record IsSent (frame : List ℕ) (tag asked : ℕ) : Type 0 where
   pub spelled : frame ≡ spelling tag (t_row (t.Write fid offset piece))
   pub long : asked ≡ length piece
 
--- Where a print asks, its request is one under the tag and of the length that the waiting print knows.
+-- Where a print asks, its request goes over link 1, under the tag and with the length that the waiting print knows.
 abbrev pub Sent : code_printing.Printing → Type 0
-Sent (printing.Requests w m k) = IsSent m.frame.items k.tag k.asked
+Sent (printing.Requests w m k) = (m.link ≡ 1) × IsSent m.frame.items k.tag k.asked
 Sent _ = Unit {0}

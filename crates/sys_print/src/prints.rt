@@ -44,7 +44,7 @@ fn want_of_memory(fault: StyxFault) -> AllocError
 fn twrite(alloc: Global, world: &World, tag: u16, piece: &[u8]) -> Result<Request, AllocError>
     requires { length piece.now ≤ 8192 }
     ensures request { IfOk result (λ m. view_request m ≡ meaning.twrite (view_world world.now) tag piece.now) }
-    ensures sent { IfOk result (λ m. IsSent m.frame.items tag (length piece.now)) }
+    ensures sent { IfOk result (λ m. (m.link ≡ 1) × IsSent m.frame.items tag (length piece.now)) }
 {
     let piece = Vec::from_slice(alloc, piece)?;
     let message = Tmsg::Write {

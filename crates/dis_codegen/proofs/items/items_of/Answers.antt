@@ -28,7 +28,7 @@ loop-f-preserved c =
     at_drop_more (λ xs. module_data (map view_function xs)) fs k f c.loop-f-test.true
     ∙ ap (λ g. all_data (view_function g).code ++ rest) (sym c.f-item.is) in
     let added : news ≡ olds ++ items_from (4 + 4 * length olds) own =
-    c.in_ok-put_data.ensures {u = tt} ∙ ap (λ xs. olds ++ items_from (4 + 4 * length olds) (all_data (map view_inst xs))) c.deref.ensures.value in
+    (c.in_ok-put_data.ensures {u = tt}).items ∙ ap (λ xs. olds ++ items_from (4 + 4 * length olds) (all_data (map view_inst xs))) c.deref.ensures.value in
     let shown = rw at at c.loop-f.invariant.made in
     let long = ap length added ∙ length-append olds (items_from (4 + 4 * length olds) own) in
     let n = items_length (4 + 4 * length olds) own in
@@ -36,4 +36,5 @@ loop-f-preserved c =
     record {
       made = next_items olds news own rest added ∙ shown;
       counted = omega (arith, long, n, m, c.loop-f.invariant.counted);
+      strings = (c.in_ok-put_data.ensures {u = tt}).spelled;
     }

@@ -21,14 +21,14 @@ all_long fs gs name o e init within =
 
 pub returns-in_ok-make_object-in-Ok-clause-few : goal.returns-in_ok-make_object-in-Ok-clause-few
 returns-in_ok-make_object-in-Ok-clause-few c =
-    let insts = ap (λ o. length o.insts) (c.in_ok-make_object-in-Ok.ensures {u = tt}) in
+    let insts = ap (λ o. length o.insts) (c.in_ok-make_object-in-Ok.ensures {u = tt}).object in
     let few = is_few (view_module c.args.module.now) in
     omega (arith, insts, few)
 
 pub returns-in_ok-make_object-in-Ok-clause-fits : goal.returns-in_ok-make_object-in-Ok-clause-fits
 returns-in_ok-make_object-in-Ok-clause-fits c =
     let long = all_long _ _ c.args.module.now.name c.find_init-init.result c.as_slice-functions.ensures.value c.find_init-init.ensures.found c.find_init-init.ensures.within in
-    let insts = ap (λ o. length o.insts) (c.in_ok-make_object-in-Ok.ensures {u = tt}) in
+    let insts = ap (λ o. length o.insts) (c.in_ok-make_object-in-Ok.ensures {u = tt}).object in
     let fits = (c.in-Ok.ensures {u = tt}).fits in
     omega (arith, long, insts, fits, c.entry_length.ensures.value)
 

@@ -24,7 +24,7 @@ pub overflow_cast-result : goal.overflow_cast-result
 overflow_cast-result c =
     let ready = subst (λ xs. IsReady (map view_function xs) c.args.entries.now) (sym c.as_slice-functions.ensures.value) c.requires.ready in
     let few = ready_data _ _ ready in
-    let l = ap length (c.in_ok-items.ensures {u = tt}) in
+    let l = ap length ((c.in_ok-items.ensures {u = tt}).items) in
     let n = items_length 8 (module_data (map view_function c.as_slice-functions.result.now)) in
     omega (arith, c.len.ensures, c.in_ok-items.items.ok.0, l, n, few)
 
@@ -52,12 +52,12 @@ links_of-requires c = λ x e.
     let lt = c.requires.within x e in
     omega (arith, few, n, lt)
 
-pub returns : goal.returns
-returns c =
+pub returns-clause-object : goal.returns-clause-object
+returns-clause-object c =
     let fs = c.as_slice-functions.result.now in
     let same = c.as_slice-functions.ensures.value in
     let m : Module = record { name = c.args.module.now.name; functions = map view_function fs } in
     let init = c.requires.init ∙ ap (λ xs. find 0 (codes "init") (map view_function xs)) (sym same) in
     let long = c.len.ensures ∙ c.in_ok-items.items.ok.0 ∙ sym (ap length c.from_vec.ensures) in
-    let made = object_is m c.args.init _ _ _ _ _ _ _ _ _ init (ap (λ n. 4 + 4 * n) long) c.entry_type_of.ensures (c.in_ok-code_of.ensures {u = tt}) (c.in_ok-types_of.ensures {u = tt}) (c.from_vec.ensures ∙ c.in_ok-items.ensures {u = tt}) ((c.in_ok-clone.ensures {u = tt}).cases) (c.in_ok-links_of.ensures {u = tt}) (c.in_ok-imports_of.ensures {u = tt}) c.new.ensures in
+    let made = object_is m c.args.init _ _ _ _ _ _ _ _ _ init (ap (λ n. 4 + 4 * n) long) c.entry_type_of.ensures (c.in_ok-code_of.ensures {u = tt}) (c.in_ok-types_of.ensures {u = tt}) (c.from_vec.ensures ∙ (c.in_ok-items.ensures {u = tt}).items) ((c.in_ok-clone.ensures {u = tt}).cases) (c.in_ok-links_of.ensures {u = tt}) (c.in_ok-imports_of.ensures {u = tt}) c.new.ensures in
     made ∙ ap (λ xs. object_of (record { name = c.args.module.now.name; functions = map view_function xs })) same

@@ -1,10 +1,10 @@
 -- A journal whose replay stands has a replay instruction by instruction, which leads to the same state.
-use Rattle.std.proofs.Common.{◌≡◌, ℕ, zero, suc, ◌+◌, Bool, true, false, List, [], ◌∷◌, ◌++◌, Option, Some, None, refl, ap, sym, ◌∙◌, if◌then◌else◌}
+use Rattle.std.proofs.Common.{◌≡◌, ℕ, zero, suc, Bool, true, false, List, [], ◌∷◌, ◌++◌, Option, Some, None, refl, ap, ◌∙◌, if◌then◌else◌}
 use Rattle.std.specs.Prelude.{nat_lt, nat_eq, slice_get}
-use Rattle.process_model.specs.Process.{Rules, Effect}
+use Rattle.process_model.specs.Process.{Rules}
 use Rattle.process_model.specs.Machine.{State, Counting, Event, Quantum, Reply, ready, obey, turns, is_whole, happens, replay}
 use Rattle.process_model.specs.Law.{instructions, repeated}
-use Rattle.machine_host.specs.Fine.{singles, fine_event, fine}
+use Rattle.limbo_compiler.specs.Fine.{singles, fine_event, fine}
 
 module _ {W P D M A H : Type 0} (rules : Rules W P D M A H) (counting : Counting W D) where
   -- Two journals, one behind the other.

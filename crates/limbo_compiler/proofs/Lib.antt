@@ -1,0 +1,3 @@
+pub mod Fine
+pub mod Spelled
+pub mod Means

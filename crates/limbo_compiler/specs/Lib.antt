@@ -1,0 +1,3 @@
+pub mod Fine
+pub mod Limits
+pub mod Means

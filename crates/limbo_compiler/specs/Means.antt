@@ -1,0 +1,46 @@
+-- What a run of a module's object owes to the module's meaning.
+use Rattle.std.specs.Prelude.{ℕ, ◌≡◌, List, [], ◌∷◌, ◌++◌, Option, Some, None}
+use Rattle.process_model.specs.Source.{Turn}
+use Rattle.process_model.specs.Law.{Paced, makers, repeated}
+use Rattle.limbo_typed.specs.Typed.{Module}
+use Rattle.limbo_typed.specs.Proper.{IsProper}
+use Rattle.limbo_meaning.specs.Program.{Routine}
+use Rattle.limbo_meaning.specs.Runs.{Meaning, MeaningRun}
+use Rattle.machine_core.specs.declared.event.Event.{Event}
+use Rattle.machine_core.specs.declared.event.Event.TheVariants as event
+use Rattle.machine_core.specs.Journal.{State, place_of, state_of, cut_events}
+use Rattle.limbo_lower.specs.Sizes.{FrameTooLarge}
+use Rattle.code_sim.specs.Keeps.{object_for, BeginsWith}
+
+-- The instructions of an event and of a journal, by the places of their processes.
+abbrev pub at_place : Option ℕ → (count : ℕ) → List ℕ
+at_place None count = []
+at_place (Some i) count = repeated i count
+
+abbrev pub instructions_of : Event → List ℕ
+instructions_of (event.Quantum pid count) = at_place (place_of pid) count
+instructions_of (event.Reply link frame) = []
+instructions_of (event.Down link why) = []
+
+abbrev pub instructions : List Event → List ℕ
+instructions [] = []
+instructions (e ∷ es) = instructions_of e ++ instructions es
+
+-- There is a run of the module, from its function of this number, beside the journal: its turns are the journal's instructions, in
+-- their order, each with the steps of the meaning that it stands for; of any 14 turns in a row of one process at least one has a step;
+-- and what was told of it, the requests, the replies, what passed, what went and how each process ended, is what was told of the
+-- machine.
+pub record Means (m : Module) (init : ℕ) (events : List Event) (t : State) : Type 0 where
+  pub turns : List Turn
+  pub config : Meaning
+  pub run : MeaningRun m init turns config
+  pub makers : makers turns ≡ instructions events
+  pub paced : Paced 14 (λ j. 0) turns
+  pub told : config.trace ≡ t.trace
+
+-- So it is of each journal of a machine of the object, also where memory ran out within its last quantum.
+abbrev pub JournalsMean : Type 0
+JournalsMean =
+    (m : Module) → IsProper m → (FrameTooLarge m → ⊥) → (init : ℕ) (first : Routine) → BeginsWith m init first →
+    (journal : List Event) (cut : Option ℕ) (t : State) → state_of (object_for m ∷ []) journal cut ≡ Some t →
+    Means m init (journal ++ cut_events cut) t

@@ -1,0 +1,12 @@
+//! The compiler from checked modules of Limbo to objects, both its passes, and what a run of its objects means.
+//!
+//! `compile` makes the object of a module, or says which limit the module passes (`specs/Limits`). `specs/Means` says what a run owes
+//! to the module's meaning, whatever its quanta and replies were and wherever it ended: there is a run of the module of which the same
+//! was told, at the pace. The law `journals_mean` has it for each journal of a machine, the object's replay being machine_core's.
+#![tactic(auto)]
+
+mod laws;
+mod passes;
+
+pub use laws::journals_mean;
+pub use passes::{CompileFault, compile};
