@@ -1,5 +1,5 @@
 -- What an instruction and a reply come to, as the definitions have it.
-use Rattle.std.specs.Prelude.{◌≡◌, ℕ, List, [], Bool, true, false, Result, Ok, Err, slice_get}
+use Rattle.std.specs.Prelude.{◌≡◌, ℕ, List, [], Bool, true, false, Option, Some, None, Result, Ok, Err, slice_get}
 use Rattle.dis_file.specs.declared.object.Object.{Object}
 use Rattle.dis_meaning.specs.Words.{Access, ◌>>=◌, type_check, or_wrong}
 use Rattle.dis_meaning.specs.Step.{object_of, work}
@@ -7,9 +7,12 @@ use Rattle.process_model.specs.Process.{Went, Parks, Asks, Ends}
 use Rattle.limbo_meaning.specs.Process.{Ended, Broken, Faulted}
 use Rattle.dis_meaning.specs.World.{World, block}
 use Rattle.dis_meaning.specs.Process.{Process, Does}
+use Rattle.sys_print.specs.declared.writing.Request.{Request}
 use Rattle.sys_print.specs.Printing.{view_request}
+use Rattle.sys_print.specs.Sent.{IsSent}
 use Rattle.dis_control_ops.specs.declared.word.Halt.{Halt}
 use Rattle.dis_control_ops.specs.declared.word.Halt.TheVariants as halt
+use Rattle.dis_control_ops.specs.declared.process.Asking.{Asking}
 use Rattle.dis_control_ops.specs.declared.outcome.Does as code_does
 use Rattle.dis_control_ops.specs.declared.outcome.Does.TheVariants as does
 use Rattle.dis_control_ops.specs.declared.outcome.Stepped.{Stepped}
@@ -62,6 +65,20 @@ abbrev pub Stays : Bool → World → Process → World → Process → Type 0
 Stays true x p y q = (y ≡ x) × (q ≡ p)
 Stays false x p y q = Unit {0}
 
+-- A request is a message over link 1, under the tag and with the length that the print knows that waits for its reply.
+abbrev pub IsAsked : Request → Option Asking → Type 0
+IsAsked m None = ⊥
+IsAsked m (Some a) = (m.link ≡ 1) × IsSent m.frame.items a.writing.tag a.writing.asked
+
+-- So is what an instruction and a reply ask.
+abbrev pub Sent : Stepped → Option Asking → Type 0
+Sent (stepped.Asked m) printing = IsAsked m printing
+Sent _ printing = Unit {0}
+
+abbrev pub SentAgain : Heard → Option Asking → Type 0
+SentAgain (heard.Asked m) printing = IsAsked m printing
+SentAgain _ printing = Unit {0}
+
 -- The same inside.
 abbrev pub ends : code_does.Does → Bool
 ends does.Went = false
@@ -97,3 +114,11 @@ running objects x p = block x p.frame.instance >>= object_of >>= λ n. or_wrong 
 
 abbrev pub worked : (limit : ℕ) → List Object → World → Process → Access Does
 worked limit objects x p = running objects x p >>= λ o. work limit o x p
+
+abbrev pub DoesSend : code_does.Does → Option Asking → Type 0
+DoesSend (does.Asked m) printing = IsAsked m printing
+DoesSend _ printing = Unit {0}
+
+abbrev pub Sends : Result code_does.Does Halt → Option Asking → Type 0
+Sends (Ok d) printing = DoesSend d printing
+Sends (Err h) printing = Unit {0}

@@ -10,7 +10,7 @@ ghost use Rattle.dis_meaning.specs.Step as meaning;
 ghost use Rattle.dis_control_ops.specs.Words.{number_of, view_word, Gives, GivesFault};
 ghost use Rattle.dis_control_ops.specs.Made.{Made, entered};
 ghost use Rattle.dis_control_ops.specs.View.{view_process, view_world};
-ghost use Rattle.dis_control_ops.specs.Outcomes.{effect_of, ends, Stays, Kept};
+ghost use Rattle.dis_control_ops.specs.Outcomes.{effect_of, ends, Stays, Kept, DoesSend, Sends};
 
 use crate::frame::blank;
 use crate::frames::position;
@@ -125,6 +125,7 @@ pub(crate) fn branch_less(object: &Object, store: &Store, proc: &mut Proc, inst:
 pub(crate) fn give_back(proc: &mut Proc) -> Does
     ensures gives { (x : World) → meaning.returns x (view_process proc.old) (view_process proc.old).below ≡ effect_of result x (view_process proc.new) }
     ensures kept { (x : World) → Stays (ends result) x (view_process proc.old) x (view_process proc.new) }
+    ensures silent { DoesSend result proc.new.printing }
 {
     match proc.below.pop() {
         Some(frame) => {
@@ -190,6 +191,7 @@ pub(crate) fn call(
     ensures gives { Gives (λ d. effect_of d (view_world store.now) (view_process proc.new)) result
         (meaning.obey limit object.now (view_world store.now) (view_process proc.old) inst op.Call) }
     ensures kept { Kept result (view_world store.now) (view_process proc.old) (view_world store.now) (view_process proc.new) }
+    ensures silent { Sends result proc.new.printing }
 {
     let word = source_word(store, proc, inst.src)?;
     let made = made_at(proc, word)?;

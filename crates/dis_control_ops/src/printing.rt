@@ -7,6 +7,7 @@ ghost use Rattle.process_model.specs.Process.{Went};
 ghost use Rattle.dis_meaning.specs.Process.{Frame};
 ghost use Rattle.dis_meaning.specs.Step as meaning;
 ghost use Rattle.sys_print.specs.Worlds as outside;
+ghost use Rattle.sys_print.specs.Sent.{Sent};
 ghost use Rattle.dis_control_ops.specs.Words.{view_place, view_words, Gives, GivesFault};
 ghost use Rattle.dis_control_ops.specs.View.{view_process, view_world, view_asking};
 ghost use Rattle.dis_control_ops.specs.Spots.{view_spot};
@@ -14,7 +15,7 @@ ghost use Rattle.dis_control_ops.specs.Made.{discarded, is_frame, waits};
 ghost use Rattle.dis_control_ops.specs.Frames.{view_frames, count};
 ghost use Rattle.dis_control_ops.specs.Storing.{moved_on};
 ghost use Rattle.dis_control_ops.specs.Plans.{view_plan, planned, carried_out, IsPrint};
-ghost use Rattle.dis_control_ops.specs.Outcomes.{effect_of, ends, Kept};
+ghost use Rattle.dis_control_ops.specs.Outcomes.{effect_of, ends, Kept, DoesSend, Sends};
 
 use crate::frames::position;
 use crate::memory::word_at;
@@ -111,6 +112,7 @@ fn ask(
     requires { proc.old.frame.pc + 1 < 2 ^ 64 }
     ensures world { view_world store.new ≡ meaning.outside_is (view_world store.old) (outside.view_world world) }
     ensures process { view_process proc.new ≡ waits (moved_on (discarded (view_process proc.old) serial)) (view_asking asking) }
+    ensures printing { proc.new.printing ≡ Some asking }
 {
     discard(proc, serial);
     advance(proc);
@@ -130,6 +132,7 @@ struct Plan {
 fn plan_print(alloc: Global, store: &Store, words: &[Word]) -> Result<Plan, Halt>
     ensures gives { Gives view_plan result (planned (view_world store.now) (view_words words.now)) }
     ensures is_print { IfOk result (λ p. IsPrint p.printing) }
+    ensures sent { IfOk result (λ p. Sent p.printing) }
 {
     let text = printed(alloc, store, words)?;
     let to = answer_spot(words)?;
@@ -147,10 +150,12 @@ fn carry_out(store: &mut Store, proc: &mut Proc, serial: u64, plan: Plan) -> Res
     requires place { proc.old.frame.pc + 1 < 2 ^ 64 }
     requires made { count serial (view_frames proc.old.made.items) ≡ 1 }
     requires is_print { IsPrint plan.printing }
+    requires sent { Sent plan.printing }
     ensures gives { GivesFault (λ d. effect_of d (view_world store.new) (view_process proc.new)) result
         (carried_out (view_world store.old) (discarded (view_process proc.old) serial) (view_plan plan)) }
     ensures kept { OnErr result ((view_world store.new ≡ view_world store.old) × (proc.new ≡ proc.old)) }
     ensures goes { IfOk result (λ d. ends d ≡ false) }
+    ensures sent { IfOk result (λ d. DoesSend d proc.new.printing) }
 {
     let Plan {
         place,
@@ -183,6 +188,7 @@ pub(crate) fn print_call(
     ensures gives { (f : Frame) → slice_get (view_process proc.old).made made ≡ Some f →
         Gives (λ d. effect_of d (view_world store.new) (view_process proc.new)) result (meaning.print_call (view_world store.old) (view_process proc.old) f) }
     ensures kept { Kept result (view_world store.old) (view_process proc.old) (view_world store.new) (view_process proc.new) }
+    ensures sent { Sends result proc.new.printing }
 {
     let serial = proc.made[made].serial;
     let plan = plan_print(alloc, store, &proc.made[made].words)?;

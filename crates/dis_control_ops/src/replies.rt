@@ -7,7 +7,7 @@ ghost use Rattle.dis_meaning.specs.Step as meaning;
 ghost use Rattle.sys_print.specs.Worlds as outside;
 ghost use Rattle.dis_control_ops.specs.Words.{view_place};
 ghost use Rattle.dis_control_ops.specs.View.{view_world, view_process};
-ghost use Rattle.dis_control_ops.specs.Outcomes.{Hears, stays_after_reply, Stays};
+ghost use Rattle.dis_control_ops.specs.Outcomes.{Hears, stays_after_reply, Stays, SentAgain};
 
 use crate::outcome::Heard;
 use crate::process::{Asking, Proc};
@@ -33,6 +33,7 @@ fn take_answer(
         (meaning.hears (view_world store.old) (view_process proc.old) (view_place place) at (prints.Answers (outside.view_world world) (Num number))) }
     ensures kept { Stays (stays_after_reply result) (view_world store.old) (view_process proc.old)
         (view_world store.new) (view_process proc.new) }
+    ensures sent { SentAgain result proc.new.printing }
 {
     let before = mem::replace(&mut store.outside, world);
     match write(store, proc, Spot::Far(place, at), &[Word::Plain(number)]) {
@@ -53,6 +54,7 @@ pub fn answer(alloc: Global, reply: &Rmsg, store: &mut Store, proc: &mut Proc) -
         (meaning.answer reply.now (view_world store.old) (view_process proc.old)) }
     ensures kept { Stays (stays_after_reply result) (view_world store.old) (view_process proc.old)
         (view_world store.new) (view_process proc.new) }
+    ensures sent { SentAgain result proc.new.printing }
 {
     let Some(asking) = &proc.printing else {
         return Heard::Refused;

@@ -1,11 +1,12 @@
 //! One instruction of a process.
 
-ghost use Rattle.std.specs.Prelude.{◌≡◌, ◌+◌, ◌<◌, ◌^◌, slice_get, OnOk};
+ghost use Rattle.std.specs.Prelude.{◌≡◌, ◌+◌, ◌<◌, ◌^◌, Option, slice_get, OnOk};
 ghost use Rattle.dis_meaning.specs.Words as words;
 ghost use Rattle.dis_meaning.specs.Step as meaning;
+ghost use Rattle.dis_control_ops.specs.declared.process.Asking.{Asking};
 ghost use Rattle.dis_control_ops.specs.Words.{Gives, GivesFault};
 ghost use Rattle.dis_control_ops.specs.View.{view_content, view_world, view_process, codes_of};
-ghost use Rattle.dis_control_ops.specs.Outcomes.{effect_of, went_of, does_told, halt_told, stepped_of, running, worked, Kept, Steps, stays_after, Stays};
+ghost use Rattle.dis_control_ops.specs.Outcomes.{effect_of, went_of, does_told, halt_told, stepped_of, running, worked, Kept, Steps, stays_after, Stays, Sends, Sent};
 
 use crate::blocks::block;
 use crate::control::{branch_equal, branch_less, call, give_back, jump};
@@ -58,7 +59,8 @@ fn code_of<'a>(
 
 // An instruction that goes on, or not.
 fn went(outcome: Result<(), Halt>) -> Result<Does, Halt>
-    ensures { result ≡ went_of outcome }
+    ensures went { result ≡ went_of outcome }
+    ensures silent { (printing : Option Asking) → Sends result printing }
 {
     match outcome {
         Ok(()) => Ok(Does::Went),
@@ -90,6 +92,7 @@ fn obey(
     ensures gives { Gives (λ d. effect_of d (view_world store.new) (view_process proc.new)) result
         (meaning.obey limit object.now (view_world store.old) (view_process proc.old) inst inst.op) }
     ensures kept { Kept result (view_world store.old) (view_process proc.old) (view_world store.new) (view_process proc.new) }
+    ensures sent { Sends result proc.new.printing }
 {
     match inst.op {
         Op::Movw => went(move_word(store, proc, inst)),
@@ -123,6 +126,7 @@ fn run(
     ensures gives { Gives (λ d. effect_of d (view_world store.new) (view_process proc.new)) result
         (worked limit (codes_of objects.now) (view_world store.old) (view_process proc.old)) }
     ensures kept { Kept result (view_world store.old) (view_process proc.old) (view_world store.new) (view_process proc.new) }
+    ensures sent { Sends result proc.new.printing }
 {
     let object = code_of(objects, store, proc)?;
     let inst = inst_at(object, proc.frame.pc)?;
@@ -151,7 +155,8 @@ fn told_halt(halt: Halt) -> Stepped
 
 // What it came to, as it is told.
 fn told(outcome: Result<Does, Halt>) -> Stepped
-    ensures { result ≡ stepped_of outcome }
+    ensures told { result ≡ stepped_of outcome }
+    ensures sent { (printing : Option Asking) → Sends outcome printing → Sent result printing }
 {
     match outcome {
         Ok(does) => told_does(does),
@@ -171,6 +176,7 @@ pub fn step(
         (meaning.step limit (codes_of objects.now) (view_world store.old) (view_process proc.old)) }
     ensures kept { Stays (stays_after result) (view_world store.old) (view_process proc.old)
         (view_world store.new) (view_process proc.new) }
+    ensures sent { Sent result proc.new.printing }
 {
     told(run(alloc, limit, objects, store, proc))
 }

@@ -11,7 +11,7 @@ ghost use Rattle.dis_control_ops.specs.Words.{Gives, GivesFault};
 ghost use Rattle.dis_control_ops.specs.View.{view_content, view_process, view_world};
 ghost use Rattle.dis_control_ops.specs.Spots.{view_spot};
 ghost use Rattle.dis_control_ops.specs.Loading.{imports_at, sys_loaded, loaded_if};
-ghost use Rattle.dis_control_ops.specs.Outcomes.{effect_of, Kept};
+ghost use Rattle.dis_control_ops.specs.Outcomes.{effect_of, Kept, Sends};
 
 use crate::blocks::block;
 use crate::control::{at_least_zero, made_at};
@@ -87,6 +87,7 @@ pub(crate) fn call_module(
     ensures gives { (limit : ℕ) (o : AnyObject) → Gives (λ d. effect_of d (view_world store.new) (view_process proc.new)) result
         (meaning.obey limit o (view_world store.old) (view_process proc.old) inst op.Mcall) }
     ensures kept { Kept result (view_world store.old) (view_process proc.old) (view_world store.new) (view_process proc.new) }
+    ensures sent { Sends result proc.new.printing }
 {
     let word = source_word(store, proc, inst.src)?;
     let made = made_at(proc, word)?;

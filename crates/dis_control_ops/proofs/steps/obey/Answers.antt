@@ -5,62 +5,62 @@ use Rattle.dis_control_ops.proofs.steps.obey.Goals as goal
 
 pub returns-in-Movw-clause-gives : goal.returns-in-Movw-clause-gives
 returns-in-Movw-clause-gives c =
-    gives_op c.move_word.result c.went.result (view_world c.move_word.new.store) (view_process c.move_word.new.proc) c.args.limit c.args.object.now (view_world c.args.store.now) (view_process c.args.proc.now) c.args.inst op.Movw c.in-Movw.is c.went.ensures
+    gives_op c.move_word.result c.went.result (view_world c.move_word.new.store) (view_process c.move_word.new.proc) c.args.limit c.args.object.now (view_world c.args.store.now) (view_process c.args.proc.now) c.args.inst op.Movw c.in-Movw.is c.went.ensures.went
     (c.move_word.ensures.gives c.args.limit c.args.object.now)
 
 pub returns-in-Movp-clause-gives : goal.returns-in-Movp-clause-gives
 returns-in-Movp-clause-gives c =
-    gives_op c.move_reference.result c.went-in-Movp.result (view_world c.move_reference.new.store) (view_process c.move_reference.new.proc) c.args.limit c.args.object.now (view_world c.args.store.now) (view_process c.args.proc.now) c.args.inst op.Movp c.in-Movp.is c.went-in-Movp.ensures
+    gives_op c.move_reference.result c.went-in-Movp.result (view_world c.move_reference.new.store) (view_process c.move_reference.new.proc) c.args.limit c.args.object.now (view_world c.args.store.now) (view_process c.args.proc.now) c.args.inst op.Movp c.in-Movp.is c.went-in-Movp.ensures.went
     (c.move_reference.ensures.gives c.args.limit c.args.object.now)
 
 pub returns-in-Movm-clause-gives : goal.returns-in-Movm-clause-gives
 returns-in-Movm-clause-gives c =
-    gives_op c.move_words.result c.went-in-Movm.result (view_world c.move_words.new.store) (view_process c.move_words.new.proc) c.args.limit c.args.object.now (view_world c.args.store.now) (view_process c.args.proc.now) c.args.inst op.Movm c.in-Movm.is c.went-in-Movm.ensures
+    gives_op c.move_words.result c.went-in-Movm.result (view_world c.move_words.new.store) (view_process c.move_words.new.proc) c.args.limit c.args.object.now (view_world c.args.store.now) (view_process c.args.proc.now) c.args.inst op.Movm c.in-Movm.is c.went-in-Movm.ensures.went
     (c.move_words.ensures.gives c.args.limit c.args.object.now)
 
 pub returns-in-Lea-clause-gives : goal.returns-in-Lea-clause-gives
 returns-in-Lea-clause-gives c =
-    gives_op c.load_address.result c.went-in-Lea.result (view_world c.load_address.new.store) (view_process c.load_address.new.proc) c.args.limit c.args.object.now (view_world c.args.store.now) (view_process c.args.proc.now) c.args.inst op.Lea c.in-Lea.is c.went-in-Lea.ensures
+    gives_op c.load_address.result c.went-in-Lea.result (view_world c.load_address.new.store) (view_process c.load_address.new.proc) c.args.limit c.args.object.now (view_world c.args.store.now) (view_process c.args.proc.now) c.args.inst op.Lea c.in-Lea.is c.went-in-Lea.ensures.went
     (c.load_address.ensures.gives c.args.limit c.args.object.now)
 
 pub returns-in-Addw-clause-gives : goal.returns-in-Addw-clause-gives
 returns-in-Addw-clause-gives c =
-    gives_op c.add.result c.went-in-Addw.result (view_world c.add.new.store) (view_process c.add.new.proc) c.args.limit c.args.object.now (view_world c.args.store.now) (view_process c.args.proc.now) c.args.inst op.Addw c.in-Addw.is c.went-in-Addw.ensures
+    gives_op c.add.result c.went-in-Addw.result (view_world c.add.new.store) (view_process c.add.new.proc) c.args.limit c.args.object.now (view_world c.args.store.now) (view_process c.args.proc.now) c.args.inst op.Addw c.in-Addw.is c.went-in-Addw.ensures.went
     (c.add.ensures.gives c.args.limit c.args.object.now)
 
 pub returns-in-Subw-clause-gives : goal.returns-in-Subw-clause-gives
 returns-in-Subw-clause-gives c =
-    gives_op c.subtract.result c.went-in-Subw.result (view_world c.subtract.new.store) (view_process c.subtract.new.proc) c.args.limit c.args.object.now (view_world c.args.store.now) (view_process c.args.proc.now) c.args.inst op.Subw c.in-Subw.is c.went-in-Subw.ensures
+    gives_op c.subtract.result c.went-in-Subw.result (view_world c.subtract.new.store) (view_process c.subtract.new.proc) c.args.limit c.args.object.now (view_world c.args.store.now) (view_process c.args.proc.now) c.args.inst op.Subw c.in-Subw.is c.went-in-Subw.ensures.went
     (c.subtract.ensures.gives c.args.limit c.args.object.now)
 
 pub returns-in-Mulw-clause-gives : goal.returns-in-Mulw-clause-gives
 returns-in-Mulw-clause-gives c =
-    gives_op c.multiply.result c.went-in-Mulw.result (view_world c.multiply.new.store) (view_process c.multiply.new.proc) c.args.limit c.args.object.now (view_world c.args.store.now) (view_process c.args.proc.now) c.args.inst op.Mulw c.in-Mulw.is c.went-in-Mulw.ensures
+    gives_op c.multiply.result c.went-in-Mulw.result (view_world c.multiply.new.store) (view_process c.multiply.new.proc) c.args.limit c.args.object.now (view_world c.args.store.now) (view_process c.args.proc.now) c.args.inst op.Mulw c.in-Mulw.is c.went-in-Mulw.ensures.went
     (c.multiply.ensures.gives c.args.limit c.args.object.now)
 
 pub returns-in-Beqw-clause-gives : goal.returns-in-Beqw-clause-gives
 returns-in-Beqw-clause-gives c =
-    gives_op c.branch_equal.result c.went-in-Beqw.result (view_world c.args.store.now) (view_process c.branch_equal.new.proc) c.args.limit c.args.object.now (view_world c.args.store.now) (view_process c.args.proc.now) c.args.inst op.Beqw c.in-Beqw.is c.went-in-Beqw.ensures
+    gives_op c.branch_equal.result c.went-in-Beqw.result (view_world c.args.store.now) (view_process c.branch_equal.new.proc) c.args.limit c.args.object.now (view_world c.args.store.now) (view_process c.args.proc.now) c.args.inst op.Beqw c.in-Beqw.is c.went-in-Beqw.ensures.went
     (c.branch_equal.ensures.gives c.args.limit)
 
 pub returns-in-Bltw-clause-gives : goal.returns-in-Bltw-clause-gives
 returns-in-Bltw-clause-gives c =
-    gives_op c.branch_less.result c.went-in-Bltw.result (view_world c.args.store.now) (view_process c.branch_less.new.proc) c.args.limit c.args.object.now (view_world c.args.store.now) (view_process c.args.proc.now) c.args.inst op.Bltw c.in-Bltw.is c.went-in-Bltw.ensures
+    gives_op c.branch_less.result c.went-in-Bltw.result (view_world c.args.store.now) (view_process c.branch_less.new.proc) c.args.limit c.args.object.now (view_world c.args.store.now) (view_process c.args.proc.now) c.args.inst op.Bltw c.in-Bltw.is c.went-in-Bltw.ensures.went
     (c.branch_less.ensures.gives c.args.limit)
 
 pub returns-in-Jmp-clause-gives : goal.returns-in-Jmp-clause-gives
 returns-in-Jmp-clause-gives c =
-    gives_op c.jump.result c.went-in-Jmp.result (view_world c.args.store.now) (view_process c.jump.new.proc) c.args.limit c.args.object.now (view_world c.args.store.now) (view_process c.args.proc.now) c.args.inst op.Jmp c.in-Jmp.is c.went-in-Jmp.ensures
+    gives_op c.jump.result c.went-in-Jmp.result (view_world c.args.store.now) (view_process c.jump.new.proc) c.args.limit c.args.object.now (view_world c.args.store.now) (view_process c.args.proc.now) c.args.inst op.Jmp c.in-Jmp.is c.went-in-Jmp.ensures.went
     (c.jump.ensures.gives c.args.limit (view_world c.args.store.now))
 
 pub returns-in-Frame-clause-gives : goal.returns-in-Frame-clause-gives
 returns-in-Frame-clause-gives c =
-    gives_op c.make_frame.result c.went-in-Frame.result (view_world c.make_frame.new.store) (view_process c.make_frame.new.proc) c.args.limit c.args.object.now (view_world c.args.store.now) (view_process c.args.proc.now) c.args.inst op.Frame c.in-Frame.is c.went-in-Frame.ensures
+    gives_op c.make_frame.result c.went-in-Frame.result (view_world c.make_frame.new.store) (view_process c.make_frame.new.proc) c.args.limit c.args.object.now (view_world c.args.store.now) (view_process c.args.proc.now) c.args.inst op.Frame c.in-Frame.is c.went-in-Frame.ensures.went
     (c.make_frame.ensures.gives c.args.limit)
 
 pub returns-in-Load-clause-gives : goal.returns-in-Load-clause-gives
 returns-in-Load-clause-gives c =
-    gives_op c.load.result c.went-in-Load.result (view_world c.load.new.store) (view_process c.load.new.proc) c.args.limit c.args.object.now (view_world c.args.store.now) (view_process c.args.proc.now) c.args.inst op.Load c.in-Load.is c.went-in-Load.ensures
+    gives_op c.load.result c.went-in-Load.result (view_world c.load.new.store) (view_process c.load.new.proc) c.args.limit c.args.object.now (view_world c.args.store.now) (view_process c.args.proc.now) c.args.inst op.Load c.in-Load.is c.went-in-Load.ensures.went
     (c.load.ensures.gives c.args.limit)
 
 pub returns-in-Mcall-clause-gives : goal.returns-in-Mcall-clause-gives
