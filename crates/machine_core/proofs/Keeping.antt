@@ -120,6 +120,10 @@ module _ (objects : List Object) (limit : ℕ) (journal : List Event) (before : 
   cut_leads zero had = led ∙ had old_told ∙ ap (λ t. Some (state_with r' t)) (append-nil old_told)
   cut_leads (suc n) had = cut_off objects journal (suc n) (state_with r old_told) (state_with r' old_told) led (had old_told ∙ ap (λ t. Some (state_with r' t)) (append-nil old_told))
 
+  -- Nothing was told in it.
+  pub cut_told : (count : ℕ) → HadTurns objects r r' count turn.NoMemory → told_after objects journal (cut_of count) ≡ old_told
+  cut_told count had = told_is (state_of objects journal (cut_of count)) r' old_told (cut_leads count had)
+
   pub cut_kept : (count : ℕ) → HadTurns objects r r' count turn.NoMemory → (o' : Outcome) → before < limit → r.doing ≡ doing.Ready → Keeps old_told o' → o'.fault ≡ o.fault → IsKept objects limit journal before (cut_of count) true r' o'
   cut_kept count had o' left is_ready keeps same =
       let leads = cut_leads count had in

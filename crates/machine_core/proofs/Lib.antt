@@ -7,3 +7,5 @@ pub mod Entering
 pub mod Keeping
 pub mod Outbox
 pub mod Numbers
+pub mod Taking
+pub mod Hearing

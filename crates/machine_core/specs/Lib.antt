@@ -7,3 +7,4 @@ pub mod Kept
 pub mod Beginning
 pub mod Sets
 pub mod Standing
+pub mod Taken

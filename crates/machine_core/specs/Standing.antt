@@ -90,3 +90,11 @@ pub record HasBegun (objects : Vec (List ℕ × Object)) (limit : ℕ) (m : Mach
   pub able : m.lacks ≡ false
   pub ready : m.running.doing ≡ Ready
   pub outbox : m.outcome.outbox.items ≡ []
+
+-- Memory ran out in a quantum: nothing was told, and the process could still go on.
+pub record Stopped (old new : Machine) : Type 0 where
+  pub journal : new.journal.items ≡ old.journal.items
+  pub told : told new ≡ told old
+  pub outbox : (link : ℕ) → waiting new link ≡ waiting old link
+  pub ready : new.running.doing ≡ Ready
+  pub same : SameProgram old new

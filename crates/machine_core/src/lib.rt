@@ -8,7 +8,7 @@
 //! `specs/` in the order of reading: `Journal` (what happens, and the state that a journal leads to), `Frames` (the requests), `Ends` (how
 //! a run has ended), `Translated` (a replay here is one of process_model), `Beginning` and `Running` (the data of the program as the
 //! definitions have it, and what an instruction and a reply tell), `Kept` (what a machine keeps), `Sets` (it has one proof), `Standing`
-//! (what calls do to a machine).
+//! (what calls do to a machine), `Taken` (which replies are taken).
 //!
 //! `opening` makes the world that an object opens with, `running` runs instructions and hears replies, `outcome` keeps what was told,
 //! `machine` enters quanta and replies, `reply` reads replies, `standing` answers questions.
@@ -26,7 +26,7 @@ mod standing;
 
 pub use end::End;
 pub use event::{Event, Journal};
-pub use laws::journals_translate;
+pub use laws::{journals_translate, replies_happen};
 pub use machine::{Machine, Setup};
 pub use opening::StartFault;
 pub use outcome::{Broken, Faulted, Outcome};

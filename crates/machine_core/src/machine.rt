@@ -51,7 +51,7 @@ fn cut_of(count: u32) -> Option<u32>
 }
 
 impl Machine {
-    ghost use Rattle.machine_core.specs.Standing.{HasBegun, CanGo, Entered, Unchanged, IsRefused, wants_memory, SameOthers};
+    ghost use Rattle.machine_core.specs.Standing.{HasBegun, CanGo, Entered, Stopped, Unchanged, IsRefused, wants_memory, SameOthers};
     ghost use Rattle.machine_core.specs.Journal.{start_of};
     ghost use Rattle.machine_core.specs.Kept.{HasRoom, SameOutcome};
 
@@ -97,6 +97,7 @@ impl Machine {
         requires ready { CanGo self.old pid }
         requires left { self.old.entered < self.old.limit }
         ensures went { OnOk result ((count : ℕ) × Entered self.old self.new (Event.Quantum pid count)) }
+        ensures stopped { OnErr result (Stopped self.old self.new) }
         ensures lacks { self.new.lacks ≡ is_err result }
     {
         let Ok(()) = self.outcome.make_room() else {

@@ -1,12 +1,12 @@
 use Rattle.std.proofs.Common.{◌++◌, true, refl, sym, ap, ◌∙◌, subst, arith, map}
 use Rattle.dis_control_ops.specs.View.{codes_of}
 use Rattle.machine_core.specs.declared.running.Turn.TheVariants as turn
-use Rattle.machine_core.specs.Running.{told_by, HadTurns}
+use Rattle.machine_core.specs.Running.{told_by, stands_after, HadTurns}
 use Rattle.machine_core.specs.Frames.{requests}
 use Rattle.machine_core.specs.Ends.{breaches}
 use Rattle.machine_core.specs.Kept.{IsKept, told_after, frames_on, view_broken}
 use Rattle.machine_core.proofs.Traces.{requests_more}
-use Rattle.machine_core.proofs.Keeping.{Told, keeps_same, ready_lives, quantum_kept, cut_kept, told_more}
+use Rattle.machine_core.proofs.Keeping.{Told, keeps_same, ready_lives, quantum_kept, cut_kept, cut_told, told_more}
 use Rattle.machine_core.proofs.machine.Machine.quantum.Goals as goal
 
 pub tell-requires : goal.tell-requires
@@ -63,3 +63,19 @@ returns-in_default-last-clause-went c =
         same = (refl, refl);
       },
     )
+
+pub returns-in-NoMemory-clause-stopped : goal.returns-in-NoMemory-clause-stopped
+returns-in-NoMemory-clause-stopped c =
+    let m = c.args.self.now in
+    let t = c.run-count in
+    let objects = codes_of m.objects.items in
+    let had : HadTurns objects m.running t.new.self t.result.count turn.NoMemory =
+    subst (λ l. HadTurns objects m.running t.new.self t.result.count l) c.in-NoMemory.is
+    (subst (λ os. HadTurns (codes_of os) m.running t.new.self t.result.count t.result.last) c.deref.ensures.value t.ensures.turns) in
+    record {
+      journal = refl;
+      told = ap (λ n. told_after objects m.journal.items n) c.cut_of-self.ensures ∙ cut_told objects m.limit m.journal.items m.entered m.cut m.lacks m.running t.new.self m.outcome m.kept c.requires.able t.result.count had;
+      outbox = λ link. ap (frames_on link) c.in-Ok.ensures.same.outbox;
+      ready = t.ensures.stands ∙ ap stands_after c.in-NoMemory.is;
+      same = (refl, refl);
+    }
