@@ -1,2 +1,11 @@
 pub mod Translation
 pub mod Replies
+pub mod Turning
+pub mod Stopping
+pub mod Traces
+pub mod Entering
+pub mod Keeping
+pub mod Outbox
+pub mod Numbers
+pub mod Taking
+pub mod Hearing

@@ -1,5 +1,5 @@
 -- The reply that bytes are, and what is decoded of them.
-use Rattle.std.proofs.Common.{◌≡◌, ℕ, ◌-◌, ◌≤◌, Bool, true, false, List, [], ◌++◌, length, take, drop, Option, Some, None, refl, sym, ap, subst, ◌∙◌, arith, rules, tests, if◌then◌else◌}
+use Rattle.std.proofs.Common.{◌≡◌, ℕ, ◌-◌, ◌≤◌, Bool, true, false, List, [], ◌++◌, length, take, drop, Option, Some, None, Result, Ok, Err, inl, inr, refl, sym, ap, subst, ◌∙◌, arith, rules, tests, if◌then◌else◌}
 use Rattle.std.specs.Prelude.{nat_le, ◌==◌, ◌&&◌}
 use Rattle.std.proofs.lemmas.List.{append-nil, length-drop, take_all, nil_from_length}
 use Rattle.byteorder.specs.Endian.{little_number}
@@ -7,7 +7,11 @@ use Rattle.styx_msg.specs.declared.message.Rmsg.{Rmsg}
 use Rattle.styx_msg.specs.declared.kind.RKind.{RKind}
 use Rattle.styx_msg.specs.Styx.{r_row, fields_bytes, Begins, stated_size, stated_type}
 use Rattle.styx_msg.specs.Reading.{r_number, r_kind_of, r_body_at}
-use Rattle.styx_msg.specs.Decoding.{IsFrame}
+use Rattle.styx_msg.specs.declared.fault.StyxFault.{StyxFault}
+use Rattle.styx_msg.specs.declared.fault.StyxFault.TheVariants.{NoMemory}
+use Rattle.styx_msg.specs.declared.message.Decoded.{Decoded}
+use Rattle.styx_msg.specs.declared.message.Decoded.TheVariants.{Whole, Short}
+use Rattle.styx_msg.specs.Decoding.{IsFrame, OrNoMemory}
 use Rattle.styx_msg.proofs.Fields.{IsBytes}
 use Rattle.styx_msg.proofs.Rows.{r_kind_is, r_direction}
 use Rattle.styx_msg.proofs.Frames.{framed, determined}
@@ -93,3 +97,33 @@ module _ (bytes : List ℕ) (fits : IsBytes bytes) (r : Tagged) where
       by_size : (z : Bool) → has_size bytes ≡ z → (if z then r_kind_of (stated_type bytes) >>= (λ kind. r_body_at kind (drop 7 bytes) >>= whole tag_in) else None) ≡ Some r → Begins r_row bytes r.tag r.reply (length bytes)
       by_size false s e = absurd cc
       by_size true s e = by_kind (r_kind_of (stated_type bytes)) s refl e
+
+-- ---- what is decoded
+
+pub reads_at : (bytes : List ℕ) (tag used : ℕ) (m : Rmsg) → Begins r_row bytes tag m used → used ≡ length bytes → reply_in bytes ≡ Some (record { tag = tag; reply = m })
+reads_at bytes tag used m b e = reads bytes tag m (subst (λ n. Begins r_row bytes tag m n) e b)
+
+-- Where none is decoded, bytes are no reply.
+pub no_reply : (bytes : List ℕ) → IsBytes bytes → (result : Result (Decoded Rmsg) StyxFault) → ((tag : ℕ) (m : Rmsg) (used : ℕ) → Begins r_row bytes tag m used → OrNoMemory result (Ok (Whole tag m used))) →
+    ((tag : ℕ) (m : Rmsg) → result ≡ Ok (Whole tag m (length bytes)) → ⊥) → (result ≡ Err NoMemory → ⊥) → reply_in bytes ≡ None
+no_reply bytes fits result decodes other enough = go (reply_in bytes) refl
+  where
+    none : (tag : ℕ) (m : Rmsg) → OrNoMemory result (Ok (Whole tag m (length bytes))) → ⊥
+    none tag m (inl e) = other tag m e
+    none tag m (inr e) = enough e
+
+    go : (o : Option Tagged) → reply_in bytes ≡ o → o ≡ None
+    go None e = refl
+    go (Some r) e = absurd (none r.tag r.reply (decodes r.tag r.reply (length bytes) (spells bytes fits r e)))
+
+-- How many bytes were decoded.
+abbrev pub used_of : Result (Decoded Rmsg) StyxFault → ℕ
+used_of (Ok (Whole tag m used)) = used
+used_of (Ok Short) = 0
+used_of (Err e) = 0
+
+pub same_used : (result : Result (Decoded Rmsg) StyxFault) (d : Decoded Rmsg) (tag tag' used used' : ℕ) (m m' : Rmsg) → result ≡ Ok d → d ≡ Whole tag m used → result ≡ Ok (Whole tag' m' used') → used ≡ used'
+same_used result d tag tag' used used' m m' i f e = sym (ap (λ d. used_of (Ok d)) f) ∙ ap used_of (sym i ∙ e)
+
+pub ok_not_err : (result : Result (Decoded Rmsg) StyxFault) (d : Decoded Rmsg) (e : StyxFault) → result ≡ Ok d → result ≡ Err e → ⊥
+ok_not_err result d e h k = let both : Ok d ≡ Err e = sym h ∙ k in absurd cc

@@ -45,6 +45,10 @@ pub record Tagged : Type 0 where
   pub tag : ℕ
   pub reply : Rmsg
 
+-- A tag and a reply.
+abbrev pub tagged : ℕ × Rmsg → Tagged
+tagged p = record { tag = p.0; reply = p.1 }
+
 -- Bytes that are as many as their size says, which stands in the first four. A message has 7 to 8,216.
 abbrev pub has_size : List ℕ → Bool
 has_size bytes = nat_le 7 (length bytes) && (nat_le (length bytes) 8216 && (stated_size bytes == length bytes))

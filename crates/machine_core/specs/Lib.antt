@@ -2,3 +2,9 @@ pub mod Journal
 pub mod Frames
 pub mod Ends
 pub mod Translated
+pub mod Running
+pub mod Kept
+pub mod Beginning
+pub mod Sets
+pub mod Standing
+pub mod Taken

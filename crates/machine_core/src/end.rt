@@ -12,7 +12,7 @@ pub enum End {
     /// A block or a reference past the limits of the heap was needed. No such limit can be met yet, so this isn't answered.
     HeapFull,
     /// A process came to a wrong instruction, at this place of its code; the number says what is wrong with it.
-    Faulted { number: u32, pc: u32 },
+    Faulted { number: u32, pc: u64 },
     /// Memory ran out.
     NoMemory,
 }

@@ -1,0 +1,100 @@
+-- A machine, as its journal has it.
+use Rattle.std.specs.Prelude.{◌≡◌, ℕ, Bool, true, false, None, Result, Ok, Err, List, [], ◌∷◌, ◌++◌}
+use Rattle.std.specs.Global.{Vec}
+use Rattle.limbo_meaning.specs.Runs.{Trace}
+use Rattle.dis_file.specs.declared.object.Object.{Object}
+use Rattle.dis_control_ops.specs.View.{codes_of}
+use Rattle.machine_core.specs.declared.event.Event.{Event}
+use Rattle.machine_core.specs.declared.event.Event.TheVariants as event
+use Rattle.machine_core.specs.declared.machine.Machine.{Machine}
+use Rattle.machine_core.specs.declared.reply.ReplyFault.{ReplyFault}
+use Rattle.machine_core.specs.declared.reply.ReplyFault.TheVariants.{NoMemory, Refused}
+use Rattle.machine_core.specs.declared.running.Doing.TheVariants.{Ready}
+use Rattle.machine_core.specs.Journal.{State, happens}
+use Rattle.machine_core.specs.Running.{state_with}
+use Rattle.machine_core.specs.Frames.{requests}
+use Rattle.machine_core.specs.Kept.{told_after, frames_on}
+
+abbrev pub codes : Machine → List Object
+codes m = codes_of m.objects.items
+
+-- What was told so far, and the state that its journal leads to.
+abbrev pub told : Machine → Trace
+told m = told_after (codes m) m.journal.items m.cut
+
+abbrev pub state : Machine → State
+state m = state_with m.running (told m)
+
+-- The frames of a link's requests that weren't handed over yet.
+abbrev pub waiting : Machine → (link : ℕ) → List (List ℕ)
+waiting m link = frames_on link m.outcome.outbox.items
+
+-- The process of this number can go on.
+abbrev pub CanGo : Machine → (pid : ℕ) → Type 0
+CanGo m pid = (pid ≡ 1) × (m.running.doing ≡ Ready)
+
+-- It runs the same objects, within the same limit.
+abbrev pub SameProgram : (old new : Machine) → Type 0
+SameProgram old new = (new.objects ≡ old.objects) × (new.limit ≡ old.limit)
+
+-- What was asked on a link since, all of which is still to be handed over.
+pub record AskedSince (old new : Machine) (link : ℕ) : Type 0 where
+  pub more : List (List ℕ)
+  pub asked : requests link (told new) ≡ requests link (told old) ++ more
+  pub outbox : waiting new link ≡ waiting old link ++ more
+
+-- The event happened, and is one more of the journal.
+pub record Entered (old new : Machine) (e : Event) : Type 0 where
+  pub journal : new.journal.items ≡ old.journal.items ++ e ∷ []
+  pub asked : (link : ℕ) → AskedSince old new link
+  pub same : SameProgram old new
+
+-- Nothing happened.
+pub record Unchanged (old new : Machine) : Type 0 where
+  pub journal : new.journal.items ≡ old.journal.items
+  pub state : state new ≡ state old
+  pub outbox : (link : ℕ) → waiting new link ≡ waiting old link
+  pub same : SameProgram old new
+
+-- All but the room is the same.
+pub record SameOthers (old new : Machine) : Type 0 where
+  pub running : new.running ≡ old.running
+  pub entered : new.entered ≡ old.entered
+  pub cut : new.cut ≡ old.cut
+  pub lacks : new.lacks ≡ old.lacks
+  pub same : SameProgram old new
+
+-- A reply that is refused comes back, and is no event that can happen.
+abbrev pub IsRefused : Machine → (link : ℕ) → List ℕ → ReplyFault → Type 0
+IsRefused m link frame NoMemory = Unit {0}
+IsRefused m link frame (Refused back) = (back.items ≡ frame) × (happens (codes m) (state m) (event.Reply link frame) ≡ None)
+
+-- Whether memory ran out.
+abbrev pub wants_memory : Result (Unit {0}) ReplyFault → Bool
+wants_memory (Ok u) = false
+wants_memory (Err NoMemory) = true
+wants_memory (Err (Refused back)) = false
+
+-- All but the requests to be handed over is the same.
+pub record OnlyOutbox (old new : Machine) : Type 0 where
+  pub journal : new.journal.items ≡ old.journal.items
+  pub state : state new ≡ state old
+  pub cut : new.cut ≡ old.cut
+  pub lacks : new.lacks ≡ old.lacks
+  pub same : SameProgram old new
+
+-- A machine that has begun: nothing happened yet, and nothing is to be handed over.
+pub record HasBegun (objects : Vec (List ℕ × Object)) (limit : ℕ) (m : Machine) : Type 0 where
+  pub same : (m.objects ≡ objects) × (m.limit ≡ limit)
+  pub journal : m.journal.items ≡ []
+  pub able : m.lacks ≡ false
+  pub ready : m.running.doing ≡ Ready
+  pub outbox : m.outcome.outbox.items ≡ []
+
+-- Memory ran out in a quantum: nothing was told, and the process could still go on.
+pub record Stopped (old new : Machine) : Type 0 where
+  pub journal : new.journal.items ≡ old.journal.items
+  pub told : told new ≡ told old
+  pub outbox : (link : ℕ) → waiting new link ≡ waiting old link
+  pub ready : new.running.doing ≡ Ready
+  pub same : SameProgram old new

@@ -1,0 +1,150 @@
+//! The process that runs, and its instructions.
+
+ghost use Rattle.std.specs.Prelude.{◌≡◌, ◌<◌, ◌≤◌, List, IfSome, MatchOption};
+ghost use Rattle.dis_file.specs.declared.object.Object.{Object as Code};
+ghost use Rattle.dis_control_ops.specs.View.{codes_of};
+ghost use Rattle.machine_core.specs.Running.{stands_after, stands_heard, IsTurn, HadTurns, IsHeard, NotHeard};
+
+use dis_control_ops::{Heard, Proc, Stepped, Store, answer, step};
+use dis_file::Object;
+use inf_text::Text;
+use std::alloc::Global;
+use styx_msg::Rmsg;
+use sys_print::Request;
+
+/// How many frames a process may have.
+const FRAMES_LIMIT: usize = 10_000;
+
+/// How many instructions the longest quantum has.
+const LONGEST: u32 = 2048;
+
+/// Where a process stands.
+#[derive(Clone, Copy, PartialEq, Eq, Debug)]
+pub enum Doing {
+    /// It can go on.
+    Ready,
+    /// It waits for a reply.
+    Asking,
+    /// It is over.
+    Gone,
+}
+
+/// The process that runs, and what processes share.
+#[derive(Drop)]
+pub struct Running {
+    pub process: Proc,
+    pub doing: Doing,
+    pub store: Store,
+}
+
+/// What an instruction came to.
+#[derive(Drop)]
+pub(crate) enum Turn {
+    Went,
+    Asked(Request),
+    Ended,
+    Broken(Text),
+    Fault { number: u32, pc: u64 },
+    NoMemory,
+}
+
+/// What a row of instructions came to: how many they were, and what the last one did.
+#[derive(Drop)]
+pub(crate) struct Turns {
+    pub count: u32,
+    pub last: Turn,
+}
+
+impl Running {
+    /// Runs the next instruction of a process that is ready.
+    fn turn(&mut self, alloc: Global, objects: &[(Text, Object)]) -> Turn
+        requires { self.old.doing ≡ Doing.Ready }
+        ensures turn { IsTurn (codes_of objects.now) self.old self.new result }
+        ensures stands { self.new.doing ≡ stands_after result }
+    {
+        let pc = self.process.frame.pc;
+        match step(
+            alloc,
+            FRAMES_LIMIT,
+            objects,
+            &mut self.store,
+            &mut self.process,
+        ) {
+            Stepped::Went => Turn::Went,
+            Stepped::Asked(request) => {
+                self.doing = Doing::Asking;
+                Turn::Asked(request)
+            }
+            Stepped::Ended => {
+                self.doing = Doing::Gone;
+                Turn::Ended
+            }
+            Stepped::Broken(text) => {
+                self.doing = Doing::Gone;
+                Turn::Broken(text)
+            }
+            Stepped::Fault(fault) => {
+                self.doing = Doing::Gone;
+                Turn::Fault {
+                    number: fault.number(),
+                    pc: pc as u64,
+                }
+            }
+            Stepped::NoMemory => Turn::NoMemory,
+        }
+    }
+
+    /// Runs a process that is ready until it isn't, has had the longest quantum, or is refused memory.
+    pub(crate) fn run(&mut self, alloc: Global, objects: &[(Text, Object)]) -> Turns
+        requires { self.old.doing ≡ Doing.Ready }
+        ensures turns { HadTurns (codes_of objects.now) self.old self.new result.count result.last }
+        ensures few { result.count ≤ 2048 }
+        ensures some { result.count ≡ 0 → result.last ≡ Turn.NoMemory }
+        ensures longest { result.last ≡ Turn.Went → result.count ≡ 2048 }
+        ensures stands { self.new.doing ≡ stands_after result.last }
+    {
+        let mut count = 0;
+        while count < LONGEST {
+            let last = self.turn(alloc, objects);
+            match last {
+                Turn::Went => count += 1,
+                Turn::NoMemory => return Turns { count, last },
+                Turn::Asked(_) | Turn::Ended | Turn::Broken(_) | Turn::Fault { .. } => {
+                    return Turns {
+                        count: count + 1,
+                        last,
+                    };
+                }
+            }
+        }
+        Turns {
+            count,
+            last: Turn::Went,
+        }
+    }
+
+    /// What a reply does to a process that waits for one, or `None` where it is none to the process's request.
+    pub(crate) fn hear(&mut self, alloc: Global, reply: &Rmsg) -> Option<Turn>
+        requires { self.old.doing ≡ Doing.Asking }
+        ensures heard { (objects : List Code) → MatchOption result (NotHeard objects reply.now self.old self.new) (IsHeard objects reply.now self.old self.new) }
+        ensures stands { IfSome result (λ t. self.new.doing ≡ stands_heard t) }
+    {
+        let pc = self.process.frame.pc;
+        match answer(alloc, reply, &mut self.store, &mut self.process) {
+            Heard::Went => {
+                self.doing = Doing::Ready;
+                Some(Turn::Went)
+            }
+            Heard::Asked(request) => Some(Turn::Asked(request)),
+            Heard::Fault(fault) => {
+                self.doing = Doing::Gone;
+                Some(Turn::Fault {
+                    number: fault.number(),
+                    pc: pc as u64,
+                })
+            }
+            Heard::Refused => None,
+            Heard::NoMemory => Some(Turn::NoMemory),
+        }
+    }
+}

@@ -1,0 +1,135 @@
+//! Where a machine stands, what it hands over, and what is left of it.
+
+ghost use Rattle.std.specs.Prelude.{◌≡◌, ◌≢◌, ◌↔◌, ◌++◌, ◌∷◌, [], ℕ, false, map, IsTrue, MatchOption};
+ghost use Rattle.dis_meaning.specs.Process.{Process};
+ghost use Rattle.machine_core.specs.Kept.{frames_on, IsOldest};
+
+use crate::end::End;
+use crate::event::{Event, Journal};
+use crate::machine::Machine;
+use crate::outcome::Broken;
+use crate::running::{Doing, Running};
+use dis_file::Object;
+use inf_text::{Seq, Text};
+use sys_print::Request;
+
+impl Running {
+    ghost use Rattle.machine_core.specs.Running.{view_doing};
+    ghost use Rattle.machine_core.specs.Ends.{is_live};
+
+    /// Whether the process isn't over.
+    fn is_live(&self) -> bool
+        ensures { (p : Process) → result ≡ is_live (view_doing self.now.doing p) }
+    {
+        match self.doing {
+            Doing::Ready | Doing::Asking => true,
+            Doing::Gone => false,
+        }
+    }
+}
+
+/// The place of the oldest request of a link.
+fn oldest(requests: &[Request], link: u32) -> Option<usize>
+    ensures { MatchOption result (frames_on link requests.now ≡ []) (IsOldest link requests.now) }
+{
+    for place in 0..requests.len() {
+        if requests[place].link == link {
+            return Some(place);
+        }
+    }
+    None
+}
+
+impl Machine {
+    ghost use Rattle.machine_core.specs.Journal.{cut_events, quanta, IsSound};
+    ghost use Rattle.machine_core.specs.Ends.{breaches, end_of};
+    ghost use Rattle.machine_core.specs.Kept.{view_broken};
+    ghost use Rattle.machine_core.specs.Standing.{CanGo, codes, told, state, waiting, OnlyOutbox};
+
+    /// The number of a process that can go on, or `None` where there is none.
+    pub fn ready(&self) -> Option<u32>
+        ensures { MatchOption result ((pid : ℕ) → CanGo self.now pid → ⊥) (CanGo self.now) }
+    {
+        match self.running.doing {
+            Doing::Ready => Some(1),
+            Doing::Asking | Doing::Gone => None,
+        }
+    }
+
+    /// Whether a process of this number can go on.
+    pub fn is_ready(&self, pid: u32) -> bool
+        ensures { IsTrue result ↔ CanGo self.now pid }
+    {
+        pid == 1 && self.running.doing == Doing::Ready
+    }
+
+    /// How the run has ended, or `None` where it goes on.
+    pub fn ended(&self) -> Option<End>
+        ensures { result ≡ end_of self.now.lacks self.now.limit (quanta self.now.journal.items) (state self.now) }
+    {
+        if self.lacks {
+            return Some(End::NoMemory);
+        }
+        let live = self.running.is_live();
+        if live && self.entered >= self.limit {
+            return Some(End::Limit);
+        }
+        if let Some(fault) = self.outcome.fault {
+            return Some(End::Faulted {
+                number: fault.number,
+                pc: fault.pc,
+            });
+        }
+        if live {
+            return None;
+        }
+        if self.outcome.broken.is_empty() {
+            Some(End::Done)
+        } else {
+            Some(End::Broke)
+        }
+    }
+
+    /// The processes that broke, in order.
+    pub fn broken(&self) -> &[Broken]
+        ensures { map view_broken result.now ≡ breaches (told self.now) }
+    {
+        &self.outcome.broken
+    }
+
+    /// The oldest request of a link that wasn't handed over yet, or `None` where there is none.
+    pub fn next_frame(&mut self, link: u32) -> Option<Vec<u8>>
+        ensures frame { MatchOption result ((waiting self.old link ≡ []) × (waiting self.new link ≡ [])) (λ f. waiting self.old link ≡ f.items ∷ waiting self.new link) }
+        ensures others { (other : ℕ) → other ≢ link → waiting self.new other ≡ waiting self.old other }
+        ensures kept { OnlyOutbox self.old self.new }
+    {
+        let place = oldest(&self.outcome.outbox, link)?;
+        let request = self.outcome.outbox.remove(place);
+        Some(request.frame)
+    }
+
+    /// The journal, and the objects that the machine ran.
+    pub fn into_parts(self) -> (Journal, Vec<(Text, Object)>)
+        ensures journal { result.0.events ≡ self.journal.items ++ cut_events self.cut }
+        ensures objects { result.1 ≡ self.objects }
+        ensures sound { self.lacks ≡ false → IsSound (codes self) self.limit result.0.events (state self) }
+    {
+        let Machine {
+            objects,
+            limit: _,
+            running,
+            outcome,
+            mut journal,
+            entered: _,
+            cut,
+            lacks: _,
+        } = self;
+        drop(running);
+        drop(outcome);
+        if let Some(count) = cut {
+            journal.push_reserved(Event::Quantum { pid: 1, count });
+        }
+        let events = Seq::from_vec(journal);
+        (Journal { events }, objects)
+    }
+}
