@@ -9,3 +9,4 @@ pub mod Outbox
 pub mod Numbers
 pub mod Taking
 pub mod Hearing
+pub mod Asks

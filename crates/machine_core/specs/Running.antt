@@ -12,6 +12,8 @@ use Rattle.limbo_meaning.specs.Process.{Ended, Broken, Faulted}
 use Rattle.limbo_meaning.specs.Runs.{Trace}
 use Rattle.sys_print.specs.Printing.{view_request}
 use Rattle.dis_meaning.specs.Process.{Process}
+use Rattle.dis_control_ops.specs.declared.process.Asking.{Asking}
+use Rattle.dis_control_ops.specs.Outcomes.{IsAsked}
 use Rattle.dis_control_ops.specs.View.{view_process, view_world}
 use Rattle.machine_core.specs.declared.event.Event.TheVariants as code
 use Rattle.machine_core.specs.declared.running.Doing.{Doing}
@@ -104,3 +106,8 @@ reply_event (Some a) = Some (Reply 0 a)
 
 abbrev pub MeansReply : Running → (link : ℕ) → List ℕ → Option Rmsg → Type 0
 MeansReply r link frame o = (told : Trace) → meant (state_with r told) (code.Reply link frame) ≡ reply_event o
+
+-- What is asked is a message of the print that then waits for its reply.
+abbrev pub Sent : Turn → Option Asking → Type 0
+Sent (turn.Asked m) printing = IsAsked m printing
+Sent _ printing = Unit {0}

@@ -1,14 +1,18 @@
 -- A machine, as its journal has it.
-use Rattle.std.specs.Prelude.{◌≡◌, ℕ, Bool, true, false, None, Result, Ok, Err, List, [], ◌∷◌, ◌++◌}
+use Rattle.std.specs.Prelude.{◌≡◌, ℕ, Bool, true, false, Option, None, Some, Result, Ok, Err, List, [], ◌∷◌, ◌++◌}
 use Rattle.std.specs.Global.{Vec}
 use Rattle.limbo_meaning.specs.Runs.{Trace}
 use Rattle.dis_file.specs.declared.object.Object.{Object}
+use Rattle.sys_print.specs.Sent.{IsSent}
+use Rattle.dis_control_ops.specs.declared.process.Asking.{Asking}
 use Rattle.dis_control_ops.specs.View.{codes_of}
 use Rattle.machine_core.specs.declared.event.Event.{Event}
 use Rattle.machine_core.specs.declared.event.Event.TheVariants as event
 use Rattle.machine_core.specs.declared.machine.Machine.{Machine}
 use Rattle.machine_core.specs.declared.reply.ReplyFault.{ReplyFault}
 use Rattle.machine_core.specs.declared.reply.ReplyFault.TheVariants.{NoMemory, Refused}
+use Rattle.machine_core.specs.declared.running.Doing.{Doing}
+use Rattle.machine_core.specs.declared.running.Doing.TheVariants as doing
 use Rattle.machine_core.specs.declared.running.Doing.TheVariants.{Ready}
 use Rattle.machine_core.specs.Journal.{State, happens}
 use Rattle.machine_core.specs.Running.{state_with}
@@ -77,6 +81,7 @@ wants_memory (Err (Refused back)) = false
 
 -- All but the requests to be handed over is the same.
 pub record OnlyOutbox (old new : Machine) : Type 0 where
+  pub running : new.running ≡ old.running
   pub journal : new.journal.items ≡ old.journal.items
   pub state : state new ≡ state old
   pub cut : new.cut ≡ old.cut
@@ -98,3 +103,14 @@ pub record Stopped (old new : Machine) : Type 0 where
   pub outbox : (link : ℕ) → waiting new link ≡ waiting old link
   pub ready : new.running.doing ≡ Ready
   pub same : SameProgram old new
+
+-- What is to be handed over to the console: as before; and where the process waits now, its request too, which is a Twrite under the tag
+-- and of the length that its print knows.
+abbrev pub AsksMore : (old new : List (List ℕ)) → Doing → Option Asking → Type 0
+AsksMore old new doing.Ready printing = new ≡ old
+AsksMore old new doing.Gone printing = new ≡ old
+AsksMore old new doing.Asking None = ⊥
+AsksMore old new doing.Asking (Some a) = (f : List ℕ) × (new ≡ old ++ f ∷ []) × IsSent f a.writing.tag a.writing.asked
+
+abbrev pub Asks : (old new : Machine) → Type 0
+Asks old new = AsksMore (waiting old 1) (waiting new 1) new.running.doing new.running.process.printing

@@ -2,7 +2,7 @@
 //!
 //! `Machine::start` begins with an object. `quantum` runs a process that is ready, `take_reply` enters a reply, `next_frame` hands over
 //! the oldest request of a link; `ready` and `is_ready` say which process can go on, `ended` how the run has ended, and `broken` which
-//! processes broke; `into_parts` gives the journal and the objects. A machine keeps by its type, in the field `kept`, that its journal
+//! processes broke; `into_parts` gives the journal, the objects and the processes that broke. A machine keeps by its type, in the field `kept`, that its journal
 //! is sound and leads to the state that it is in: what a run did is told by its journal alone.
 //!
 //! `specs/` in the order of reading: `Journal` (what happens, and the state that a journal leads to), `Frames` (the requests), `Ends` (how
@@ -32,3 +32,4 @@ pub use opening::StartFault;
 pub use outcome::{Broken, Faulted, Outcome};
 pub use reply::ReplyFault;
 pub use running::{Doing, Running};
+pub use standing::Parts;

@@ -51,7 +51,7 @@ fn cut_of(count: u32) -> Option<u32>
 }
 
 impl Machine {
-    ghost use Rattle.machine_core.specs.Standing.{HasBegun, CanGo, Entered, Stopped, Unchanged, IsRefused, wants_memory, SameOthers};
+    ghost use Rattle.machine_core.specs.Standing.{HasBegun, CanGo, Entered, Stopped, Unchanged, IsRefused, wants_memory, SameOthers, Asks};
     ghost use Rattle.machine_core.specs.Journal.{start_of};
     ghost use Rattle.machine_core.specs.Kept.{HasRoom, SameOutcome};
 
@@ -97,6 +97,7 @@ impl Machine {
         requires ready { CanGo self.old pid }
         requires left { self.old.entered < self.old.limit }
         ensures went { OnOk result ((count : ℕ) × Entered self.old self.new (Event.Quantum pid count)) }
+        ensures asks { OnOk result (Asks self.old self.new) }
         ensures stopped { OnErr result (Stopped self.old self.new) }
         ensures lacks { self.new.lacks ≡ is_err result }
     {
@@ -141,6 +142,7 @@ impl Machine {
     pub fn take_reply(&mut self, alloc: Global, link: u32, frame: Vec<u8>) -> Result<(), ReplyFault>
         requires able { self.old.lacks ≡ false }
         ensures entered { OnOk result (Entered self.old self.new (Event.Reply link frame.items)) }
+        ensures asks { OnOk result (Asks self.old self.new) }
         ensures unchanged { OnErr result (Unchanged self.old self.new) }
         ensures refused { IfErr result (IsRefused self.old link frame.items) }
         ensures lacks { self.new.lacks ≡ wants_memory result }

@@ -3,7 +3,7 @@
 ghost use Rattle.std.specs.Prelude.{◌≡◌, ◌<◌, ◌≤◌, List, IfSome, MatchOption};
 ghost use Rattle.dis_file.specs.declared.object.Object.{Object as Code};
 ghost use Rattle.dis_control_ops.specs.View.{codes_of};
-ghost use Rattle.machine_core.specs.Running.{stands_after, stands_heard, IsTurn, HadTurns, IsHeard, NotHeard};
+ghost use Rattle.machine_core.specs.Running.{stands_after, stands_heard, IsTurn, HadTurns, IsHeard, NotHeard, Sent};
 
 use dis_control_ops::{Heard, Proc, Stepped, Store, answer, step};
 use dis_file::Object;
@@ -61,6 +61,7 @@ impl Running {
         requires { self.old.doing ≡ Doing.Ready }
         ensures turn { IsTurn (codes_of objects.now) self.old self.new result }
         ensures stands { self.new.doing ≡ stands_after result }
+        ensures sent { Sent result self.new.process.printing }
     {
         let pc = self.process.frame.pc;
         match step(
@@ -102,6 +103,7 @@ impl Running {
         ensures some { result.count ≡ 0 → result.last ≡ Turn.NoMemory }
         ensures longest { result.last ≡ Turn.Went → result.count ≡ 2048 }
         ensures stands { self.new.doing ≡ stands_after result.last }
+        ensures sent { Sent result.last self.new.process.printing }
     {
         let mut count = 0;
         while count < LONGEST {
@@ -128,6 +130,7 @@ impl Running {
         requires { self.old.doing ≡ Doing.Asking }
         ensures heard { (objects : List Code) → MatchOption result (NotHeard objects reply.now self.old self.new) (IsHeard objects reply.now self.old self.new) }
         ensures stands { IfSome result (λ t. self.new.doing ≡ stands_heard t) }
+        ensures sent { IfSome result (λ t. Sent t self.new.process.printing) }
     {
         let pc = self.process.frame.pc;
         match answer(alloc, reply, &mut self.store, &mut self.process) {

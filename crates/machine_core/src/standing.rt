@@ -13,6 +13,14 @@ use dis_file::Object;
 use inf_text::{Seq, Text};
 use sys_print::Request;
 
+/// What is left of a machine: its journal, the objects that it ran, and the processes that broke, in order.
+#[derive(Drop)]
+pub struct Parts {
+    pub journal: Journal,
+    pub objects: Vec<(Text, Object)>,
+    pub broken: Vec<Broken>,
+}
+
 impl Running {
     ghost use Rattle.machine_core.specs.Running.{view_doing};
     ghost use Rattle.machine_core.specs.Ends.{is_live};
@@ -108,11 +116,12 @@ impl Machine {
         Some(request.frame)
     }
 
-    /// The journal, and the objects that the machine ran.
-    pub fn into_parts(self) -> (Journal, Vec<(Text, Object)>)
-        ensures journal { result.0.events ≡ self.journal.items ++ cut_events self.cut }
-        ensures objects { result.1 ≡ self.objects }
-        ensures sound { self.lacks ≡ false → IsSound (codes self) self.limit result.0.events (state self) }
+    /// What is left of the machine.
+    pub fn into_parts(self) -> Parts
+        ensures journal { result.journal.events ≡ self.journal.items ++ cut_events self.cut }
+        ensures objects { result.objects ≡ self.objects }
+        ensures broken { map view_broken result.broken.items ≡ breaches (told self) }
+        ensures sound { self.lacks ≡ false → IsSound (codes self) self.limit result.journal.events (state self) }
     {
         let Machine {
             objects,
@@ -125,11 +134,15 @@ impl Machine {
             lacks: _,
         } = self;
         drop(running);
-        drop(outcome);
         if let Some(count) = cut {
             journal.push_reserved(Event::Quantum { pid: 1, count });
         }
-        let events = Seq::from_vec(journal);
-        (Journal { events }, objects)
+        Parts {
+            journal: Journal {
+                events: Seq::from_vec(journal),
+            },
+            objects,
+            broken: outcome.broken,
+        }
     }
 }

@@ -1,1 +1,4 @@
 pub mod Taken
+pub mod Served
+pub mod Exchanged
+pub mod Ended

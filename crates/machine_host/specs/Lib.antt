@@ -1,1 +1,4 @@
 pub mod Replies
+pub mod Talk
+pub mod Conversation
+pub mod Leading

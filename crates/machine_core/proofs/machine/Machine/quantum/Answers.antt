@@ -7,6 +7,8 @@ use Rattle.machine_core.specs.Ends.{breaches}
 use Rattle.machine_core.specs.Kept.{IsKept, told_after, frames_on, view_broken}
 use Rattle.machine_core.proofs.Traces.{requests_more}
 use Rattle.machine_core.proofs.Keeping.{Told, keeps_same, ready_lives, quantum_kept, cut_kept, cut_told, told_more}
+use Rattle.machine_core.specs.Standing.{AsksMore}
+use Rattle.machine_core.proofs.Asks.{after_turn}
 use Rattle.machine_core.proofs.machine.Machine.quantum.Goals as goal
 
 pub tell-requires : goal.tell-requires
@@ -79,3 +81,11 @@ returns-in-NoMemory-clause-stopped c =
       ready = t.ensures.stands ∙ ap stands_after c.in-NoMemory.is;
       same = (refl, refl);
     }
+
+pub returns-in_default-last-clause-asks : goal.returns-in_default-last-clause-asks
+returns-in_default-last-clause-asks c =
+    let m = c.args.self.now in
+    let t = c.run-count in
+    let more = c.tell.ensures.asked 1 ∙ ap (λ xs. frames_on 1 xs ++ requests 1 (told_by t.result.last)) c.in-Ok.ensures.same.outbox in
+    let asks = after_turn (frames_on 1 m.outcome.outbox.items) (frames_on 1 c.tell.new.self.outbox.items) t.result.last t.new.self.process.printing c.in_default-last.not-NoMemory t.ensures.sent more in
+    subst (λ d. AsksMore (frames_on 1 m.outcome.outbox.items) (frames_on 1 c.tell.new.self.outbox.items) d t.new.self.process.printing) (sym t.ensures.stands) asks

@@ -8,6 +8,8 @@ use Rattle.machine_core.specs.Frames.{requests}
 use Rattle.machine_core.specs.Kept.{told_after, frames_on}
 use Rattle.machine_core.proofs.Traces.{requests_more}
 use Rattle.machine_core.proofs.Keeping.{Told, same_kept, reply_kept, told_reply, refused_happens}
+use Rattle.machine_core.specs.Standing.{AsksMore}
+use Rattle.machine_core.proofs.Asks.{after_reply}
 use Rattle.machine_core.proofs.machine.Machine.take_reply.Goals as goal
 
 pub invariant_of-self-in_default-hear : goal.invariant_of-self-in_default-hear
@@ -89,3 +91,11 @@ returns-in_default-heard-clause-entered c =
       };
       same = o.same;
     }
+
+pub returns-in_default-heard-clause-asks : goal.returns-in_default-heard-clause-asks
+returns-in_default-heard-clause-asks c =
+    let m = c.args.self.now in
+    let t = c.in-Some-hear.heard in
+    let more = c.tell.ensures.asked 1 ∙ ap (λ xs. frames_on 1 xs ++ requests 1 (told_by t)) c.in-Ok-make_room.ensures.same.outbox in
+    let asks = after_reply (frames_on 1 m.outcome.outbox.items) (frames_on 1 c.tell.new.self.outbox.items) t c.hear.new.self.process.printing c.in_default-heard.not-NoMemory c.in-Some-hear.ensures.sent more in
+    subst (λ d. AsksMore (frames_on 1 m.outcome.outbox.items) (frames_on 1 c.tell.new.self.outbox.items) d c.hear.new.self.process.printing) (sym c.in-Some-hear.ensures.stands) asks
