@@ -33,7 +33,12 @@ fn plains(alloc: Global, words: &[Word], from: usize, count: usize) -> Result<Ve
 }
 
 /// `movm`: as many bytes of plain words as the middle says.
-pub(crate) fn move_words(alloc: Global, store: &mut Store, proc: &mut Proc, inst: Inst) -> Result<(), Halt>
+pub(crate) fn move_words(
+    alloc: Global,
+    store: &mut Store,
+    proc: &mut Proc,
+    inst: Inst,
+) -> Result<(), Halt>
     requires { proc.old.frame.pc + 1 < 2 ^ 64 }
     ensures gives { (limit : ℕ) (o : Object) → Gives (λ _. Went (view_world store.new) (view_process proc.new)) result
         (meaning.obey limit o (view_world store.old) (view_process proc.old) inst op.Movm) }

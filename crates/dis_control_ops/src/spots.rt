@@ -47,7 +47,11 @@ fn words_of<'a>(store: &'a Store, proc: &'a Proc, place: Place) -> Result<&'a [W
 }
 
 /// The words among which the byte is.
-pub(crate) fn words_at<'a>(store: &'a Store, proc: &'a Proc, spot: Spot) -> Result<&'a [Word], Fault>
+pub(crate) fn words_at<'a>(
+    store: &'a Store,
+    proc: &'a Proc,
+    spot: Spot,
+) -> Result<&'a [Word], Fault>
     ensures { GivesFault (λ ws. view_words ws.now) result (meaning.words_at (view_world store.now) (view_process proc.now) (view_spot spot)) }
 {
     match spot {

@@ -37,7 +37,7 @@ returns-clause-kept c =
     let x = view_world c.args.store.now in
     on_err_weaker c.write_content.result
     (λ e. ap (λ bs. record { blocks = bs; outside = x.outside })
-        (map-set view_content c.args.store.now.blocks.items c.args.serial c.write_content.new.content
-        ∙ ap (λ k. slice_set x.blocks c.args.serial (view_content k)) e
-        ∙ set_itself x.blocks c.args.serial (view_content c.index_mut.result.now) (there c)))
+    (map-set view_content c.args.store.now.blocks.items c.args.serial c.write_content.new.content
+    ∙ ap (λ k. slice_set x.blocks c.args.serial (view_content k)) e
+    ∙ set_itself x.blocks c.args.serial (view_content c.index_mut.result.now) (there c)))
     c.write_content.ensures.kept

@@ -13,7 +13,7 @@ invariant_of-proc c =
     let caller : code_frame.Frame = record { serial = r.serial; instance = r.instance; pc = r.pc + 1; words = r.words } in
     record {
       once = entered_once p c.args.made c.remove-frame.result c.replace-caller.new.dest caller _ _ lt c.remove-frame.ensures.value
-      (ap (λ (f : code_frame.Frame). f.serial) c.replace-caller.ensures.after) (ap (λ (f : code_frame.Frame). f.serial) c.replace-caller.ensures.value) c.push_reserved.ensures.items c.remove-frame.ensures.items;
+          (ap (λ (f : code_frame.Frame). f.serial) c.replace-caller.ensures.after) (ap (λ (f : code_frame.Frame). f.serial) c.replace-caller.ensures.value) c.push_reserved.ensures.items c.remove-frame.ensures.items;
     }
 
 pub returns : goal.returns

@@ -19,9 +19,9 @@ returns-in-Some-clause-found c =
       frame = at.frame;
       there = at.there;
       found =
-      ap (λ w. frame_at (view_process p) (view_word w)) c.in-Address.is
-      ∙ ap (λ pl. frame_at (view_process p) (Address (view_place pl) c.in-Address.at)) c.in-Frame.is
-      ∙ made_at_place s (view_frames p.made.items) c.in-Some.k at.frame at.there at.same (omega (arith, o));
+          ap (λ w. frame_at (view_process p) (view_word w)) c.in-Address.is
+          ∙ ap (λ pl. frame_at (view_process p) (Address (view_place pl) c.in-Address.at)) c.in-Frame.is
+          ∙ made_at_place s (view_frames p.made.items) c.in-Some.k at.frame at.there at.same (omega (arith, o));
     }
 
 pub returns-in-None-clause-wrong : goal.returns-in-None-clause-wrong

@@ -41,10 +41,10 @@ loop-word-preserved c =
     let set = map-set view_word items k word in
     record {
       takes =
-      ap (λ ws. takes_all ws (k + 1) vs) set ∙ ap (λ n. takes_all (slice_set (view_words items) k v) n vs) (add-one k) ∙ takes_next (view_words items) k v vs t;
+          ap (λ ws. takes_all ws (k + 1) vs) set ∙ ap (λ n. takes_all (slice_set (view_words items) k v) n vs) (add-one k) ∙ takes_next (view_words items) k v vs t;
       whole =
-      ap (λ ws. all_replaced ws (k + 1) vs) set ∙ ap (λ n. all_replaced (slice_set (view_words items) k v) n vs) (add-one k)
-      ∙ sym (replaces_first (view_words items) k v vs t)
-      ∙ sym (at_drop_more (λ vs. all_replaced (view_words items) k (view_words vs)) c.args.new.now c.loop-word.word-index (Plain (pos 0)) c.loop-word-test.true)
-      ∙ c.loop-word.invariant.whole;
+          ap (λ ws. all_replaced ws (k + 1) vs) set ∙ ap (λ n. all_replaced (slice_set (view_words items) k v) n vs) (add-one k)
+          ∙ sym (replaces_first (view_words items) k v vs t)
+          ∙ sym (at_drop_more (λ vs. all_replaced (view_words items) k (view_words vs)) c.args.new.now c.loop-word.word-index (Plain (pos 0)) c.loop-word-test.true)
+          ∙ c.loop-word.invariant.whole;
     }
