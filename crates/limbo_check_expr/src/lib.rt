@@ -1,0 +1,6 @@
+//! The types of expressions.
+#![tactic(auto)]
+
+mod env;
+
+pub use env::{Env, Local};
