@@ -1,5 +1,5 @@
 -- The part of the language that is built so far, as tests on trees: one module of functions over int.
-use Rattle.std.specs.Prelude.{ℕ, ℤ, ◌+◌, List, [], ◌∷◌, length, Bool, true, false, not, ◌&&◌, ◌||◌, Option, None, Some, codes, nat_le, int_le, pos, if◌then◌else◌}
+use Rattle.std.specs.Prelude.{ℕ, ℤ, ◌+◌, List, [], ◌∷◌, length, Bool, true, false, not, ◌&&◌, ◌||◌, Option, None, Some, codes, int_le, pos, if◌then◌else◌}
 use Rattle.limbo_tree.specs.declared.operators.AssignOp.{AssignOp}
 use Rattle.limbo_tree.specs.declared.operators.AssignOp.TheVariants as assign
 use Rattle.limbo_tree.specs.declared.operators.BinaryOp.{BinaryOp}
@@ -102,10 +102,14 @@ abbrev pub is_plain : AssignOp → Bool
 is_plain assign.Assign = true
 is_plain _ = false
 
+-- a call of a function by its name, or a print
+abbrev pub is_call : Expr → Exprs → Bool
+is_call f es = if is_print f then are_printed es else is_named f && are_exprs es
+
 -- a statement that is an expression: an assignment to a name, a call, or a print
 abbrev pub is_action : Expr → Bool
 is_action (Assign o l r) = is_plain o && (is_named l && is_expr r)
-is_action (Call f es) = if is_print f then are_printed es else is_named f && are_exprs es
+is_action (Call f es) = is_call f es
 is_action _ = false
 
 abbrev pub is_single : {A : Type 0} → List A → Bool
@@ -250,20 +254,30 @@ abbrev pub is_definition : List ℕ → FnType → Block → Bool
 is_definition n f (Plain ss) = (is_int_fn f && are_stmts ss) || (same_text n (codes "init") && (is_init_fn f && are_stmts (behind ss)))
 is_definition n f (Handled ss m arms) = false
 
+abbrev pub is_defined : Option (List ℕ) → List ℕ → FnType → Block → Bool
+is_defined part n f b = is_none part && is_definition n f b
+
 abbrev pub is_top : List ℕ → Top → Bool
 is_top owner (Include path) = same_text path (codes "sys.m") || same_text path (codes "draw.m")
 is_top owner (Declared d) = is_top_decl owner d
-is_top owner (Defined n part f b) = is_none part && is_definition n f b
+is_top owner (Defined n part f b) = is_defined part n f b
 
 abbrev pub are_tops : List ℕ → List Top → Bool
 are_tops owner [] = true
 are_tops owner (t ∷ tops) = is_top owner t && are_tops owner tops
 
--- how many variables are declared
-abbrev pub count_variables : List Top → ℕ
-count_variables [] = 0
-count_variables (Declared (Var ns t v) ∷ tops) = count_variables tops + 1
-count_variables (t ∷ tops) = count_variables tops
+abbrev pub is_variable : Top → Bool
+is_variable (Declared (Var ns t v)) = true
+is_variable _ = false
+
+abbrev pub without_variables : List Top → Bool
+without_variables [] = true
+without_variables (t ∷ tops) = not (is_variable t) && without_variables tops
+
+-- at most one variable is declared
+abbrev pub has_few_variables : List Top → Bool
+has_few_variables [] = true
+has_few_variables (t ∷ tops) = if is_variable t then without_variables tops else has_few_variables tops
 
 abbrev pub top_prints : Top → Bool
 top_prints (Defined n part f b) = block_prints b
@@ -288,7 +302,7 @@ tops_load (t ∷ tops) = top_loads t || tops_load tops
 
 abbrev pub is_module : Option (List ℕ) → List Top → Bool
 is_module None tops = false
-is_module (Some owner) tops = are_tops owner tops && (nat_le (count_variables tops) 1 && (not (tops_print tops) || tops_load tops))
+is_module (Some owner) tops = are_tops owner tops && (has_few_variables tops && (not (tops_print tops) || tops_load tops))
 
 -- The source is in the part. Where anything prints, `init` loads Sys first.
 abbrev pub is_built : Source → Bool

@@ -1,7 +1,7 @@
 -- What is seen: the names of the top level, and the variables of a function (Limbo Language Reference, scope).
 use Rattle.std.specs.Prelude.{ℕ, suc, List, [], ◌∷◌, Bool, true, false, ◌&&◌, ◌||◌, Option, None, Some, codes, if◌then◌else◌}
 use Rattle.limbo_types.specs.Types.{Ty, FnTy, Int, Nothing, Chars, ListOf, RefAdt}
-use Rattle.limbo_types.specs.Same.{same}
+pub use Rattle.limbo_types.specs.Same.{same}
 use Rattle.limbo_names.specs.Names.{same_text, has_name}
 
 -- A function's name, and its type.
