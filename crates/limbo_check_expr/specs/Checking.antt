@@ -1,6 +1,6 @@
 -- The types of expressions, computed from the left to the right, with the first condition that isn't met. That this is what the rules
 -- of `Typing` say is proved.
-use Rattle.std.specs.Prelude.{ℕ, List, [], ◌∷◌, ◌++◌, map, Bool, true, false, ◌&&◌, Option, None, Some, Result, Ok, Err, if◌then◌else◌}
+use Rattle.std.specs.Prelude.{ℕ, ℤ, List, [], ◌∷◌, ◌++◌, map, Bool, true, false, ◌&&◌, Option, None, Some, Result, Ok, Err, if◌then◌else◌}
 use Rattle.limbo_types.specs.Types.{Ty, Int}
 use Rattle.limbo_types.specs.Same.{same}
 use Rattle.limbo_tree.specs.declared.operators.BinaryOp.{BinaryOp}
@@ -51,9 +51,12 @@ binary_row o x y =
 unfoldable pub call_row : Numbered → List Expr → Result Expr Cause
 call_row g xs = if same_list (map type_of xs) g.of.args then Ok (Call g.of.answer g.number (exprs_of xs)) else Err TypeClash
 
+abbrev pub number : ℤ → Bool → Result Expr Cause
+number n wide = need (is_small n wide) TypeClash >>= λ ok. Ok (Number Int n)
+
 unfoldable mutual
   pub types : Scope → Env → tree.Expr → Result Expr Cause
-  types s v (tree.Number n wide) = need (is_small n wide) TypeClash >>= λ ok. Ok (Number Int n)
+  types s v (tree.Number n wide) = number n wide
   types s v (tree.Name n) = named s v n
   types s v (tree.Group es) = types_one s v es
   types s v (tree.Binary o l r) = do

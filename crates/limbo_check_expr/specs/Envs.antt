@@ -46,13 +46,19 @@ added n t v = record {
 abbrev pub declared : List ℕ → Ty → Env → Result Env Cause
 declared n t v = need (not (has_local n (drop v.scope v.seen))) Twice >>= λ ok. Ok (added n t v)
 
+abbrev pub declared_number : List ℕ → Ty → Env → Result (ℕ × Env) Cause
+declared_number n t v = declared n t v >>= λ w. Ok (length v.variables, w)
+
 -- A scope begins.
 abbrev pub enter : Env → Env
 enter v = record { scope = length v.seen; seen = v.seen; variables = v.variables }
 
 -- It ends: what it declared is seen no more.
+abbrev pub left : ℕ → ℕ → Env → Env
+left outer seen w = record { scope = outer; seen = take seen w.seen; variables = w.variables }
+
 abbrev pub leave : Env → Env → Env
-leave v w = record { scope = v.scope; seen = take (length v.seen) w.seen; variables = w.variables }
+leave v w = left v.scope (length v.seen) w
 
 -- no variables
 abbrev pub empty : Env

@@ -43,15 +43,19 @@ abbrev pub all_int : List Expr → Bool
 all_int [] = true
 all_int (x ∷ xs) = is_int x && all_int xs
 
--- An int for each `%d` of the format.
+-- the arguments behind a format of these pieces: an int for each `%d`
+abbrev pub printed_args : Scope → Env → List Piece → tree.Exprs → Result Printed Cause
+printed_args s v ps es = do
+  xs ← type_all s v [] es
+  fit ← need (length xs == holes ps) BadFormat
+  ints ← need (all_int xs) TypeClash
+  Ok (record { format = ps; args = xs })
+
+-- The format stands first.
 unfoldable pub printed : Scope → Env → tree.Exprs → Result Printed Cause
 printed s v tree.NoExprs = Err BadFormat
 printed s v (tree.MoreExprs e es) =
-    choose (literal_of e) (Err BadFormat) λ text. choose (format_of text) (Err BadFormat) λ ps. do
-      xs ← type_all s v [] es
-      fit ← need (length xs == holes ps) BadFormat
-      ints ← need (all_int xs) TypeClash
-      Ok (record { format = ps; args = xs })
+    choose (literal_of e) (Err BadFormat) λ text. choose (format_of text) (Err BadFormat) λ ps. printed_args s v ps es
 
 -- A variable of the type Sys, which no variable of the function hides.
 unfoldable pub sys_named : Scope → Env → List ℕ → Result (Unit {0}) Cause
