@@ -1,6 +1,6 @@
 -- Statements, functions and whole modules, checked from the left to the right, with the first condition that isn't met. That this is
 -- what the rules of `Typing` say is proved.
-use Rattle.std.specs.Prelude.{ℕ, ℤ, pos, List, [], ◌∷◌, ◌++◌, length, map, Bool, true, false, not, ◌&&◌, ◌||◌, Option, None, Some, Result, Ok, Err, codes, if◌then◌else◌}
+use Rattle.std.specs.Prelude.{ℕ, ℤ, pos, int_lt, List, [], ◌∷◌, ◌++◌, length, map, Bool, true, false, not, ◌&&◌, ◌||◌, Option, None, Some, Result, Ok, Err, codes, if◌then◌else◌}
 use Rattle.limbo_types.specs.Types.{Ty, FnTy, Int, Nothing}
 use Rattle.limbo_types.specs.Same.{same}
 use Rattle.limbo_tree.specs.Exprs as tree
@@ -16,7 +16,7 @@ use Rattle.limbo_names.specs.Names.{◌>>=◌, choose, need, same_text, has_name
 use Rattle.limbo_names.specs.Scopes.{Signature, Scope, is_top, same_fn}
 use Rattle.limbo_names.specs.Part.{is_int, is_plain, is_none, is_print, loaded, first_loaded, behind}
 use Rattle.limbo_names.specs.Declaring.{ty_of, fn_of, declare}
-use Rattle.limbo_check_expr.specs.Envs.{Local, Env, find_local, added, added_unnamed, declared, enter, leave, empty}
+use Rattle.limbo_check_expr.specs.Envs.{Local, Env, find_local, added, added_unnamed, declared_number, enter, leave, empty}
 use Rattle.limbo_check_expr.specs.Checking.{types, int_value}
 use Rattle.limbo_check_expr.specs.Formats.{Printed, print_of}
 
@@ -25,19 +25,25 @@ use Rattle.limbo_check_expr.specs.Formats.{Printed, print_of}
 abbrev pub zero_value : Expr
 zero_value = Number Int (pos 0)
 
+abbrev pub zeroed : ℕ → Stmt
+zeroed x = Assign x zero_value
+
+abbrev pub declared_int : List ℕ → Env → Result (ℕ × Env) Cause
+declared_int n v = declared_number n Int v
+
 -- Variables of type int that begin with 0, behind the statements so far.
 abbrev pub zeros : Env → List Stmt → List (List ℕ) → Result (List Stmt × Env) Cause
 zeros v ss [] = Ok (ss, v)
 zeros v ss (n ∷ ns) = do
-  w ← declared n Int v
-  zeros w (ss ++ Assign (length v.variables) zero_value ∷ []) ns
+  w ← declared_int n v
+  zeros w.1 (ss ++ zeroed w.0 ∷ []) ns
 
 -- The variable isn't seen yet in the value that it begins with.
 unfoldable pub begun : Scope → Env → List ℕ → tree.Expr → Result (Stmt × Env) Cause
 begun s v n e = do
   x ← int_value s v e
-  w ← declared n Int v
-  Ok (Assign (length v.variables) x, w)
+  w ← declared_int n v
+  Ok (Assign w.0 x, w.1)
 
 abbrev pub single : List (List ℕ) → Option (List ℕ)
 single [] = None
@@ -76,11 +82,14 @@ assigned s v l r = do
 abbrev pub evaluated : Scope → Env → tree.Expr → Result Stmt Cause
 evaluated s v e = types s v e >>= λ x. Ok (Eval x)
 
+abbrev pub print : Scope → Env → tree.Expr → tree.Exprs → Result Stmt Cause
+print s v f es = print_of s v f es >>= λ p. Ok (Print p.format (exprs_of p.args))
+
 -- a statement that is an expression
 unfoldable pub action : Scope → Env → tree.Expr → Result Stmt Cause
 action s v (tree.Assign o l r) = if is_plain o then assigned s v l r else Err TypeClash
 action s v (tree.Call f es) =
-    if is_print f then (print_of s v f es >>= λ p. Ok (Print p.format (exprs_of p.args))) else evaluated s v (tree.Call f es)
+    if is_print f then print s v f es else evaluated s v (tree.Call f es)
 action s v e = evaluated s v e
 
 -- ---- statements
@@ -96,6 +105,18 @@ returned s answer v (Some e) = do
   x ← int_value s v e
   need (same answer Int) TypeClash >>= λ ok. Ok (Some x)
 
+abbrev pub returning : Scope → Ty → Env → Option tree.Expr → Result Stmt Cause
+returning s answer v e = returned s answer v e >>= λ x. Ok (Return x)
+
+abbrev pub only_if : Expr → Stmt → Stmt
+only_if x a = If x (stmts_of (a ∷ [])) NoStmts
+
+abbrev pub if_else : Expr → Stmt → Stmt → Stmt
+if_else x a b = If x (stmts_of (a ∷ [])) (stmts_of (b ∷ []))
+
+abbrev pub while_loop : Expr → Stmt → Stmt
+while_loop x a = While x (stmts_of (a ∷ []))
+
 unfoldable mutual
   pub stmt : Scope → Ty → Env → stmts.Stmt → Result (Stmt × Env) Cause
   stmt s answer v stmts.Empty = Ok (Empty, v)
@@ -105,18 +126,18 @@ unfoldable mutual
   stmt s answer v (stmts.If c a) = do
     x ← int_value s v c
     y ← stmt s answer v a
-    Ok (If x (stmts_of (y.0 ∷ [])) NoStmts, y.1)
+    Ok (only_if x y.0, y.1)
   stmt s answer v (stmts.IfElse c a b) = do
     x ← int_value s v c
     y ← stmt s answer v a
     z ← stmt s answer y.1 b
-    Ok (If x (stmts_of (y.0 ∷ [])) (stmts_of (z.0 ∷ [])), z.1)
+    Ok (if_else x y.0 z.0, z.1)
   stmt s answer v (stmts.While l c a) = do
     unlabelled ← need (is_none l) TypeClash
     x ← condition s v c
     y ← stmt s answer v a
-    Ok (While x (stmts_of (y.0 ∷ [])), y.1)
-  stmt s answer v (stmts.Return e) = returned s answer v e >>= λ x. Ok (Return x, v)
+    Ok (while_loop x y.0, y.1)
+  stmt s answer v (stmts.Return e) = returning s answer v e >>= λ x. Ok (x, v)
   stmt s answer v _ = Err TypeClash
 
   -- a block, which is a scope
@@ -135,8 +156,7 @@ unfoldable mutual
 
 -- a condition that is a number other than 0
 abbrev pub is_endless : Expr → Bool
-is_endless (Number ty (pos 0)) = false
-is_endless (Number ty n) = true
+is_endless (Number ty n) = int_lt n (pos 0) || int_lt (pos 0) n
 is_endless _ = false
 
 -- Each path ends in a `return` or goes round for ever. What stands behind such a statement isn't reached.
@@ -154,11 +174,15 @@ abbrev mutual
 
 -- ---- functions
 
--- The parameters of one list, the nameless among them.
+-- a parameter, with a name or without
+abbrev pub added_param : Ty → Env → Option (List ℕ) → Env
+added_param t v None = added_unnamed t v
+added_param t v (Some n) = added n t v
+
+-- The parameters of one list.
 abbrev pub param_env : Ty → Env → List (Option (List ℕ)) → Env
 param_env t v [] = v
-param_env t v (None ∷ ns) = param_env t (added_unnamed t v) ns
-param_env t v (Some n ∷ ns) = param_env t (added n t v) ns
+param_env t v (n ∷ ns) = param_env t (added_param t v n) ns
 
 -- The parameters are the first variables, in a scope around the body's block.
 abbrev pub params_env : Bool → Env → List Param → Result Env Cause
@@ -181,25 +205,35 @@ abbrev pub body_of : stmts.Block → Result stmts.Stmts Cause
 body_of (stmts.Plain ss) = Ok ss
 body_of (stmts.Handled ss n arms) = Err TypeClash
 
--- A function. The load of Sys before its first statement leaves no trace: Sys is built in.
+abbrev pub complete : Ty → List Stmt → Result (Unit {0}) Cause
+complete answer ss = need (same answer Nothing || any_ends (stmts_of ss)) NoReturn
+
+-- The body is a block inside the scope of the parameters. The load of Sys before its first statement leaves no trace: Sys is built in.
+abbrev pub body : Scope → Ty → Env → stmts.Block → Result (List Stmt × Env) Cause
+body s answer v b = do
+  ss ← body_of b
+  loads ← may_load s v (first_loaded ss)
+  stmt_all s answer (enter v) [] (behind ss)
+
 unfoldable pub function : Scope → List ℕ → FnType → stmts.Block → Result Function Cause
 function s n f b = do
   of ← fn_of s.draw f
   fits ← need (agrees n of s.declared) TypeClash
   v ← params_env s.draw empty f.params
-  ss ← body_of b
-  loads ← may_load s v (first_loaded ss)
-  x ← stmt_all s of.answer (enter v) [] (behind ss)
-  complete ← need (same of.answer Nothing || any_ends (stmts_of x.0)) NoReturn
+  x ← body s of.answer v b
+  ended ← complete of.answer x.0
   Ok (record { name = n; of = of; variables = (x.1).variables; body = stmts_of x.0 })
+
+abbrev pub functions_by : Scope → Top → Result (List Function) Cause
+functions_by s (Defined n part f b) = function s n f b >>= λ g. Ok (g ∷ [])
+functions_by s _ = Ok []
 
 -- the functions that are defined, behind those so far
 abbrev pub functions : Scope → List Function → List Top → Result (List Function) Cause
 functions s fs [] = Ok fs
-functions s fs (Defined n part f b ∷ tops) = do
-  g ← function s n f b
-  functions s (fs ++ g ∷ []) tops
-functions s fs (t ∷ tops) = functions s fs tops
+functions s fs (t ∷ tops) = do
+  more ← functions_by s t
+  functions s (fs ++ more) tops
 
 unfoldable pub module_in : Scope → List Top → Result Module Cause
 module_in s tops = functions s [] tops >>= λ fs. Ok (record { name = s.name; functions = fs })
