@@ -237,6 +237,7 @@ append_none (x ∷ xs) = ap (λ ys. x ∷ ys) (append_none xs)
 
 mutual
   unfolding types types_one type_all Judged JudgedAll
+
   pub judged : (s : Scope) (v : Env) (e : tree.Expr) → Judged s v e (types s v e)
   judged s v (tree.Number n wide) = number_judged s v n wide (is_small n wide) refl
   judged s v (tree.Name n) = name_judged s v n
@@ -259,6 +260,7 @@ callee_found s v _ _ (rule.function n g h e) = rw (unseen_none n v h, e) refl
 
 mutual
   unfolding types types_one type_all
+
   pub given : (s : Scope) (v : Env) (e : tree.Expr) (x : Expr) → Types s v e x → types s v e ≡ Ok x
   given s v _ _ (rule.number n wide h) = rw h refl
   given s v _ _ (rule.name n l h t) = rw (sees_found n v l h, t) refl

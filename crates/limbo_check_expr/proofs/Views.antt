@@ -31,6 +31,7 @@ node_type n ty = go (out-TNode n) (sym (roll-out-TNode n))
   where
     step : (y : TNode-F code_node.TNode code_expr.TExpr) → n ≡ roll-TNode y → type_of (view_node (roll-TNode y) ty) ≡ ty → type_of (view_node n ty) ≡ ty
     step y at h = ap (λ m. type_of (view_node m ty)) at ∙ h
+
     go : (y : TNode-F code_node.TNode code_expr.TExpr) → n ≡ roll-TNode y → type_of (view_node n ty) ≡ ty
     go (TNode-F.Number k) at = step (TNode-F.Number k) at (ap (λ f. type_of (f ty)) (fold-roll-TNode (Ty → Expr) Expr node_step expr_step (TNode-F.Number k)))
     go (TNode-F.Variable x) at = step (TNode-F.Variable x) at (ap (λ f. type_of (f ty)) (fold-roll-TNode (Ty → Expr) Expr node_step expr_step (TNode-F.Variable x)))
@@ -96,4 +97,4 @@ pub call_fails : (s : Scope) (v : Env) (e : code_tree.Expr) (f : Box code_tree.E
 unfolding types types_one type_all
 call_fails s v e f es at g c h k r =
     fails_same c _ _ (ap (λ x. types s v (trees.view_expr x)) h ∙ ap (types s v) (view_expr-Call f es at) ∙ ap (λ z. z >>= λ g. type_all s v [] (trees.exprs_of (map trees.view_expr es.items)) >>= λ xs. call_row g xs) k)
-      (fails_bind c (type_all s v [] (trees.exprs_of (map trees.view_expr es.items))) (λ xs. call_row g xs) r)
+    (fails_bind c (type_all s v [] (trees.exprs_of (map trees.view_expr es.items))) (λ xs. call_row g xs) r)

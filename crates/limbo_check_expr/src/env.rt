@@ -117,7 +117,13 @@ pub fn add(alloc: Global, env: &mut Env, name: &Text, ty: &Ty) -> Result<u32, Ch
 ///
 /// # Errors
 /// 41 where the scope has a variable of the name; want of memory.
-pub fn declare_local(alloc: Global, env: &mut Env, name: &Text, at: Span, ty: &Ty) -> Result<u32, CheckFault>
+pub fn declare_local(
+    alloc: Global,
+    env: &mut Env,
+    name: &Text,
+    at: Span,
+    ty: &Ty,
+) -> Result<u32, CheckFault>
     ensures { Gives (λ n. (n, view_env env.new)) result (envs.declared_number name.now (view_ty ty.now) (view_env env.old)) }
 {
     if is_taken(name, env) {

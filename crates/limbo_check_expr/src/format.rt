@@ -171,7 +171,14 @@ fn sys_named(scope: &Scope, env: &Env, name: &Text, at: Span) -> Result<(), Chec
 
 // The arguments of a print whose format has these pieces.
 #[tactic(auto, using(limbo_names::proofs::Steps::fails_bind))]
-fn printed_args(alloc: Global, scope: &Scope, env: &Env, format: Vec<Piece>, args: &[Expr], at: Span) -> Result<Printed, CheckFault>
+fn printed_args(
+    alloc: Global,
+    scope: &Scope,
+    env: &Env,
+    format: Vec<Piece>,
+    args: &[Expr],
+    at: Span,
+) -> Result<Printed, CheckFault>
     ensures { Gives view_printed result (formats.printed_args (view_scope scope.now) (view_env env.now) (map view_piece format.items) (trees.exprs_of (map trees.view_expr args.now))) }
 {
     let args = type_all(alloc, scope, env, args)?;
@@ -186,7 +193,13 @@ fn printed_args(alloc: Global, scope: &Scope, env: &Env, format: Vec<Piece>, arg
 
 // What a print with these arguments prints.
 #[tactic(auto, unfolding(crate::specs::Formats::printed))]
-fn print_args(alloc: Global, scope: &Scope, env: &Env, args: &[Expr], at: Span) -> Result<Printed, CheckFault>
+fn print_args(
+    alloc: Global,
+    scope: &Scope,
+    env: &Env,
+    args: &[Expr],
+    at: Span,
+) -> Result<Printed, CheckFault>
     ensures { Gives view_printed result (formats.printed (view_scope scope.now) (view_env env.now) (trees.exprs_of (map trees.view_expr args.now))) }
 {
     if args.is_empty() {
@@ -206,7 +219,13 @@ fn print_args(alloc: Global, scope: &Scope, env: &Env, args: &[Expr], at: Span) 
 /// # Errors
 /// 54 where the arguments don't fit the format, or it isn't a literal; 42 and 50 as in expressions; want of memory.
 #[tactic(auto, using(limbo_names::proofs::Steps::fails_bind), unfolding(crate::specs::Formats::print_of))]
-pub fn print_of(alloc: Global, scope: &Scope, env: &Env, function: &Expr, args: &[Expr]) -> Result<Printed, CheckFault>
+pub fn print_of(
+    alloc: Global,
+    scope: &Scope,
+    env: &Env,
+    function: &Expr,
+    args: &[Expr],
+) -> Result<Printed, CheckFault>
     ensures { Gives view_printed result (formats.print_of (view_scope scope.now) (view_env env.now) (trees.view_expr function.now) (trees.exprs_of (map trees.view_expr args.now))) }
 {
     let at = span_of(function);

@@ -63,7 +63,13 @@ pub fn operator_of(op: BinaryOp) -> Option<Operator>
 /// # Errors
 /// 50 where no row fits; want of memory.
 #[tactic(auto, using(limbo_types::proofs::View::the_types, limbo_typed::proofs::View::the_views), unfolding(crate::specs::Checking::binary_row))]
-pub fn binary_row(alloc: Global, op: BinaryOp, left: TExpr, right: TExpr, at: Span) -> Result<TExpr, CheckFault>
+pub fn binary_row(
+    alloc: Global,
+    op: BinaryOp,
+    left: TExpr,
+    right: TExpr,
+    at: Span,
+) -> Result<TExpr, CheckFault>
     ensures { Gives view_expr result (checking.binary_row op (view_expr left) (view_expr right)) }
 {
     let Some(op) = operator_of(op) else {
@@ -110,7 +116,13 @@ fn args_fit(args: &[TExpr], tys: &[Ty]) -> bool
 /// # Errors
 /// 50 where the arguments don't fit; want of memory.
 #[tactic(auto, using(limbo_typed::proofs::View::the_views), unfolding(crate::specs::Checking::call_row))]
-pub fn call_row(alloc: Global, number: usize, of: &FnTy, args: Vec<TExpr>, at: Span) -> Result<TExpr, CheckFault>
+pub fn call_row(
+    alloc: Global,
+    number: usize,
+    of: &FnTy,
+    args: Vec<TExpr>,
+    at: Span,
+) -> Result<TExpr, CheckFault>
     ensures { Gives view_expr result (checking.call_row (record { number = number; of = view_fn of.now }) (map view_expr args.items)) }
 {
     if !args_fit(&args, &of.args) {

@@ -9,7 +9,9 @@ ghost use Rattle.limbo_check_stmt.specs.Checking as checking;
 
 use inf_text::{Span, Text};
 use limbo_check_expr::{Env, Local, find_local, int_value, print_of, refused, span_of, types};
-use limbo_names::{Cause, CheckFault, Scope, has_name, is_plain, is_print, is_top, name_in, same_ty};
+use limbo_names::{
+    Cause, CheckFault, Scope, has_name, is_plain, is_print, is_top, name_in, same_ty,
+};
 use limbo_tree::Expr;
 use limbo_typed::TStmt;
 use limbo_types::Ty;
@@ -22,7 +24,11 @@ pub fn no_place(scope: &Scope, name: &Text) -> Cause
     if has_name(name, &scope.variables) {
         return Cause::TypeClash;
     }
-    if is_top(scope, name) { Cause::NotPlace } else { Cause::Unknown }
+    if is_top(scope, name) {
+        Cause::NotPlace
+    } else {
+        Cause::Unknown
+    }
 }
 
 // The number of a variable that is a place for an int.
@@ -53,7 +59,13 @@ fn place(scope: &Scope, env: &Env, e: &Expr) -> Result<u32, CheckFault>
 
 // An assignment.
 #[tactic(auto, using(limbo_names::proofs::Steps::fails_bind, limbo_typed::proofs::View::the_views), unfolding(crate::specs::Checking::assigned))]
-fn assigned(alloc: Global, scope: &Scope, env: &Env, left: &Expr, right: &Expr) -> Result<TStmt, CheckFault>
+fn assigned(
+    alloc: Global,
+    scope: &Scope,
+    env: &Env,
+    left: &Expr,
+    right: &Expr,
+) -> Result<TStmt, CheckFault>
     ensures { Gives view_stmt result (checking.assigned (view_scope scope.now) (view_env env.now) (trees.view_expr left.now) (trees.view_expr right.now)) }
 {
     let variable = place(scope, env, left)?;
@@ -72,7 +84,13 @@ fn evaluated(alloc: Global, scope: &Scope, env: &Env, e: &Expr) -> Result<TStmt,
 
 // A print.
 #[tactic(auto, using(limbo_names::proofs::Steps::fails_bind, limbo_typed::proofs::View::the_views))]
-fn print(alloc: Global, scope: &Scope, env: &Env, function: &Expr, args: &[Expr]) -> Result<TStmt, CheckFault>
+fn print(
+    alloc: Global,
+    scope: &Scope,
+    env: &Env,
+    function: &Expr,
+    args: &[Expr],
+) -> Result<TStmt, CheckFault>
     ensures { Gives view_stmt result (checking.print (view_scope scope.now) (view_env env.now) (trees.view_expr function.now) (trees.exprs_of (map trees.view_expr args.now))) }
 {
     let p = print_of(alloc, scope, env, function, args)?;
@@ -91,7 +109,12 @@ pub fn action(alloc: Global, scope: &Scope, env: &Env, e: &Expr) -> Result<TStmt
     ensures { Gives view_stmt result (checking.action (view_scope scope.now) (view_env env.now) (trees.view_expr e.now)) }
 {
     match e {
-        Expr::Assign { op, left, right, span } => {
+        Expr::Assign {
+            op,
+            left,
+            right,
+            span,
+        } => {
             if !is_plain(*op) {
                 return Err(refused(Cause::TypeClash, *span));
             }

@@ -52,7 +52,13 @@ fn zeros(alloc: Global, env: &mut Env, names: &[Name]) -> Result<Vec<TStmt>, Che
 
 // A variable that begins with a value, in which it isn't seen yet.
 #[tactic(auto, using(limbo_names::proofs::Steps::fails_bind, limbo_typed::proofs::View::the_views), unfolding(crate::specs::Checking::begun))]
-fn begun(alloc: Global, scope: &Scope, env: &mut Env, name: &Name, value: &Expr) -> Result<TStmt, CheckFault>
+fn begun(
+    alloc: Global,
+    scope: &Scope,
+    env: &mut Env,
+    name: &Name,
+    value: &Expr,
+) -> Result<TStmt, CheckFault>
     ensures { Gives (λ s. (view_stmt s, view_env env.new)) result (checking.begun (view_scope scope.now) (view_env env.old) name.now.text (trees.view_expr value.now)) }
 {
     let value = int_value(alloc, scope, env, value)?;
@@ -61,7 +67,14 @@ fn begun(alloc: Global, scope: &Scope, env: &mut Env, name: &Name, value: &Expr)
 }
 
 // The same, where there is one name.
-fn begun_single(alloc: Global, scope: &Scope, env: &mut Env, names: &[Name], value: &Expr, at: Span) -> Result<TStmt, CheckFault>
+fn begun_single(
+    alloc: Global,
+    scope: &Scope,
+    env: &mut Env,
+    names: &[Name],
+    value: &Expr,
+    at: Span,
+) -> Result<TStmt, CheckFault>
     ensures { Gives (λ s. (view_stmt s, view_env env.new)) result (checking.begun_single (view_scope scope.now) (view_env env.old) (trees.names_of «names».now) (trees.view_expr value.now)) }
 {
     if names.len() != 1 {
@@ -72,7 +85,14 @@ fn begun_single(alloc: Global, scope: &Scope, env: &mut Env, names: &[Name], val
 
 // Variables whose type is written.
 #[tactic(auto, using(limbo_names::proofs::Steps::fails_bind, limbo_typed::proofs::View::the_views))]
-fn typed_var(alloc: Global, scope: &Scope, env: &mut Env, names: &[Name], value: &Option<Expr>, at: Span) -> Result<TStmt, CheckFault>
+fn typed_var(
+    alloc: Global,
+    scope: &Scope,
+    env: &mut Env,
+    names: &[Name],
+    value: &Option<Expr>,
+    at: Span,
+) -> Result<TStmt, CheckFault>
     ensures { Gives (λ s. (view_stmt s, view_env env.new)) result (checking.typed_var (view_scope scope.now) (view_env env.old) (trees.names_of «names».now) (option_map trees.view_expr value.now)) }
 {
     match value {
@@ -93,7 +113,12 @@ pub fn local(alloc: Global, scope: &Scope, env: &mut Env, d: &Decl) -> Result<TS
     ensures { Gives (λ s. (view_stmt s, view_env env.new)) result (checking.local (view_scope scope.now) (view_env env.old) (trees.view_decl d.now)) }
 {
     match d {
-        Decl::Var { names, of, value, span } => {
+        Decl::Var {
+            names,
+            of,
+            value,
+            span,
+        } => {
             if !is_int(of) {
                 return Err(refused(Cause::TypeClash, *span));
             }

@@ -16,7 +16,10 @@ use crate::ending::any_ends;
 use crate::stmt::stmt_all;
 use inf_text::{Span, Text};
 use limbo_check_expr::{Env, add, add_unnamed, enter, find_local, refused};
-use limbo_names::{Cause, CheckFault, Scope, Signature, behind, first_loaded, fn_of, has_name, same_fn, named, same_text, same_ty, ty_of};
+use limbo_names::{
+    Cause, CheckFault, Scope, Signature, behind, first_loaded, fn_of, has_name, named, same_fn,
+    same_text, same_ty, ty_of,
+};
 use limbo_tree::{Block, Function, Name, Param, Stmt};
 use limbo_typed::{TFn, TStmt};
 use limbo_types::{FnTy, Ty};
@@ -37,7 +40,12 @@ fn add_param(alloc: Global, env: &mut Env, ty: &Ty, name: &Option<Name>) -> Resu
 
 // Adds the parameters of one list.
 #[tactic(auto, using(limbo_names::proofs::Steps::fails_bind))]
-fn add_params(alloc: Global, env: &mut Env, ty: &Ty, names: &[Option<Name>]) -> Result<(), CheckFault>
+fn add_params(
+    alloc: Global,
+    env: &mut Env,
+    ty: &Ty,
+    names: &[Option<Name>],
+) -> Result<(), CheckFault>
     ensures { Gives (λ _. view_env env.new) result (Ok (checking.param_env (view_ty ty.now) (view_env env.old) (map name_of «names».now))) }
 {
     for name in names {
@@ -72,7 +80,13 @@ fn agrees(name: &Text, of: &FnTy, declared: &[Signature]) -> bool
 
 // That a load assigns to the variable of the top level.
 #[tactic(auto, unfolding(crate::specs::Checking::may_load))]
-fn may_load(alloc: Global, scope: &Scope, env: &Env, loaded: Option<&Text>, at: Span) -> Result<(), CheckFault>
+fn may_load(
+    alloc: Global,
+    scope: &Scope,
+    env: &Env,
+    loaded: Option<&Text>,
+    at: Span,
+) -> Result<(), CheckFault>
     ensures { Gives (λ _. tt) result (checking.may_load (view_scope scope.now) (view_env env.now) (option_map (λ t. t.now) loaded.entry)) }
 {
     let Some(name) = loaded else {
@@ -128,7 +142,13 @@ fn start(alloc: Global, draw: bool, params: &[Param]) -> Result<Env, CheckFault>
 
 // The body of a function, whose parameters are seen around it.
 #[tactic(auto, using(limbo_names::proofs::Steps::fails_bind))]
-fn body(alloc: Global, scope: &Scope, of: &FnTy, env: &mut Env, b: &Block) -> Result<Vec<TStmt>, CheckFault>
+fn body(
+    alloc: Global,
+    scope: &Scope,
+    of: &FnTy,
+    env: &mut Env,
+    b: &Block,
+) -> Result<Vec<TStmt>, CheckFault>
     ensures { Gives (λ ss. (map view_stmt ss.items, view_env env.new)) result (checking.body (view_scope scope.now) (view_ty of.now.answer) (view_env env.old) (view_block b.now)) }
 {
     let ss = body_of(b)?;

@@ -19,7 +19,13 @@ use limbo_types::{FnTy, Ty};
 use std::alloc::{AllocError, Global};
 
 // The condition of a loop.
-fn condition(alloc: Global, scope: &Scope, env: &Env, e: &Option<Expr>, at: Span) -> Result<TExpr, CheckFault>
+fn condition(
+    alloc: Global,
+    scope: &Scope,
+    env: &Env,
+    e: &Option<Expr>,
+    at: Span,
+) -> Result<TExpr, CheckFault>
     ensures { Gives view_expr result (checking.condition (view_scope scope.now) (view_env env.now) (option_map trees.view_expr e.now)) }
 {
     match e {
@@ -30,7 +36,14 @@ fn condition(alloc: Global, scope: &Scope, env: &Env, e: &Option<Expr>, at: Span
 
 // What a function with this answer returns.
 #[tactic(auto, using(limbo_types::proofs::View::the_types, limbo_names::proofs::Steps::fails_bind), unfolding(crate::specs::Checking::returned))]
-fn returned(alloc: Global, scope: &Scope, answer: &Ty, env: &Env, e: &Option<Expr>, at: Span) -> Result<Option<TExpr>, CheckFault>
+fn returned(
+    alloc: Global,
+    scope: &Scope,
+    answer: &Ty,
+    env: &Env,
+    e: &Option<Expr>,
+    at: Span,
+) -> Result<Option<TExpr>, CheckFault>
     ensures { Gives (λ x. option_map view_expr x) result (checking.returned (view_scope scope.now) (view_ty answer.now) (view_env env.now) (option_map trees.view_expr e.now)) }
 {
     match e {
@@ -52,7 +65,14 @@ fn returned(alloc: Global, scope: &Scope, answer: &Ty, env: &Env, e: &Option<Exp
 
 // The return of a function with this answer.
 #[tactic(auto, using(limbo_names::proofs::Steps::fails_bind, limbo_typed::proofs::View::the_views))]
-fn returning(alloc: Global, scope: &Scope, answer: &Ty, env: &Env, e: &Option<Expr>, at: Span) -> Result<TStmt, CheckFault>
+fn returning(
+    alloc: Global,
+    scope: &Scope,
+    answer: &Ty,
+    env: &Env,
+    e: &Option<Expr>,
+    at: Span,
+) -> Result<TStmt, CheckFault>
     ensures { Gives view_stmt result (checking.returning (view_scope scope.now) (view_ty answer.now) (view_env env.now) (option_map trees.view_expr e.now)) }
 {
     let value = returned(alloc, scope, answer, env, e, at)?;
@@ -75,7 +95,11 @@ fn only_if(alloc: Global, condition: TExpr, then: TStmt) -> Result<TStmt, AllocE
 {
     let then = alone(alloc, then)?;
     let other = Vec::new(alloc);
-    Ok(TStmt::If { condition, then, other })
+    Ok(TStmt::If {
+        condition,
+        then,
+        other,
+    })
 }
 
 // An `if` with an `else`.
@@ -85,7 +109,11 @@ fn if_else(alloc: Global, condition: TExpr, then: TStmt, other: TStmt) -> Result
 {
     let then = alone(alloc, then)?;
     let other = alone(alloc, other)?;
-    Ok(TStmt::If { condition, then, other })
+    Ok(TStmt::If {
+        condition,
+        then,
+        other,
+    })
 }
 
 // A loop.
@@ -110,7 +138,13 @@ fn unfit(at: Span) -> CheckFault
 /// As for its parts, 41 for a second declaration and 50 for types that don't fit among them; want of memory.
 #[tactic(auto, using(limbo_parser::proofs::View::the_stmt_views, limbo_names::proofs::Steps::fails_bind, limbo_typed::proofs::View::the_views), unfolding(crate::specs::Checking::stmt, crate::specs::Checking::block, crate::specs::Checking::stmt_all))]
 #[cycle(statements)]
-pub fn stmt(alloc: Global, scope: &Scope, of: &FnTy, env: &mut Env, s: &Stmt) -> Result<TStmt, CheckFault>
+pub fn stmt(
+    alloc: Global,
+    scope: &Scope,
+    of: &FnTy,
+    env: &mut Env,
+    s: &Stmt,
+) -> Result<TStmt, CheckFault>
     ensures { Gives (λ x. (view_stmt x, view_env env.new)) result (checking.stmt (view_scope scope.now) (view_ty of.now.answer) (view_env env.old) (trees.view_stmt s.now)) }
 {
     match s {
@@ -121,7 +155,12 @@ pub fn stmt(alloc: Global, scope: &Scope, of: &FnTy, env: &mut Env, s: &Stmt) ->
         }
         Stmt::Declare { decl, .. } => local(alloc, scope, env, decl),
         Stmt::Eval { value, .. } => action(alloc, scope, env, value),
-        Stmt::If { condition: c, then, otherwise, .. } => match otherwise {
+        Stmt::If {
+            condition: c,
+            then,
+            otherwise,
+            ..
+        } => match otherwise {
             None => {
                 let x = int_value(alloc, scope, env, c)?;
                 let first = stmt(alloc, scope, of, env, then)?;
@@ -136,7 +175,12 @@ pub fn stmt(alloc: Global, scope: &Scope, of: &FnTy, env: &mut Env, s: &Stmt) ->
                 Ok(made)
             }
         },
-        Stmt::While { label, condition: c, body, span } => {
+        Stmt::While {
+            label,
+            condition: c,
+            body,
+            span,
+        } => {
             if label.is_some() {
                 return Err(unfit(*span));
             }
@@ -165,7 +209,13 @@ pub fn stmt(alloc: Global, scope: &Scope, of: &FnTy, env: &mut Env, s: &Stmt) ->
 /// As for statements.
 #[tactic(auto, using(limbo_names::proofs::Blocks::the_blocks, limbo_names::proofs::Steps::fails_bind), unfolding(crate::specs::Checking::stmt, crate::specs::Checking::block, crate::specs::Checking::stmt_all))]
 #[cycle(statements)]
-fn block(alloc: Global, scope: &Scope, of: &FnTy, env: &mut Env, b: &Block) -> Result<Vec<TStmt>, CheckFault>
+fn block(
+    alloc: Global,
+    scope: &Scope,
+    of: &FnTy,
+    env: &mut Env,
+    b: &Block,
+) -> Result<Vec<TStmt>, CheckFault>
     ensures { Gives (λ xs. (map view_stmt xs.items, view_env env.new)) result (checking.block (view_scope scope.now) (view_ty of.now.answer) (view_env env.old) (trees.view_block b.now)) }
 {
     match &b.handler {
@@ -186,7 +236,13 @@ fn block(alloc: Global, scope: &Scope, of: &FnTy, env: &mut Env, b: &Block) -> R
 /// As for statements.
 #[tactic(auto, using(limbo_names::proofs::Steps::fails_bind), unfolding(crate::specs::Checking::stmt, crate::specs::Checking::block, crate::specs::Checking::stmt_all))]
 #[cycle(statements)]
-pub fn stmt_all(alloc: Global, scope: &Scope, of: &FnTy, env: &mut Env, ss: &[Stmt]) -> Result<Vec<TStmt>, CheckFault>
+pub fn stmt_all(
+    alloc: Global,
+    scope: &Scope,
+    of: &FnTy,
+    env: &mut Env,
+    ss: &[Stmt],
+) -> Result<Vec<TStmt>, CheckFault>
     ensures { Gives (λ xs. (map view_stmt xs.items, view_env env.new)) result (checking.stmt_all (view_scope scope.now) (view_ty of.now.answer) (view_env env.old) [] (trees.stmts_of (map trees.view_stmt ss.now))) }
 {
     let mut xs = Vec::new(alloc);

@@ -116,7 +116,12 @@ pub fn named(alloc: Global, spelling: &str) -> Result<Text, AllocError>
 
 // Adds what an include declares.
 #[tactic(auto, using(crate::proofs::Texts::append_none))]
-fn push_included(alloc: Global, all: &mut Vec<Name>, path: &Text, span: Span) -> Result<(), AllocError>
+fn push_included(
+    alloc: Global,
+    all: &mut Vec<Name>,
+    path: &Text,
+    span: Span,
+) -> Result<(), AllocError>
     ensures { IfOk result (λ _. names_of all.new.items ≡ names_of all.old.items ++ declaring.included_names path.now) }
 {
     if is_spelled(path, "sys.m") {
@@ -152,7 +157,12 @@ fn push_decl(all: &mut Vec<Name>, d: &Decl) -> Result<(), AllocError>
 
 // Adds what is declared there, where these functions are declared.
 #[tactic(auto, using(crate::proofs::Texts::append_none))]
-fn push_top(alloc: Global, all: &mut Vec<Name>, declared: &[Name], top: &Top) -> Result<(), AllocError>
+fn push_top(
+    alloc: Global,
+    all: &mut Vec<Name>,
+    declared: &[Name],
+    top: &Top,
+) -> Result<(), AllocError>
     ensures { IfOk result (λ _. names_of all.new.items ≡ names_of all.old.items ++ declaring.names_of_top (names_of declared.now) (view_top top.now)) }
 {
     match top {
@@ -364,7 +374,12 @@ fn answer_of(alloc: Global, draw: bool, of: &Option<TypeTree>, at: Span) -> Resu
 }
 
 // Adds a type once for each name.
-fn push_copies(alloc: Global, all: &mut Vec<Ty>, ty: &Ty, names: &[Option<Name>]) -> Result<(), AllocError>
+fn push_copies(
+    alloc: Global,
+    all: &mut Vec<Ty>,
+    ty: &Ty,
+    names: &[Option<Name>],
+) -> Result<(), AllocError>
     ensures { IfOk result (λ _. map view_ty all.new.items ≡ map view_ty all.old.items ++ declaring.copies (view_ty ty.now) (map name_of «names».now)) }
 {
     for _name in names {
@@ -428,7 +443,12 @@ pub fn fn_of(alloc: Global, draw: bool, of: &FnType) -> Result<FnTy, CheckFault>
 }
 
 // Adds a function's type under each of some names.
-fn push_signatures(alloc: Global, all: &mut Vec<Signature>, of: &FnTy, names: &[Name]) -> Result<(), AllocError>
+fn push_signatures(
+    alloc: Global,
+    all: &mut Vec<Signature>,
+    of: &FnTy,
+    names: &[Name],
+) -> Result<(), AllocError>
     ensures { IfOk result (λ _. map view_signature all.new.items ≡ map view_signature all.old.items ++ declaring.signed (view_fn of.now) (names_of «names».now)) }
 {
     for name in names {
@@ -543,7 +563,11 @@ fn defined_of(alloc: Global, draw: bool, tops: &[Top]) -> Result<Vec<Signature>,
 fn owner_of(source: &Source) -> Result<Text, CheckFault>
     ensures { Gives (λ t. t) result (declaring.owner_of (name_of source.now.implements) (map view_top source.now.tops.items)) }
 {
-    let start = Span { line: 1, col: 1, len: 0 };
+    let start = Span {
+        line: 1,
+        col: 1,
+        len: 0,
+    };
     match &source.implements {
         None => Err(refused(Cause::Unknown, start)),
         Some(name) => {
@@ -598,7 +622,14 @@ pub fn declare(alloc: Global, source: &Source) -> Result<Scope, CheckFault>
     let name = owner_of(source)?;
     names_once(alloc, tops)?;
     if !are_sys(sys, tops) {
-        return Err(refused(Cause::Unknown, Span { line: 1, col: 1, len: 0 }));
+        return Err(refused(
+            Cause::Unknown,
+            Span {
+                line: 1,
+                col: 1,
+                len: 0,
+            },
+        ));
     }
     let declared = declared_of(alloc, draw, tops)?;
     let functions = defined_of(alloc, draw, tops)?;

@@ -47,7 +47,9 @@ pub fn is_context(of: &TypeTree) -> bool
 {
     match of {
         TypeTree::Ref { of, .. } => {
-            is_spelled(&of.first.text, "Draw") && is_this("Context", &of.member) && of.part.is_none()
+            is_spelled(&of.first.text, "Draw")
+                && is_this("Context", &of.member)
+                && of.part.is_none()
         }
         TypeTree::Byte { .. }
         | TypeTree::Int { .. }
@@ -194,7 +196,12 @@ pub fn is_expr(e: &Expr) -> bool
         Expr::Number { value, wide, .. } => is_small(*value, *wide),
         Expr::Name { .. } => true,
         Expr::Group { items, .. } => is_one(items),
-        Expr::Binary { op, left, right, .. } => is_operator(*op) && is_expr(left) && is_expr(right),
+        Expr::Binary {
+            op,
+            left,
+            right,
+            ..
+        } => is_operator(*op) && is_expr(left) && is_expr(right),
         Expr::Call { function, args, .. } => is_named(function) && are_exprs(args),
         Expr::Assign { .. }
         | Expr::Load { .. }
@@ -219,7 +226,11 @@ pub fn is_expr(e: &Expr) -> bool
 fn is_one(es: &[Expr]) -> bool
     ensures { result ≡ part.is_one (exprs_of (map view_expr es.now)) }
 {
-    if es.len() == 1 { is_expr(&es[0]) } else { false }
+    if es.len() == 1 {
+        is_expr(&es[0])
+    } else {
+        false
+    }
 }
 
 /// Whether all of them are in the part.

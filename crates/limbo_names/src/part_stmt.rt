@@ -112,7 +112,12 @@ fn is_action(e: &Expr) -> bool
     ensures { result ≡ part.is_action (view_expr e.now) }
 {
     match e {
-        Expr::Assign { op, left, right, .. } => is_plain(*op) && is_named(left) && is_expr(right),
+        Expr::Assign {
+            op,
+            left,
+            right,
+            ..
+        } => is_plain(*op) && is_named(left) && is_expr(right),
         Expr::Call { function, args, .. } => is_call(function, args),
         Expr::Load { .. }
         | Expr::Binary { .. }
@@ -147,7 +152,12 @@ fn is_local(d: &Decl) -> bool
     ensures { result ≡ part.is_local (view_decl d.now) }
 {
     match d {
-        Decl::Var { names, of, value, .. } => match value {
+        Decl::Var {
+            names,
+            of,
+            value,
+            ..
+        } => match value {
             None => is_int(of),
             Some(value) => is_int(of) && is_single(names) && is_expr(value),
         },
@@ -192,13 +202,21 @@ pub fn is_stmt(s: &Stmt) -> bool
         Stmt::Block { block, .. } => is_block(block),
         Stmt::Declare { decl, .. } => is_local(decl),
         Stmt::Eval { value, .. } => is_action(value),
-        Stmt::If { condition, then, otherwise, .. } => match otherwise {
+        Stmt::If {
+            condition,
+            then,
+            otherwise,
+            ..
+        } => match otherwise {
             None => is_expr(condition) && is_stmt(then),
             Some(otherwise) => is_expr(condition) && is_stmt(then) && is_stmt(otherwise),
         },
-        Stmt::While { label, condition, body, .. } => {
-            label.is_none() && is_condition(condition) && is_stmt(body)
-        }
+        Stmt::While {
+            label,
+            condition,
+            body,
+            ..
+        } => { label.is_none() && is_condition(condition) && is_stmt(body) }
         Stmt::Return { value, .. } => is_returned(value),
         Stmt::Do { .. }
         | Stmt::For { .. }
@@ -276,7 +294,11 @@ pub fn prints(s: &Stmt) -> bool
     match s {
         Stmt::Block { block, .. } => block_prints(block),
         Stmt::Eval { value, .. } => prints_in_action(value),
-        Stmt::If { then, otherwise, .. } => match otherwise {
+        Stmt::If {
+            then,
+            otherwise,
+            ..
+        } => match otherwise {
             None => prints(then),
             Some(otherwise) => prints(then) || prints(otherwise),
         },
@@ -389,7 +411,12 @@ fn loaded_in(e: &Expr) -> Option<&Text>
     ensures { MatchOption result (part.loaded_in (view_expr e.now) ≡ None) (λ n. part.loaded_in (view_expr e.now) ≡ Some n.now) }
 {
     match e {
-        Expr::Assign { op, left, right, .. } => {
+        Expr::Assign {
+            op,
+            left,
+            right,
+            ..
+        } => {
             if is_plain(*op) && is_load(right) {
                 name_in(left)
             } else {
@@ -464,5 +491,9 @@ pub fn behind(ss: &[Stmt]) -> &[Stmt]
     if ss.is_empty() {
         return ss;
     }
-    if loaded(&ss[0]).is_some() { &ss[1..] } else { ss }
+    if loaded(&ss[0]).is_some() {
+        &ss[1..]
+    } else {
+        ss
+    }
 }

@@ -107,7 +107,12 @@ fn is_top_decl(owner: &Text, d: &Decl) -> bool
     ensures { result ≡ part.is_top_decl owner.now (view_decl d.now) }
 {
     match d {
-        Decl::Var { names, of, value, .. } => is_single(names) && is_sys(of) && value.is_none(),
+        Decl::Var {
+            names,
+            of,
+            value,
+            ..
+        } => is_single(names) && is_sys(of) && value.is_none(),
         Decl::Module { name, members, .. } => same_text(&name.text, owner) && are_members(members),
         Decl::Con { .. }
         | Decl::Type { .. }
@@ -247,7 +252,8 @@ fn top_loads(top: &Top) -> bool
     match top {
         Top::Include { .. } => false,
         Top::Declare { .. } => false,
-        Top::Define { function } => is_spelled(&function.name.text, "init") && block_loads(&function.body),
+        Top::Define { function } => is_spelled(&function.name.text, "init")
+            && block_loads(&function.body),
     }
 }
 

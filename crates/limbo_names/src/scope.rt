@@ -3,8 +3,8 @@ ghost use Rattle.limbo_types.specs.View.{view_ty, view_fn};
 ghost use Rattle.limbo_names.specs.Scopes as scopes;
 ghost use Rattle.limbo_names.specs.View.{view_signature, view_scope};
 
-use crate::names::{has_name, is_spelled, same_text};
 use crate::copies::{copy_ty, copy_tys};
+use crate::names::{has_name, is_spelled, same_text};
 use inf_text::Text;
 use limbo_types::{FnTy, Ty, equal};
 use std::alloc::{AllocError, Global};

@@ -20,6 +20,6 @@ block-returns-in_ok-xs-in-None t c =
     let within = view_env c.enter-outer.new.env in
     let xs = map view_stmt c.in_ok-xs-in-None.xs.items in
     left_so c.args.env.now (view_env c.stmt_all.new.env) (view_env c.leave.new.env) xs c.enter-outer.result c.len-seen.result _
-      (plain_block s answer (view_env c.args.env.now) within (view_env c.stmt_all.new.env) c.args.b.now xs c.in-None.is c.enter-outer.ensures.entered
-        (ap (λ ss. stmt_all s answer within [] (stmts_of (map view_tree ss))) (sym c.deref.ensures.value) ∙ c.in_ok-xs-in-None.ensures {u = tt}))
-      c.leave.ensures c.enter-outer.ensures.outer (c.len-seen.ensures ∙ c.args.env.now.seen.ok.0)
+    (plain_block s answer (view_env c.args.env.now) within (view_env c.stmt_all.new.env) c.args.b.now xs c.in-None.is c.enter-outer.ensures.entered
+    (ap (λ ss. stmt_all s answer within [] (stmts_of (map view_tree ss))) (sym c.deref.ensures.value) ∙ c.in_ok-xs-in-None.ensures {u = tt}))
+    c.leave.ensures c.enter-outer.ensures.outer (c.len-seen.ensures ∙ c.args.env.now.seen.ok.0)
