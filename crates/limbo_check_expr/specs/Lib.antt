@@ -1,0 +1,5 @@
+pub mod Envs
+pub mod Typing
+pub mod Checking
+pub mod Formats
+pub mod View

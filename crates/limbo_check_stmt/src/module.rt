@@ -1,0 +1,57 @@
+//! Whole modules.
+
+ghost use Rattle.std.specs.Prelude.{◌≡◌, [], map};
+ghost use Rattle.limbo_tree.specs.View.{view_top, view_source};
+ghost use Rattle.limbo_typed.specs.View.{view_function, view_module};
+ghost use Rattle.limbo_names.specs.View.{Gives, view_scope};
+ghost use Rattle.limbo_check_stmt.specs.Checking as checking;
+
+use crate::function::function;
+use limbo_names::{CheckFault, Scope, declare};
+use limbo_tree::{Source, Top};
+use limbo_typed::{TFn, TypedModule};
+use std::alloc::Global;
+
+// The functions that are defined there.
+#[tactic(auto, using(limbo_names::proofs::Steps::fails_bind))]
+fn functions_by(alloc: Global, scope: &Scope, top: &Top) -> Result<Vec<TFn>, CheckFault>
+    ensures { Gives (λ fs. map view_function fs.items) result (checking.functions_by (view_scope scope.now) (view_top top.now)) }
+{
+    let mut all = Vec::new(alloc);
+    match top {
+        Top::Include { .. } => Ok(all),
+        Top::Declare { .. } => Ok(all),
+        Top::Define { function: f } => {
+            let checked = function(alloc, scope, f)?;
+            all.push(checked)?;
+            Ok(all)
+        }
+    }
+}
+
+// The functions that are defined.
+#[tactic(auto, using(limbo_names::proofs::Steps::fails_bind))]
+fn functions(alloc: Global, scope: &Scope, tops: &[Top]) -> Result<Vec<TFn>, CheckFault>
+    ensures { Gives (λ fs. map view_function fs.items) result (checking.functions (view_scope scope.now) [] (map view_top tops.now)) }
+{
+    let mut all = Vec::new(alloc);
+    for top in tops {
+        let mut more = functions_by(alloc, scope, top)?;
+        all.append(&mut more)?;
+    }
+    Ok(all)
+}
+
+/// The checked module of a source.
+///
+/// # Errors
+/// 41, 42, 50, 51, 54 or 63, for the first condition that the source doesn't meet; want of memory.
+#[tactic(auto, using(limbo_names::proofs::Steps::fails_bind), unfolding(crate::specs::Checking::check, crate::specs::Checking::module_in))]
+pub fn check_module(alloc: Global, source: &Source) -> Result<TypedModule, CheckFault>
+    ensures { Gives view_module result (checking.check (view_source source.now)) }
+{
+    let scope = declare(alloc, source)?;
+    let functions = functions(alloc, &scope, &source.tops)?;
+    let name = scope.name.clone()?;
+    Ok(TypedModule { name, functions })
+}
