@@ -52,7 +52,12 @@ fn write_content(content: &mut Content, at: i64, new: &[Word]) -> Result<(), Fau
 }
 
 /// Stores words in the block of this serial, all of them or none.
-pub(crate) fn write_block(store: &mut Store, serial: u64, at: i64, new: &[Word]) -> Result<(), Fault>
+pub(crate) fn write_block(
+    store: &mut Store,
+    serial: u64,
+    at: i64,
+    new: &[Word],
+) -> Result<(), Fault>
     ensures gives { GivesFault (λ _. view_world store.new) result
         (block_written (view_world store.old) serial at (view_words new.now)) }
     ensures kept { OnErr result (view_world store.new ≡ view_world store.old) }

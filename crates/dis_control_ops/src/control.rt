@@ -94,7 +94,12 @@ pub(crate) fn jump(object: &Object, proc: &mut Proc, inst: Inst) -> Result<(), H
 }
 
 /// `beqw`: where the source is the middle.
-pub(crate) fn branch_equal(object: &Object, store: &Store, proc: &mut Proc, inst: Inst) -> Result<(), Halt>
+pub(crate) fn branch_equal(
+    object: &Object,
+    store: &Store,
+    proc: &mut Proc,
+    inst: Inst,
+) -> Result<(), Halt>
     requires { proc.old.frame.pc + 1 < 2 ^ 64 }
     ensures gives { (limit : ℕ) → Gives (λ _. Went (view_world store.now) (view_process proc.new)) result
         (meaning.obey limit object.now (view_world store.now) (view_process proc.old) inst op.Beqw) }
@@ -108,7 +113,12 @@ pub(crate) fn branch_equal(object: &Object, store: &Store, proc: &mut Proc, inst
 }
 
 /// `bltw`: where the source is less than the middle.
-pub(crate) fn branch_less(object: &Object, store: &Store, proc: &mut Proc, inst: Inst) -> Result<(), Halt>
+pub(crate) fn branch_less(
+    object: &Object,
+    store: &Store,
+    proc: &mut Proc,
+    inst: Inst,
+) -> Result<(), Halt>
     requires { proc.old.frame.pc + 1 < 2 ^ 64 }
     ensures gives { (limit : ℕ) → Gives (λ _. Went (view_world store.now) (view_process proc.new)) result
         (meaning.obey limit object.now (view_world store.now) (view_process proc.old) inst op.Bltw) }

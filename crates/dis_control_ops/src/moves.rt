@@ -10,7 +10,9 @@ ghost use Rattle.dis_control_ops.specs.Words.{Gives};
 ghost use Rattle.dis_control_ops.specs.View.{view_process, view_world};
 
 use crate::process::Proc;
-use crate::spots::{address, middle_number, read, reference, source_number, source_plain, source_word, spot_of};
+use crate::spots::{
+    address, middle_number, read, reference, source_number, source_plain, source_word, spot_of,
+};
 use crate::store::Store;
 use crate::storing::finish;
 use crate::word::{Halt, Word};
@@ -54,7 +56,6 @@ pub(crate) fn load_address(store: &mut Store, proc: &mut Proc, inst: Inst) -> Re
     let word = address(proc, from);
     Ok(finish(store, proc, to, word)?)
 }
-
 
 fn sum(x: i32, y: i32) -> i32
     ensures { result ≡ int_wrap w32 (x +ℤ y) }

@@ -102,13 +102,7 @@ fn finish_print(
 }
 
 // The frame of the call goes, and the process asks.
-fn ask(
-    store: &mut Store,
-    proc: &mut Proc,
-    serial: u64,
-    asking: Asking,
-    world: World,
-)
+fn ask(store: &mut Store, proc: &mut Proc, serial: u64, asking: Asking, world: World)
     requires { proc.old.frame.pc + 1 < 2 ^ 64 }
     ensures world { view_world store.new ≡ meaning.outside_is (view_world store.old) (outside.view_world world) }
     ensures process { view_process proc.new ≡ waits (moved_on (discarded (view_process proc.old) serial)) (view_asking asking) }
@@ -140,7 +134,7 @@ fn plan_print(alloc: Global, store: &Store, words: &[Word]) -> Result<Plan, Halt
     let printing = print(alloc, &store.outside, &text)?;
     Ok(Plan {
         place,
-        at: to.place(),
+        at: to.byte(),
         printing,
     })
 }

@@ -19,7 +19,6 @@ pub struct Asking {
 /// many frames it made so far; and the print that waits for a reply, if one does.
 #[derive(Drop)]
 pub struct Proc {
-
     pub number: u32,
     pub frame: Frame,
     pub below: Vec<Frame>,

@@ -33,7 +33,12 @@ fn plains(alloc: Global, words: &[Word], from: usize, count: usize) -> Result<Ve
 }
 
 /// `movm`: as many bytes of plain words as the middle says.
-pub(crate) fn move_words(alloc: Global, store: &mut Store, proc: &mut Proc, inst: Inst) -> Result<(), Halt>
+pub(crate) fn move_words(
+    alloc: Global,
+    store: &mut Store,
+    proc: &mut Proc,
+    inst: Inst,
+) -> Result<(), Halt>
     requires { proc.old.frame.pc + 1 < 2 ^ 64 }
     ensures gives { (limit : ℕ) (o : Object) → Gives (λ _. Went (view_world store.new) (view_process proc.new)) result
         (meaning.obey limit o (view_world store.old) (view_process proc.old) inst op.Movm) }
@@ -41,7 +46,7 @@ pub(crate) fn move_words(alloc: Global, store: &mut Store, proc: &mut Proc, inst
 {
     let from = spot_of(store, proc, inst.src)?;
     let words = words_at(store, proc, from)?;
-    let first = word_number(from.place())?;
+    let first = word_number(from.byte())?;
     let middle = middle_number(store, proc, inst.middle, inst.dst)?;
     let bytes = at_least_zero(middle)?;
     let count = word_number(i64::from(bytes))?;

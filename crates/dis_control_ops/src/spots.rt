@@ -25,7 +25,7 @@ pub(crate) enum Spot {
 
 impl Spot {
     /// Its number among the bytes there.
-    pub(crate) fn place(self) -> i64
+    pub(crate) fn byte(self) -> i64
         ensures { result ≡ meaning.place_in (view_spot self) }
     {
         match self {
@@ -47,7 +47,11 @@ fn words_of<'a>(store: &'a Store, proc: &'a Proc, place: Place) -> Result<&'a [W
 }
 
 /// The words among which the byte is.
-pub(crate) fn words_at<'a>(store: &'a Store, proc: &'a Proc, spot: Spot) -> Result<&'a [Word], Fault>
+pub(crate) fn words_at<'a>(
+    store: &'a Store,
+    proc: &'a Proc,
+    spot: Spot,
+) -> Result<&'a [Word], Fault>
     ensures { GivesFault (λ ws. view_words ws.now) result (meaning.words_at (view_world store.now) (view_process proc.now) (view_spot spot)) }
 {
     match spot {
@@ -61,7 +65,7 @@ pub(crate) fn words_at<'a>(store: &'a Store, proc: &'a Proc, spot: Spot) -> Resu
 pub(crate) fn read(store: &Store, proc: &Proc, spot: Spot) -> Result<Word, Fault>
     ensures { GivesFault view_word result (meaning.read (view_world store.now) (view_process proc.now) (view_spot spot)) }
 {
-    word_at(words_at(store, proc, spot)?, spot.place())
+    word_at(words_at(store, proc, spot)?, spot.byte())
 }
 
 /// Its address.

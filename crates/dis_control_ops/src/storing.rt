@@ -17,7 +17,12 @@ use crate::store::Store;
 use crate::word::{Fault, Place, Word};
 
 /// Stores words from a byte on, all of them or none.
-pub(crate) fn write(store: &mut Store, proc: &mut Proc, spot: Spot, new: &[Word]) -> Result<(), Fault>
+pub(crate) fn write(
+    store: &mut Store,
+    proc: &mut Proc,
+    spot: Spot,
+    new: &[Word],
+) -> Result<(), Fault>
     ensures gives { GivesFault (λ _. resting (memory (view_world store.new) (view_process proc.new))) result
         (written (view_world store.old) (view_process proc.old) (view_spot spot) (view_words new.now)) }
     ensures same_place { proc.new.frame.pc ≡ proc.old.frame.pc }
@@ -42,7 +47,12 @@ pub(crate) fn advance(proc: &mut Proc)
 }
 
 /// Stores words, and the process goes on with the next instruction.
-pub(crate) fn finish_all(store: &mut Store, proc: &mut Proc, spot: Spot, new: &[Word]) -> Result<(), Fault>
+pub(crate) fn finish_all(
+    store: &mut Store,
+    proc: &mut Proc,
+    spot: Spot,
+    new: &[Word],
+) -> Result<(), Fault>
     requires { proc.old.frame.pc + 1 < 2 ^ 64 }
     ensures gives { GivesFault (λ _. Went (view_world store.new) (view_process proc.new)) result
         (goes_on (written (view_world store.old) (view_process proc.old) (view_spot spot) (view_words new.now))) }
@@ -64,7 +74,12 @@ pub(crate) fn finish(store: &mut Store, proc: &mut Proc, spot: Spot, new: Word) 
 }
 
 /// Stores words that a row of others gave, and the process goes on with the next instruction.
-pub(crate) fn finish_row(store: &mut Store, proc: &mut Proc, spot: Spot, row: &[Word]) -> Result<(), Fault>
+pub(crate) fn finish_row(
+    store: &mut Store,
+    proc: &mut Proc,
+    spot: Spot,
+    row: &[Word],
+) -> Result<(), Fault>
     requires { proc.old.frame.pc + 1 < 2 ^ 64 }
     ensures gives { GivesFault (λ _. Went (view_world store.new) (view_process proc.new)) result
         (row_stored (view_world store.old) (view_process proc.old) (view_spot spot) (view_words row.now)) }

@@ -1,11 +1,11 @@
-use Rattle.std.proofs.Common.{◌≡◌, ◌<◌, length, Some, map, ap, sym, ◌∙◌, subst, arith, w64}
+use Rattle.std.proofs.Common.{◌≡◌, ◌<◌, length, Some, ap, sym, ◌∙◌, subst, arith, w64}
 use Rattle.std.proofs.lemmas.Int.{to_z-of_z}
 use Rattle.std.specs.Vec.{with_item}
 use Rattle.std.specs.Prelude.{slice_get, slice_set}
 use Rattle.std.proofs.lemmas.List.{map-set}
 use Rattle.std.proofs.lemmas.Result.{on_err_weaker}
-use Rattle.dis_meaning.specs.Words.{Found, ◌>>=◌, or_wrong, dead_address}
-use Rattle.dis_meaning.specs.World.{World, block, with_content}
+use Rattle.dis_meaning.specs.Words.{Found, or_wrong, dead_address}
+use Rattle.dis_meaning.specs.World.{with_content}
 use Rattle.dis_control_ops.specs.Words.{view_words, GivesFault}
 use Rattle.dis_control_ops.specs.View.{view_content, view_world}
 use Rattle.dis_control_ops.specs.Storing.{content_written}
@@ -37,7 +37,7 @@ returns-clause-kept c =
     let x = view_world c.args.store.now in
     on_err_weaker c.write_content.result
     (λ e. ap (λ bs. record { blocks = bs; outside = x.outside })
-        (map-set view_content c.args.store.now.blocks.items c.args.serial c.write_content.new.content
-        ∙ ap (λ k. slice_set x.blocks c.args.serial (view_content k)) e
-        ∙ set_itself x.blocks c.args.serial (view_content c.index_mut.result.now) (there c)))
+    (map-set view_content c.args.store.now.blocks.items c.args.serial c.write_content.new.content
+    ∙ ap (λ k. slice_set x.blocks c.args.serial (view_content k)) e
+    ∙ set_itself x.blocks c.args.serial (view_content c.index_mut.result.now) (there c)))
     c.write_content.ensures.kept

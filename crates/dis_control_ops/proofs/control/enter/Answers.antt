@@ -1,4 +1,4 @@
-use Rattle.std.proofs.Common.{◌≡◌, ◌<◌, ◌+◌, suc, length, ap, sym, ◌∙◌, add-one, arith}
+use Rattle.std.proofs.Common.{◌<◌, ◌+◌, length, ap, ◌∙◌, add-one, arith}
 use Rattle.dis_meaning.specs.Process.{at_pc}
 use Rattle.dis_control_ops.specs.declared.frame.Frame as code_frame
 use Rattle.dis_control_ops.specs.Frames.{view_frame}
@@ -13,7 +13,7 @@ invariant_of-proc c =
     let caller : code_frame.Frame = record { serial = r.serial; instance = r.instance; pc = r.pc + 1; words = r.words } in
     record {
       once = entered_once p c.args.made c.remove-frame.result c.replace-caller.new.dest caller _ _ lt c.remove-frame.ensures.value
-      (ap (λ (f : code_frame.Frame). f.serial) c.replace-caller.ensures.after) (ap (λ (f : code_frame.Frame). f.serial) c.replace-caller.ensures.value) c.push_reserved.ensures.items c.remove-frame.ensures.items;
+          (ap (λ (f : code_frame.Frame). f.serial) c.replace-caller.ensures.after) (ap (λ (f : code_frame.Frame). f.serial) c.replace-caller.ensures.value) c.push_reserved.ensures.items c.remove-frame.ensures.items;
     }
 
 pub returns : goal.returns

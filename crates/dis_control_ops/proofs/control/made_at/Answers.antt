@@ -1,7 +1,6 @@
-use Rattle.std.proofs.Common.{◌≡◌, ap, ◌∙◌, sym, arith, subst}
-use Rattle.dis_meaning.specs.Words.{InFrame, Address}
+use Rattle.std.proofs.Common.{ap, ◌∙◌, sym, arith, subst}
+use Rattle.dis_meaning.specs.Words.{Address}
 use Rattle.dis_meaning.specs.Step.{frame_at}
-use Rattle.dis_control_ops.specs.declared.word.Place.TheVariants as place
 use Rattle.dis_control_ops.specs.Words.{view_place, view_word}
 use Rattle.dis_control_ops.specs.Frames.{view_frames, count, IsAt}
 use Rattle.dis_control_ops.specs.View.{view_process}
@@ -19,9 +18,9 @@ returns-in-Some-clause-found c =
       frame = at.frame;
       there = at.there;
       found =
-      ap (λ w. frame_at (view_process p) (view_word w)) c.in-Address.is
-      ∙ ap (λ pl. frame_at (view_process p) (Address (view_place pl) c.in-Address.at)) c.in-Frame.is
-      ∙ made_at_place s (view_frames p.made.items) c.in-Some.k at.frame at.there at.same (omega (arith, o));
+          ap (λ w. frame_at (view_process p) (view_word w)) c.in-Address.is
+          ∙ ap (λ pl. frame_at (view_process p) (Address (view_place pl) c.in-Address.at)) c.in-Frame.is
+          ∙ made_at_place s (view_frames p.made.items) c.in-Some.k at.frame at.there at.same (omega (arith, o));
     }
 
 pub returns-in-None-clause-wrong : goal.returns-in-None-clause-wrong

@@ -1,8 +1,7 @@
-use Rattle.std.proofs.Common.{◌≡◌, ◌+◌, ◌<◌, ◌∷◌, suc, drop, get_or, length, pos, true, ap, sym, ◌∙◌, add-one, arith}
+use Rattle.std.proofs.Common.{◌+◌, drop, get_or, pos, ap, sym, ◌∙◌, add-one, arith}
 use Rattle.std.specs.Prelude.{slice_set}
 use Rattle.std.proofs.lemmas.List.{at_drop_more, map-set, length-map}
 use Rattle.std.proofs.lemmas.Option.{slice_get_within}
-use Rattle.dis_meaning.specs.Words.{Found}
 use Rattle.dis_meaning.specs.Step.{all_replaced}
 use Rattle.dis_control_ops.specs.declared.word.Word.TheVariants.{Plain}
 use Rattle.dis_control_ops.specs.Words.{view_word, view_words}
@@ -41,10 +40,10 @@ loop-word-preserved c =
     let set = map-set view_word items k word in
     record {
       takes =
-      ap (λ ws. takes_all ws (k + 1) vs) set ∙ ap (λ n. takes_all (slice_set (view_words items) k v) n vs) (add-one k) ∙ takes_next (view_words items) k v vs t;
+          ap (λ ws. takes_all ws (k + 1) vs) set ∙ ap (λ n. takes_all (slice_set (view_words items) k v) n vs) (add-one k) ∙ takes_next (view_words items) k v vs t;
       whole =
-      ap (λ ws. all_replaced ws (k + 1) vs) set ∙ ap (λ n. all_replaced (slice_set (view_words items) k v) n vs) (add-one k)
-      ∙ sym (replaces_first (view_words items) k v vs t)
-      ∙ sym (at_drop_more (λ vs. all_replaced (view_words items) k (view_words vs)) c.args.new.now c.loop-word.word-index (Plain (pos 0)) c.loop-word-test.true)
-      ∙ c.loop-word.invariant.whole;
+          ap (λ ws. all_replaced ws (k + 1) vs) set ∙ ap (λ n. all_replaced (slice_set (view_words items) k v) n vs) (add-one k)
+          ∙ sym (replaces_first (view_words items) k v vs t)
+          ∙ sym (at_drop_more (λ vs. all_replaced (view_words items) k (view_words vs)) c.args.new.now c.loop-word.word-index (Plain (pos 0)) c.loop-word-test.true)
+          ∙ c.loop-word.invariant.whole;
     }

@@ -1,4 +1,4 @@
-use Rattle.std.proofs.Common.{◌≡◌, ap, sym, ◌∙◌, subst, arith}
+use Rattle.std.proofs.Common.{ap, sym, ◌∙◌, subst, arith}
 use Rattle.dis_meaning.specs.Process.{with_frames}
 use Rattle.dis_meaning.specs.Step.{without}
 use Rattle.dis_control_ops.specs.Frames.{view_frames, count, IsAt}
@@ -16,10 +16,10 @@ invariant_of-proc c =
     let at : IsAt s (view_frames p.made.items) k = subst (λ fs. IsAt s (view_frames fs) k) c.deref.ensures.value c.in-Some.ensures.found in
     record {
       once = λ n.
-      let o = p.once n in
-      let m = ap (λ fs. count n (view_frames fs)) c.remove-frame.ensures.items in
-      let w = count_without n p.made.items k c.remove-frame.result (within s p.made.items k at) c.remove-frame.ensures.value in
-      omega (arith, o, m, w);
+          let o = p.once n in
+          let m = ap (λ fs. count n (view_frames fs)) c.remove-frame.ensures.items in
+          let w = count_without n p.made.items k c.remove-frame.result (within s p.made.items k at) c.remove-frame.ensures.value in
+          omega (arith, o, m, w);
     }
 
 pub returns-in-Some-clause-gone : goal.returns-in-Some-clause-gone
