@@ -1,17 +1,17 @@
 -- Frames that are made, called, and gone.
-use Rattle.std.proofs.Common.{◌≡◌, ℕ, zero, suc, ◌+◌, ◌<◌, ◌≤◌, List, [], ◌∷◌, ◌++◌, map, length, get_or, Option, Some, refl, sym, ap, ◌∙◌, arith}
+use Rattle.std.proofs.Common.{◌≡◌, ℕ, suc, ◌+◌, ◌<◌, ◌≤◌, List, [], ◌∷◌, ◌++◌, length, get_or, Some, refl, sym, ap, ◌∙◌, arith}
 use Rattle.std.proofs.lemmas.Bool.Decides.{nat_tests}
 use Rattle.std.specs.Prelude.{slice_get, reverse, nat_eq, if◌then◌else◌}
 use Rattle.std.specs.List.{remove}
 use Rattle.std.proofs.lemmas.List.{map-append, reverse-append, length-reverse, length-map}
-use Rattle.dis_meaning.specs.Process.{Frame, Process, with_frames, at_pc}
+use Rattle.dis_meaning.specs.Process.{Frame, with_frames, at_pc}
 use Rattle.dis_meaning.specs.Step.{without}
 use Rattle.dis_control_ops.specs.declared.frame.Frame as code_frame
 use Rattle.dis_control_ops.specs.declared.process.Proc as code_proc
 use Rattle.dis_control_ops.specs.Frames.{view_frame, view_frames, one, count, occurs, room}
 use Rattle.dis_control_ops.specs.Made.{entered}
 use Rattle.dis_control_ops.specs.View.{view_process}
-use Rattle.dis_control_ops.proofs.Serials.{count_append, count_at, count_removed, without_one, map_remove}
+use Rattle.dis_control_ops.proofs.Serials.{count_append, count_removed, without_one, map_remove}
 use Rattle.dis_control_ops.proofs.Written.{once, seen}
 
 -- one frame more at the end

@@ -1,5 +1,5 @@
 -- The frame of a call of print goes.
-use Rattle.std.proofs.Common.{◌≡◌, ℕ, ℤ, zero, suc, ◌+◌, ◌<◌, ◌≤◌, length, get_or, Bool, true, false, List, [], ◌∷◌, ◌++◌, map, Option, Some, None, Result, ◌⊎◌, inl, inr, refl, sym, ap, ◌∙◌, subst, arith, if◌then◌else◌}
+use Rattle.std.proofs.Common.{◌≡◌, ℕ, ℤ, ◌<◌, length, get_or, Bool, true, false, List, [], ◌∷◌, ◌++◌, map, Some, ◌⊎◌, inl, inr, refl, sym, ap, ◌∙◌, arith, if◌then◌else◌}
 use Rattle.std.specs.Prelude.{slice_get, reverse, nat_eq}
 use Rattle.std.proofs.lemmas.Bool.{eqb-true}
 use Rattle.limbo_meaning.specs.Prints as prints
@@ -22,7 +22,7 @@ use Rattle.dis_control_ops.specs.Frames.{view_frame, view_frames, one, count}
 use Rattle.dis_control_ops.specs.View.{view_process}
 use Rattle.dis_control_ops.specs.Made.{discarded, is_frame}
 use Rattle.dis_control_ops.specs.Plans.{planned, carried_out, IsPrint}
-use Rattle.dis_control_ops.proofs.Serials.{which, one_here, count_reverse, count_at, words_past, no_words}
+use Rattle.dis_control_ops.proofs.Serials.{which, count_reverse, count_at, words_past, no_words}
 use Rattle.dis_control_ops.proofs.Written.{once, seen}
 
 -- ---- frames without those of a serial

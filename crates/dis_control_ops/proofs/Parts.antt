@@ -1,5 +1,5 @@
 -- What a format makes, part by part.
-use Rattle.std.proofs.Common.{◌≡◌, ℕ, ℤ, Bool, true, false, List, [], ◌∷◌, ◌++◌, Option, Some, None, refl, sym, ap, ◌∙◌, append_assoc, append-nil, if◌then◌else◌}
+use Rattle.std.proofs.Common.{◌≡◌, ℕ, ℤ, false, List, [], ◌∷◌, ◌++◌, Option, Some, None, refl, sym, ap, append_assoc, if◌then◌else◌}
 use Rattle.std.specs.Prelude.{◌==◌}
 use Rattle.dis_meaning.specs.Formats.{in_front, verb, formatted}
 

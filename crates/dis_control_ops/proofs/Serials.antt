@@ -1,5 +1,5 @@
 -- Frames by their serials.
-use Rattle.std.proofs.Common.{◌≡◌, ℕ, zero, suc, ◌+◌, ◌≤◌, Bool, true, false, List, [], ◌∷◌, ◌++◌, map, Option, Some, ◌⊎◌, inl, inr, refl, sym, ap, ◌∙◌, subst, arith, if◌then◌else◌}
+use Rattle.std.proofs.Common.{◌≡◌, ℕ, zero, suc, ◌+◌, ◌≤◌, Bool, true, false, List, [], ◌∷◌, ◌++◌, map, Some, ◌⊎◌, inl, inr, refl, sym, ap, ◌∙◌, subst, arith, if◌then◌else◌}
 use Rattle.std.specs.Prelude.{slice_get, slice_set, reverse, nat_eq}
 use Rattle.std.specs.List.{remove}
 use Rattle.std.proofs.lemmas.Bool.{eq-eqb}
@@ -8,7 +8,7 @@ use Rattle.dis_meaning.specs.Words.{Word, Found, Wrong, dead_address}
 use Rattle.dis_meaning.specs.Process.{Frame, with_words}
 use Rattle.dis_meaning.specs.Places.{words_in, change}
 use Rattle.dis_meaning.specs.Step.{made_frame, without}
-use Rattle.dis_control_ops.specs.Frames.{one, count, IsAt}
+use Rattle.dis_control_ops.specs.Frames.{one, count}
 
 pub which : (b : Bool) → (b ≡ true) ⊎ (b ≡ false)
 which true = inl refl

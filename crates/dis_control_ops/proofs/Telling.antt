@@ -4,9 +4,8 @@ use Rattle.process_model.specs.Process.{Went, Ends}
 use Rattle.limbo_meaning.specs.Process.{Faulted}
 use Rattle.dis_isa.specs.declared.inst.Inst.{Inst}
 use Rattle.dis_isa.specs.declared.op.Op.{Op}
-use Rattle.dis_isa.specs.declared.op.Op.TheVariants as op
 use Rattle.dis_file.specs.declared.object.Object.{Object}
-use Rattle.dis_meaning.specs.Words.{Access, Wrong, type_check}
+use Rattle.dis_meaning.specs.Words.{Access}
 use Rattle.dis_meaning.specs.World.{World}
 use Rattle.dis_meaning.specs.Process.{Process, Does, or_fault}
 use Rattle.dis_meaning.specs.Step.{obey}
@@ -14,7 +13,6 @@ use Rattle.dis_control_ops.specs.declared.word.Halt.{Halt}
 use Rattle.dis_control_ops.specs.declared.word.Halt.TheVariants as halt
 use Rattle.dis_control_ops.specs.declared.outcome.Does as code_does
 use Rattle.dis_control_ops.specs.declared.outcome.Does.TheVariants as does
-use Rattle.dis_control_ops.specs.declared.outcome.Stepped.{Stepped}
 use Rattle.dis_control_ops.specs.Words.{Gives, number_of}
 use Rattle.dis_control_ops.specs.Outcomes.{effect_of, went_of, stepped_of, Steps, Stays, stays_after, Kept}
 

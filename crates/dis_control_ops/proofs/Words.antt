@@ -1,9 +1,9 @@
 -- Words of the program: one is replaced, and those of a type are made.
-use Rattle.std.proofs.Common.{◌≡◌, ℕ, zero, suc, ◌+◌, Bool, true, List, [], ◌∷◌, ◌++◌, refl, sym, ap, ◌∙◌, arith, if◌then◌else◌}
+use Rattle.std.proofs.Common.{◌≡◌, ℕ, zero, suc, ◌+◌, true, List, [], ◌∷◌, ◌++◌, sym, ap, ◌∙◌, arith, if◌then◌else◌}
 use Rattle.std.specs.Prelude.{slice_get, slice_set}
 use Rattle.std.proofs.lemmas.List.{map-set}
 use Rattle.dis_file.specs.declared.types.TypeDesc.{TypeDesc}
-use Rattle.dis_meaning.specs.Words.{Word, Found, Wrong, ◌>>=◌, type_check, or_wrong, fits, replaced, blank_word, blanks}
+use Rattle.dis_meaning.specs.Words.{Found, Wrong, ◌>>=◌, type_check, or_wrong, fits, replaced, blank_word, blanks}
 use Rattle.dis_control_ops.specs.declared.word.Word as code_word
 use Rattle.dis_control_ops.specs.Words.{view_word, view_words}
 

@@ -1,22 +1,21 @@
 -- Words that are stored in a frame or a block.
-use Rattle.std.proofs.Common.{◌≡◌, ℕ, zero, suc, ℤ, ◌+◌, ◌<◌, ◌≤◌, Bool, true, false, List, [], ◌∷◌, ◌++◌, map, length, get_or, Option, Some, None, Result, Ok, Err, ◌⊎◌, inl, inr, refl, sym, ap, ◌∙◌, subst, append-nil, arith, nat_lt, if◌then◌else◌}
+use Rattle.std.proofs.Common.{◌≡◌, ℕ, zero, suc, ℤ, ◌<◌, ◌≤◌, Bool, true, false, List, [], ◌∷◌, ◌++◌, map, length, get_or, Some, Result, Ok, Err, refl, sym, ap, ◌∙◌, subst, append-nil, arith, nat_lt, if◌then◌else◌}
 use Rattle.std.specs.Prelude.{slice_get, slice_set, reverse}
 use Rattle.std.specs.Option.{option_map}
 use Rattle.std.proofs.lemmas.List.{map-set, length-map}
 use Rattle.std.proofs.lemmas.Option.{slice_get-map, slice_get_read, slice_get_within}
-use Rattle.dis_meaning.specs.Words.{Word, Access, Found, Wrong, ◌>>=◌, dead_address, or_wrong}
+use Rattle.dis_meaning.specs.Words.{Word, Access, Found, Wrong, ◌>>=◌, dead_address}
 use Rattle.dis_meaning.specs.World.{Content, World, block, with_content}
-use Rattle.dis_meaning.specs.Process.{Frame, Process, Printing, with_words, with_frames}
+use Rattle.dis_meaning.specs.Process.{Frame, with_words, with_frames}
 use Rattle.dis_meaning.specs.Places.{words_in, all_frames, change, with_frame_words, data_of, renewed}
-use Rattle.dis_control_ops.specs.declared.word.Word as code_word
 use Rattle.dis_control_ops.specs.declared.word.Fault.{Fault}
 use Rattle.dis_control_ops.specs.declared.frame.Frame as code_frame
 use Rattle.dis_control_ops.specs.declared.process.Proc as code_proc
-use Rattle.dis_control_ops.specs.Words.{view_word, view_words, GivesFault}
+use Rattle.dis_control_ops.specs.Words.{view_words, GivesFault}
 use Rattle.dis_control_ops.specs.Frames.{view_frame, view_frames, one, count, occurs, room, IsAt}
 use Rattle.dis_control_ops.specs.View.{view_process}
 use Rattle.dis_control_ops.specs.Storing.{put_all, content_written, block_written}
-use Rattle.dis_control_ops.proofs.Serials.{one_same, count_reverse, count_set, count_at, words_past, no_words, words_among, among_at, among_reverse, same_here, one_elsewhere, change_here, change_elsewhere, change_none, change_at, map_reverse}
+use Rattle.dis_control_ops.proofs.Serials.{one_same, count_reverse, count_set, count_at, words_past, no_words, words_among, among_at, among_reverse, same_here, change_here, change_elsewhere, change_none, change_at, map_reverse}
 
 -- What a call gives, when more is done with it.
 pub gives_then : {S T U : Type 0} (r : Result S Fault) (a : Access T) (f : T → Access U) (see : S → T) (see' : S → U) → ((s : S) → f (see s) ≡ Found (see' s)) → GivesFault see r a → GivesFault see' r (a >>= f)

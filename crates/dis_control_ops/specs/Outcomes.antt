@@ -54,6 +54,7 @@ stays_after (stepped.Broken text) = true
 stays_after (stepped.Fault f) = true
 stays_after stepped.NoMemory = true
 
+-- After a reply likewise.
 abbrev pub stays_after_reply : Heard → Bool
 stays_after_reply heard.Went = false
 stays_after_reply (heard.Asked m) = false
@@ -61,6 +62,7 @@ stays_after_reply (heard.Fault f) = true
 stays_after_reply heard.Refused = true
 stays_after_reply heard.NoMemory = true
 
+-- World and process are as before, where that is so.
 abbrev pub Stays : Bool → World → Process → World → Process → Type 0
 Stays true x p y q = (y ≡ x) × (q ≡ p)
 Stays false x p y q = Unit {0}
@@ -79,21 +81,26 @@ abbrev pub SentAgain : Heard → Option Asking → Type 0
 SentAgain (heard.Asked m) printing = IsAsked m printing
 SentAgain _ printing = Unit {0}
 
--- The same inside.
+-- ---- the same before it is told, where a fault is an error
+
+-- Whether an instruction ends its process.
 abbrev pub ends : code_does.Does → Bool
 ends does.Went = false
 ends (does.Asked m) = false
 ends does.Ended = true
 ends (does.Broken text) = true
 
+-- Where the process ends, or nothing is done, world and process are as before.
 abbrev pub Kept : Result code_does.Does Halt → World → Process → World → Process → Type 0
 Kept (Ok d) x p y q = Stays (ends d) x p y q
 Kept (Err h) x p y q = Stays true x p y q
 
+-- An instruction that always goes on where it does anything.
 abbrev pub went_of : Result (Unit {0}) Halt → Result code_does.Does Halt
 went_of (Ok u) = Ok does.Went
 went_of (Err h) = Err h
 
+-- What is told of it.
 abbrev pub does_told : code_does.Does → Stepped
 does_told does.Went = stepped.Went
 does_told (does.Asked m) = stepped.Asked m
@@ -108,13 +115,15 @@ abbrev pub stepped_of : Result code_does.Does Halt → Stepped
 stepped_of (Ok d) = does_told d
 stepped_of (Err h) = halt_told h
 
--- The object whose code a process runs, and what its instruction there does.
+-- The object whose code a process runs.
 abbrev pub running : List Object → World → Process → Access Object
 running objects x p = block x p.frame.instance >>= object_of >>= λ n. or_wrong type_check (slice_get objects n)
 
+-- What its instruction there does.
 abbrev pub worked : (limit : ℕ) → List Object → World → Process → Access Does
 worked limit objects x p = running objects x p >>= λ o. work limit o x p
 
+-- What is asked is a message.
 abbrev pub DoesSend : code_does.Does → Option Asking → Type 0
 DoesSend (does.Asked m) printing = IsAsked m printing
 DoesSend _ printing = Unit {0}

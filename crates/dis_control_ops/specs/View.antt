@@ -1,9 +1,9 @@
 -- Processes and blocks of the program, as the definitions have them.
-use Rattle.std.specs.Prelude.{ℕ, List, map, reverse, Option}
+use Rattle.std.specs.Prelude.{ℕ, List, map, reverse}
 use Rattle.std.specs.Option.{option_map}
 use Rattle.dis_file.specs.declared.object.Object.{Object}
 use Rattle.dis_meaning.specs.World.{Content, Text, Instance, Sys, World}
-use Rattle.dis_meaning.specs.Process.{Frame, Printing, Process}
+use Rattle.dis_meaning.specs.Process.{Printing, Process}
 use Rattle.sys_print.specs.Worlds as outside
 use Rattle.sys_print.specs.Printing.{view_writing}
 use Rattle.dis_control_ops.specs.declared.store.Content as code_content

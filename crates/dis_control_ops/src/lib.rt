@@ -5,8 +5,15 @@
 //! `view_world` of `specs/` join the data here to those of the definitions. An instruction that faults, or is refused memory, changes
 //! nothing.
 //!
-//! In the order of reading: `word` (words, faults, and why an access fails), `memory` (words among others), `frame` and `process`
-//! (frames and the process that has them), `store` (blocks, and the outside). The machine stands on it.
+//! In the order of reading: `word` (words, faults, and why an access fails), `memory` (words among others), `frame`, `process` and
+//! `begin` (frames, the process that has them, and the one a machine begins with), `store` (blocks, and the outside), `frames` and
+//! `blocks` (both by their serials), `spots` (the words that operands name), `storing`; then the instructions: `moves`, `rows` (moves
+//! of several words), `control` (jumps, calls and returns), `making` (frames that are made), `formats`, `texts` and `printing` (a call
+//! of print), `sys` (modules); `outcome`, `steps` and `replies`. The machine stands on it.
+//!
+//! A frame is found by its serial. That each serial is at most one frame's is kept by the type of the process, so that one frame is
+//! changed where the definition changes every frame of a serial. In `proofs/`, `Serials` and `Written` have frames by their serials,
+//! `Stored` and `Going` what is stored, `Calling` and `Discarding` frames that are called and that go, `Telling` what is told.
 #![tactic(auto)]
 
 mod begin;
@@ -28,6 +35,8 @@ mod steps;
 mod store;
 mod storing;
 mod sys;
+#[cfg(test)]
+mod tests;
 mod texts;
 mod word;
 

@@ -134,7 +134,7 @@ fn plan_print(alloc: Global, store: &Store, words: &[Word]) -> Result<Plan, Halt
     let printing = print(alloc, &store.outside, &text)?;
     Ok(Plan {
         place,
-        at: to.place(),
+        at: to.byte(),
         printing,
     })
 }

@@ -46,7 +46,7 @@ pub(crate) fn move_words(
 {
     let from = spot_of(store, proc, inst.src)?;
     let words = words_at(store, proc, from)?;
-    let first = word_number(from.place())?;
+    let first = word_number(from.byte())?;
     let middle = middle_number(store, proc, inst.middle, inst.dst)?;
     let bytes = at_least_zero(middle)?;
     let count = word_number(i64::from(bytes))?;

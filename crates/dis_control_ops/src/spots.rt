@@ -25,7 +25,7 @@ pub(crate) enum Spot {
 
 impl Spot {
     /// Its number among the bytes there.
-    pub(crate) fn place(self) -> i64
+    pub(crate) fn byte(self) -> i64
         ensures { result ≡ meaning.place_in (view_spot self) }
     {
         match self {
@@ -65,7 +65,7 @@ pub(crate) fn words_at<'a>(
 pub(crate) fn read(store: &Store, proc: &Proc, spot: Spot) -> Result<Word, Fault>
     ensures { GivesFault view_word result (meaning.read (view_world store.now) (view_process proc.now) (view_spot spot)) }
 {
-    word_at(words_at(store, proc, spot)?, spot.place())
+    word_at(words_at(store, proc, spot)?, spot.byte())
 }
 
 /// Its address.

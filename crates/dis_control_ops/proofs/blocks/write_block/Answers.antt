@@ -1,11 +1,11 @@
-use Rattle.std.proofs.Common.{◌≡◌, ◌<◌, length, Some, map, ap, sym, ◌∙◌, subst, arith, w64}
+use Rattle.std.proofs.Common.{◌≡◌, ◌<◌, length, Some, ap, sym, ◌∙◌, subst, arith, w64}
 use Rattle.std.proofs.lemmas.Int.{to_z-of_z}
 use Rattle.std.specs.Vec.{with_item}
 use Rattle.std.specs.Prelude.{slice_get, slice_set}
 use Rattle.std.proofs.lemmas.List.{map-set}
 use Rattle.std.proofs.lemmas.Result.{on_err_weaker}
-use Rattle.dis_meaning.specs.Words.{Found, ◌>>=◌, or_wrong, dead_address}
-use Rattle.dis_meaning.specs.World.{World, block, with_content}
+use Rattle.dis_meaning.specs.Words.{Found, or_wrong, dead_address}
+use Rattle.dis_meaning.specs.World.{with_content}
 use Rattle.dis_control_ops.specs.Words.{view_words, GivesFault}
 use Rattle.dis_control_ops.specs.View.{view_content, view_world}
 use Rattle.dis_control_ops.specs.Storing.{content_written}

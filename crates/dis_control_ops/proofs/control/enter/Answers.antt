@@ -1,4 +1,4 @@
-use Rattle.std.proofs.Common.{◌≡◌, ◌<◌, ◌+◌, suc, length, ap, sym, ◌∙◌, add-one, arith}
+use Rattle.std.proofs.Common.{◌<◌, ◌+◌, length, ap, ◌∙◌, add-one, arith}
 use Rattle.dis_meaning.specs.Process.{at_pc}
 use Rattle.dis_control_ops.specs.declared.frame.Frame as code_frame
 use Rattle.dis_control_ops.specs.Frames.{view_frame}

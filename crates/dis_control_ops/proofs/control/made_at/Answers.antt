@@ -1,7 +1,6 @@
-use Rattle.std.proofs.Common.{◌≡◌, ap, ◌∙◌, sym, arith, subst}
-use Rattle.dis_meaning.specs.Words.{InFrame, Address}
+use Rattle.std.proofs.Common.{ap, ◌∙◌, sym, arith, subst}
+use Rattle.dis_meaning.specs.Words.{Address}
 use Rattle.dis_meaning.specs.Step.{frame_at}
-use Rattle.dis_control_ops.specs.declared.word.Place.TheVariants as place
 use Rattle.dis_control_ops.specs.Words.{view_place, view_word}
 use Rattle.dis_control_ops.specs.Frames.{view_frames, count, IsAt}
 use Rattle.dis_control_ops.specs.View.{view_process}

@@ -1,6 +1,6 @@
-use Rattle.std.proofs.Common.{◌≡◌, ◌∙◌, ◌∷◌, [], ◌++◌, false, sym, ap, rules, tests}
+use Rattle.std.proofs.Common.{◌≡◌, ◌∙◌, ◌∷◌, [], false, sym, ap, rules, tests}
 use Rattle.std.specs.Prelude.{◌==◌}
-use Rattle.dis_meaning.specs.Formats.{in_front, verb, formatted}
+use Rattle.dis_meaning.specs.Formats.{in_front, formatted}
 use Rattle.dis_control_ops.proofs.Parts.{plain, behind}
 use Rattle.dis_control_ops.proofs.formats.formatted.Goals as goal
 

@@ -1,5 +1,5 @@
-use Rattle.std.proofs.Common.{◌≡◌, ◌++◌, ◌∷◌, [], ◌+◌, ap, sym, ◌∙◌, add-one, arith, rules}
-use Rattle.dis_meaning.specs.Words.{blank_word, blanks}
+use Rattle.std.proofs.Common.{◌≡◌, ◌++◌, ◌∷◌, [], ap, sym, ◌∙◌, add-one, arith}
+use Rattle.dis_meaning.specs.Words.{blanks}
 use Rattle.std.proofs.lemmas.List.{map-append}
 use Rattle.dis_control_ops.specs.Words.{view_word, view_words}
 use Rattle.dis_control_ops.proofs.Words.{blanks_more}

@@ -1,5 +1,5 @@
-use Rattle.std.proofs.Common.{◌≡◌, ◌∷◌, ap, sym, ◌∙◌, subst, w64, arith}
-use Rattle.std.specs.Prelude.{reverse, slice_set}
+use Rattle.std.proofs.Common.{ap, sym, ◌∙◌, subst, w64, arith}
+use Rattle.std.specs.Prelude.{reverse}
 use Rattle.std.proofs.lemmas.List.{map-set}
 use Rattle.std.proofs.lemmas.Int.{to_z-of_z}
 use Rattle.dis_meaning.specs.Words.{Found, ◌>>=◌}

@@ -1,4 +1,4 @@
-use Rattle.std.proofs.Common.{◌≡◌, ap, sym, ◌∙◌, w64}
+use Rattle.std.proofs.Common.{ap, sym, ◌∙◌, w64}
 use Rattle.std.proofs.lemmas.Int.{to_z-of_z}
 use Rattle.dis_meaning.specs.Words.{word_number, ◌>>=◌}
 use Rattle.dis_meaning.specs.Step.{all_replaced}

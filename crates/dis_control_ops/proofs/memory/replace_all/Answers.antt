@@ -1,8 +1,7 @@
-use Rattle.std.proofs.Common.{◌≡◌, ◌+◌, ◌<◌, ◌∷◌, suc, drop, get_or, length, pos, true, ap, sym, ◌∙◌, add-one, arith}
+use Rattle.std.proofs.Common.{◌+◌, drop, get_or, pos, ap, sym, ◌∙◌, add-one, arith}
 use Rattle.std.specs.Prelude.{slice_set}
 use Rattle.std.proofs.lemmas.List.{at_drop_more, map-set, length-map}
 use Rattle.std.proofs.lemmas.Option.{slice_get_within}
-use Rattle.dis_meaning.specs.Words.{Found}
 use Rattle.dis_meaning.specs.Step.{all_replaced}
 use Rattle.dis_control_ops.specs.declared.word.Word.TheVariants.{Plain}
 use Rattle.dis_control_ops.specs.Words.{view_word, view_words}

@@ -1,4 +1,4 @@
-use Rattle.std.proofs.Common.{◌≡◌, ap, sym, ◌∙◌, subst, arith}
+use Rattle.std.proofs.Common.{ap, sym, ◌∙◌, subst, arith}
 use Rattle.dis_meaning.specs.Process.{with_frames}
 use Rattle.dis_meaning.specs.Step.{without}
 use Rattle.dis_control_ops.specs.Frames.{view_frames, count, IsAt}

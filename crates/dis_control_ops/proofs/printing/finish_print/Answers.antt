@@ -1,15 +1,13 @@
-use Rattle.std.proofs.Common.{◌≡◌, [], ◌∷◌, refl, ap, sym, ◌∙◌, w32, w64, to_z, of_z}
+use Rattle.std.proofs.Common.{[], ◌∷◌, refl, ap, sym, ◌∙◌, w32, w64, to_z, of_z}
 use Rattle.std.proofs.lemmas.Int.{to_z-of_z}
 use Rattle.process_model.specs.Process.{Went}
-use Rattle.dis_meaning.specs.Words.{Plain, Found, Wrong, ◌>>=◌}
-use Rattle.dis_meaning.specs.Places.{Far, Memory, store}
-use Rattle.dis_meaning.specs.Process.{Does}
-use Rattle.dis_meaning.specs.Step.{outside_is, next}
+use Rattle.dis_meaning.specs.Words.{Plain, Found, ◌>>=◌}
+use Rattle.dis_meaning.specs.Places.{Far}
+use Rattle.dis_meaning.specs.Step.{outside_is}
 use Rattle.sys_print.specs.Worlds as outside
 use Rattle.dis_control_ops.specs.Words.{view_place}
 use Rattle.dis_control_ops.specs.View.{view_process, view_world}
 use Rattle.dis_control_ops.specs.Storing.{written, moved_on}
-use Rattle.dis_control_ops.specs.Made.{discarded}
 use Rattle.dis_control_ops.proofs.Going.{stored_then}
 use Rattle.dis_control_ops.proofs.Discarding.{goes_without, store_left, store_gone}
 use Rattle.dis_control_ops.proofs.printing.finish_print.Goals as goal

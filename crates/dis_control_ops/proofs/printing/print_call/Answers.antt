@@ -1,11 +1,7 @@
-use Rattle.std.proofs.Common.{◌≡◌, ◌<◌, Option, Some, length, ap, sym, ◌∙◌, subst, arith}
+use Rattle.std.proofs.Common.{◌<◌, length, ap, sym, ◌∙◌, subst, arith}
 use Rattle.std.proofs.lemmas.Result.{err_from_is_err_and}
-use Rattle.std.specs.Prelude.{slice_get}
 use Rattle.dis_meaning.specs.Words.{◌>>=◌}
-use Rattle.dis_meaning.specs.Process.{Frame}
-use Rattle.dis_meaning.specs.Step.{print_call}
 use Rattle.dis_control_ops.specs.Words.{view_words, Halts}
-use Rattle.dis_control_ops.specs.Frames.{view_frame, view_frames}
 use Rattle.dis_control_ops.specs.View.{view_process, view_world}
 use Rattle.dis_control_ops.specs.Made.{discarded}
 use Rattle.dis_control_ops.specs.Plans.{planned, carried_out}

@@ -1,4 +1,4 @@
-use Rattle.std.proofs.Common.{◌≡◌, drop, map}
+use Rattle.std.proofs.Common.{◌≡◌, drop}
 use Rattle.dis_meaning.specs.Step.{numbers}
 use Rattle.dis_control_ops.specs.Words.{view_words}
 use Rattle.dis_control_ops.proofs.Numbers.{joined}
