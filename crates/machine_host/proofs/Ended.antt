@@ -90,7 +90,7 @@ stopped m events start now failed before after heard cause all =
     let each = serves_each false heard.answered heard.answers heard.bytes failed heard.served in
     let n = ap length same in
     let served : take (length heard.answers) (requests 1 (told m)) ≡ heard.answered =
-        ap (λ k. take k (requests 1 (told m))) (sym each) ∙ ap (take (length heard.answered)) heard.asked ∙ front heard.answered heard.rest in
+    ap (λ k. take k (requests 1 (told m))) (sym each) ∙ ap (take (length heard.answered)) heard.asked ∙ front heard.answered heard.rest in
     record {
       reached = reached m events all;
       ended = inl refl;

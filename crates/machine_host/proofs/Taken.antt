@@ -114,12 +114,16 @@ module _ (objects : List Object) where
       (t : State) × ((elim (answered s 0 reply does) as (λ _. Option State) [ None ↦ None | Some t ↦ Some (model.freeing no_counts 0 t) ]) ≡ Some t)
       × ((q : Process) (a : Printing) → slice_get t.processes 0 ≡ Some (Asking q) → q.printing ≡ Some a → length a.writing.left < length k.left)
   by_answer s p k reply (Went x q) one is = (_, refl, λ r a at asks. let w : Some (Ready q) ≡ Some (Asking r) = ap (λ ps. slice_get (Rattle.std.proofs.Math.ListN.set ps 0 (Ready q)) 0) (sym one) ∙ at in absurd cc)
-  by_answer s p k reply (Asks x m q) one is = (_, refl, λ r a at asks.
-      let w : Some (Asking q) ≡ Some (Asking r) = ap (λ ps. slice_get (Rattle.std.proofs.Math.ListN.set ps 0 (Asking q)) 0) (sym one) ∙ at in
-      let same : q ≡ r = cc in
-      let both : Some is.0 ≡ Some a = sym is.1 ∙ ap (λ q. q.printing) same ∙ asks in
-      let one : is.0 ≡ a = cc in
-      subst (λ (a : Printing). length a.writing.left < length k.left) one is.2)
+  by_answer s p k reply (Asks x m q) one is = (
+    _,
+    refl,
+    λ r a at asks.
+        let w : Some (Asking q) ≡ Some (Asking r) = ap (λ ps. slice_get (Rattle.std.proofs.Math.ListN.set ps 0 (Asking q)) 0) (sym one) ∙ at in
+        let same : q ≡ r = cc in
+        let both : Some is.0 ≡ Some a = sym is.1 ∙ ap (λ q. q.printing) same ∙ asks in
+        let one : is.0 ≡ a = cc in
+        subst (λ (a : Printing). length a.writing.left < length k.left) one is.2,
+  )
   by_answer s p k reply (Ends x how) one is = (_, refl, λ r a at asks. let w : Some Gone ≡ Some (Asking r) = ap (λ ps. slice_get (Rattle.std.proofs.Math.ListN.set ps 0 Gone) 0) (sym one) ∙ at in absurd cc)
   by_answer s p k reply (Parks x bs q) one is = absurd is
   by_answer s p k reply (Polls x bs q r) one is = absurd is
