@@ -1,12 +1,10 @@
 -- What is to be handed over after an instruction, and after a reply.
-use Rattle.std.proofs.Common.{◌≡◌, ◌≢◌, ℕ, Bool, true, false, List, [], ◌∷◌, ◌++◌, Option, Some, None, refl, sym, ap, subst, ◌∙◌, append-nil, rules, tests, if◌then◌else◌}
+use Rattle.std.proofs.Common.{◌≡◌, ◌≢◌, ℕ, true, List, [], ◌∷◌, ◌++◌, Option, Some, None, refl, ap, ◌∙◌, append-nil, rules, tests, if◌then◌else◌}
 use Rattle.std.specs.Prelude.{◌==◌}
 use Rattle.sys_print.specs.declared.writing.Request.{Request}
 use Rattle.sys_print.specs.Printing.{view_request}
-use Rattle.sys_print.specs.Sent.{IsSent}
 use Rattle.dis_control_ops.specs.declared.process.Asking.{Asking}
 use Rattle.dis_control_ops.specs.Outcomes.{IsAsked}
-use Rattle.machine_core.specs.declared.running.Doing.{Doing}
 use Rattle.machine_core.specs.declared.running.Doing.TheVariants as doing
 use Rattle.machine_core.specs.declared.running.Turn.{Turn}
 use Rattle.machine_core.specs.declared.running.Turn.TheVariants as turn

@@ -23,6 +23,8 @@ mod outcome;
 mod reply;
 mod running;
 mod standing;
+#[cfg(test)]
+mod tests;
 
 pub use end::End;
 pub use event::{Event, Journal};
