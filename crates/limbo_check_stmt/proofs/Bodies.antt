@@ -1,5 +1,5 @@
 -- Blocks, by what handles their exceptions.
-use Rattle.std.proofs.Common.{◌≡◌, ℕ, suc, List, [], ◌∷◌, length, refl, map, Option, Some, None, Result, Ok, Err, sym, ap, ◌∙◌}
+use Rattle.std.proofs.Common.{◌≡◌, ℕ, suc, List, [], ◌∷◌, length, refl, map, Some, None, Result, Ok, Err, sym, ap, ◌∙◌}
 use Rattle.limbo_types.specs.Types.{Ty}
 use Rattle.limbo_tree.specs.declared.stmt.Block as code_block
 use Rattle.limbo_tree.specs.declared.stmt.Block.{out-Block}

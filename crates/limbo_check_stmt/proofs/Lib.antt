@@ -1,1 +1,5 @@
 pub mod Bodies
+pub mod Proper
+pub mod ProperStmts
+pub mod ProperParams
+pub mod ProperSource

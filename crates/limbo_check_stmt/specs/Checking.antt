@@ -1,24 +1,23 @@
 -- Statements, functions and whole modules, checked from the left to the right, with the first condition that isn't met. That this is
 -- what the rules of `Typing` say is proved.
-use Rattle.std.specs.Prelude.{ℕ, ℤ, pos, int_lt, List, [], ◌∷◌, ◌++◌, length, map, Bool, true, false, not, ◌&&◌, ◌||◌, Option, None, Some, Result, Ok, Err, codes, if◌then◌else◌}
+use Rattle.std.specs.Prelude.{ℕ, pos, int_lt, List, [], ◌∷◌, ◌++◌, Bool, true, false, not, ◌&&◌, ◌||◌, Option, None, Some, Result, Ok, Err, codes, if◌then◌else◌}
 use Rattle.limbo_types.specs.Types.{Ty, FnTy, Int, Nothing}
 use Rattle.limbo_types.specs.Same.{same}
 use Rattle.limbo_tree.specs.Exprs as tree
-use Rattle.limbo_tree.specs.Types as tree_ty
 use Rattle.limbo_tree.specs.Decls.{Param, FnType, Decl, Var, Define}
 use Rattle.limbo_tree.specs.Stmts as stmts
-use Rattle.limbo_tree.specs.Sources.{Source, Top, Include, Declared, Defined}
+use Rattle.limbo_tree.specs.Sources.{Source, Top, Defined}
 use Rattle.limbo_typed.specs.Typed.{Expr, Number, Stmt, Stmts, Empty, Block, Assign, Eval, If, While, Return, Print, NoStmts, MoreStmts, Function, Module}
 use Rattle.limbo_typed.specs.View.{stmts_of, exprs_of}
 use Rattle.limbo_names.specs.declared.fault.Cause.{Cause}
-use Rattle.limbo_names.specs.declared.fault.Cause.TheVariants.{Twice, Unknown, TypeClash, NotPlace, NoReturn}
+use Rattle.limbo_names.specs.declared.fault.Cause.TheVariants.{Unknown, TypeClash, NotPlace, NoReturn}
 use Rattle.limbo_names.specs.Names.{◌>>=◌, choose, need, same_text, has_name}
 use Rattle.limbo_names.specs.Scopes.{Signature, Scope, is_top, same_fn}
-use Rattle.limbo_names.specs.Part.{is_int, is_plain, is_none, is_print, loaded, first_loaded, behind}
+use Rattle.limbo_names.specs.Part.{is_int, is_plain, is_none, is_print, first_loaded, behind}
 use Rattle.limbo_names.specs.Declaring.{ty_of, fn_of, declare}
 use Rattle.limbo_check_expr.specs.Envs.{Local, Env, find_local, added, added_unnamed, declared_number, enter, leave, empty}
 use Rattle.limbo_check_expr.specs.Checking.{types, int_value}
-use Rattle.limbo_check_expr.specs.Formats.{Printed, print_of}
+use Rattle.limbo_check_expr.specs.Formats.{print_of}
 
 -- ---- declarations and assignments
 

@@ -1,8 +1,10 @@
 //! Whole modules.
 
-ghost use Rattle.std.specs.Prelude.{◌≡◌, [], map};
+ghost use Rattle.std.specs.Prelude.{◌≡◌, [], map, true, IfOk};
 ghost use Rattle.limbo_tree.specs.View.{view_top, view_source};
 ghost use Rattle.limbo_typed.specs.View.{view_function, view_module};
+ghost use Rattle.limbo_typed.specs.Proper.{IsProper};
+ghost use Rattle.limbo_names.specs.Part.{is_built};
 ghost use Rattle.limbo_names.specs.View.{Gives, view_scope};
 ghost use Rattle.limbo_check_stmt.specs.Checking as checking;
 
@@ -42,16 +44,27 @@ fn functions(alloc: Global, scope: &Scope, tops: &[Top]) -> Result<Vec<TFn>, Che
     Ok(all)
 }
 
-/// The checked module of a source.
-///
-/// # Errors
-/// 41, 42, 50, 51, 54 or 63, for the first condition that the source doesn't meet; want of memory.
+// The checked module of a source.
 #[tactic(auto, using(limbo_names::proofs::Steps::fails_bind), unfolding(crate::specs::Checking::check, crate::specs::Checking::module_in))]
-pub fn check_module(alloc: Global, source: &Source) -> Result<TypedModule, CheckFault>
+fn checked(alloc: Global, source: &Source) -> Result<TypedModule, CheckFault>
     ensures { Gives view_module result (checking.check (view_source source.now)) }
 {
     let scope = declare(alloc, source)?;
     let functions = functions(alloc, &scope, &source.tops)?;
     let name = scope.name.clone()?;
     Ok(TypedModule { name, functions })
+}
+
+/// The checked module of a source.
+///
+/// # Errors
+/// 41, 42, 50, 51, 54 or 63, for the first condition that the source doesn't meet; want of memory.
+pub fn check_module(alloc: Global, source: &Source) -> Result<TypedModule, CheckFault>
+    // It is the one that is defined, or the refusal is.
+    ensures exact { Gives view_module result (checking.check (view_source source.now)) }
+
+    // Of a source of the part that is built, what is given is proper.
+    ensures proper { is_built (view_source source.now) ≡ true → IfOk result (λ m. IsProper (view_module m)) }
+{
+    checked(alloc, source)
 }

@@ -1,0 +1,6 @@
+use Rattle.limbo_tree.specs.View.{view_source}
+use Rattle.limbo_check_stmt.proofs.ProperSource.{is_proper}
+use Rattle.limbo_check_stmt.proofs.module.check_module.Goals as goal
+
+pub returns-clause-proper : goal.returns-clause-proper
+returns-clause-proper c = is_proper (view_source c.args.source.now) c.checked.result c.checked.ensures
