@@ -1,3 +1,4 @@
 pub mod Fine
 pub mod Spelled
 pub mod Means
+pub mod Sound

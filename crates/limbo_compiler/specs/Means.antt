@@ -8,7 +8,7 @@ use Rattle.limbo_meaning.specs.Program.{Routine}
 use Rattle.limbo_meaning.specs.Runs.{Meaning, MeaningRun}
 use Rattle.machine_core.specs.declared.event.Event.{Event}
 use Rattle.machine_core.specs.declared.event.Event.TheVariants as event
-use Rattle.machine_core.specs.Journal.{State, place_of, state_of, cut_events}
+use Rattle.machine_core.specs.Journal.{State, fault_in, place_of, state_of, cut_events}
 use Rattle.limbo_lower.specs.Sizes.{FrameTooLarge}
 use Rattle.code_sim.specs.Keeps.{object_for, BeginsWith}
 
@@ -44,3 +44,10 @@ JournalsMean =
     (m : Module) → IsProper m → (FrameTooLarge m → ⊥) → (init : ℕ) (first : Routine) → BeginsWith m init first →
     (journal : List Event) (cut : Option ℕ) (t : State) → state_of (object_for m ∷ []) journal cut ≡ Some t →
     Means m init (journal ++ cut_events cut) t
+
+-- No journal of a machine of the object tells of a wrong instruction.
+abbrev pub NoneFault : Type 0
+NoneFault =
+    (m : Module) → IsProper m → (FrameTooLarge m → ⊥) → (init : ℕ) (first : Routine) → BeginsWith m init first →
+    (journal : List Event) (cut : Option ℕ) (t : State) → state_of (object_for m ∷ []) journal cut ≡ Some t →
+    fault_in t.trace ≡ None

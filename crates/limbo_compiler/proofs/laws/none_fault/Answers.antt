@@ -1,0 +1,5 @@
+use Rattle.limbo_compiler.proofs.Sound as proved
+use Rattle.limbo_compiler.proofs.laws.none_fault.Goals as goal
+
+pub returns : goal.returns
+returns c = proved.none_fault
