@@ -3,3 +3,4 @@ pub mod Proper
 pub mod ProperStmts
 pub mod ProperParams
 pub mod ProperSource
+pub mod Begins

@@ -42,7 +42,7 @@ pub record Given (s : Scope) (n : List ℕ) (f : FnType) (b : stmts.Block) (g : 
   pub variables_are : g.variables ≡ (inside.1).variables
   pub body_is : g.body ≡ stmts_of inside.0
 
-given : (s : Scope) (n : List ℕ) (f : FnType) (b : stmts.Block) (g : Function) → function s n f b ≡ Ok g → Given s n f b g
+pub given : (s : Scope) (n : List ℕ) (f : FnType) (b : stmts.Block) (g : Function) → function s n f b ≡ Ok g → Given s n f b g
 unfolding function
 given s n f b g h =
     let p = bind_ok (fn_of s.draw f) _ g h in

@@ -1,6 +1,6 @@
 -- Statements, functions and whole modules, checked from the left to the right, with the first condition that isn't met. That this is
 -- what the rules of `Typing` say is proved.
-use Rattle.std.specs.Prelude.{ℕ, pos, int_lt, List, [], ◌∷◌, ◌++◌, Bool, true, false, not, ◌&&◌, ◌||◌, Option, None, Some, Result, Ok, Err, codes, if◌then◌else◌}
+use Rattle.std.specs.Prelude.{◌≡◌, ℕ, pos, int_lt, List, [], ◌∷◌, ◌++◌, Bool, true, false, not, ◌&&◌, ◌||◌, Option, None, Some, Result, Ok, Err, slice_get, codes, if◌then◌else◌}
 use Rattle.limbo_types.specs.Types.{Ty, FnTy, Int, Nothing}
 use Rattle.limbo_types.specs.Same.{same}
 use Rattle.limbo_tree.specs.Exprs as tree
@@ -12,7 +12,7 @@ use Rattle.limbo_typed.specs.View.{stmts_of, exprs_of}
 use Rattle.limbo_names.specs.declared.fault.Cause.{Cause}
 use Rattle.limbo_names.specs.declared.fault.Cause.TheVariants.{Unknown, TypeClash, NotPlace, NoReturn}
 use Rattle.limbo_names.specs.Names.{◌>>=◌, choose, need, same_text, has_name}
-use Rattle.limbo_names.specs.Scopes.{Signature, Scope, is_top, same_fn}
+use Rattle.limbo_names.specs.Scopes.{Signature, Scope, is_top, same_fn, has_init}
 use Rattle.limbo_names.specs.Part.{is_int, is_plain, is_none, is_print, first_loaded, behind}
 use Rattle.limbo_names.specs.Declaring.{ty_of, fn_of, declare}
 use Rattle.limbo_check_expr.specs.Envs.{Local, Env, find_local, added, added_unnamed, declared_number, enter, leave, empty}
@@ -240,3 +240,20 @@ module_in s tops = functions s [] tops >>= λ fs. Ok (record { name = s.name; fu
 -- The checked module of a source.
 unfoldable pub check : Source → Result Module Cause
 check source = declare source >>= λ s. module_in s source.tops
+
+-- ---- the beginning of a module
+
+abbrev pub init_in : Result Scope Cause → Bool
+init_in (Ok s) = has_init s
+init_in (Err c) = false
+
+-- The module declares `init` as a first module has to.
+abbrev pub declares_init : Source → Bool
+declares_init source = init_in (declare source)
+
+-- The module defines a function of this name.
+pub record HasFunctionNamed (n : List ℕ) (m : Module) : Type 0 where
+  pub number : ℕ
+  pub function : Function
+  pub there : slice_get m.functions number ≡ Some function
+  pub named : function.name ≡ n

@@ -17,4 +17,4 @@ mod stmt;
 #[cfg(test)]
 mod tests;
 
-pub use module::check_module;
+pub use module::{check_module, declares_init};

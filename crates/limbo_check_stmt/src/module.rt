@@ -9,10 +9,10 @@ ghost use Rattle.limbo_names.specs.View.{Gives, view_scope};
 ghost use Rattle.limbo_check_stmt.specs.Checking as checking;
 
 use crate::function::function;
-use limbo_names::{CheckFault, Scope, declare};
+use limbo_names::{CheckFault, Scope, declare, has_init};
 use limbo_tree::{Source, Top};
 use limbo_typed::{TFn, TypedModule};
-use std::alloc::Global;
+use std::alloc::{AllocError, Global};
 
 // The functions that are defined there.
 #[tactic(auto, using(limbo_names::proofs::Steps::fails_bind))]
@@ -67,4 +67,18 @@ pub fn check_module(alloc: Global, source: &Source) -> Result<TypedModule, Check
     ensures proper { is_built (view_source source.now) ≡ true → IfOk result (λ m. IsProper (view_module m)) }
 {
     checked(alloc, source)
+}
+
+/// Whether the module of a source declares `init` as a first module has to. A source whose top level is refused declares none.
+///
+/// # Errors
+/// Want of memory.
+pub fn declares_init(alloc: Global, source: &Source) -> Result<bool, AllocError>
+    ensures { IfOk result (λ r. r ≡ checking.declares_init (view_source source.now)) }
+{
+    match declare(alloc, source) {
+        Ok(scope) => has_init(alloc, &scope),
+        Err(CheckFault::NoMemory) => Err(AllocError),
+        Err(CheckFault::Refused { .. }) => Ok(false),
+    }
 }
