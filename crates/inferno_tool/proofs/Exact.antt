@@ -1,15 +1,16 @@
 -- What follows of the cause, from where each cause comes.
 use Rattle.std.proofs.Common.{◌≡◌, ◌≤◌, ℕ, List, ◌⊎◌, inl, inr, refl, subst, sym, ◌∙◌, true, false, arith}
-use Rattle.std.specs.Prelude.{Option, Some, None}
+use Rattle.std.specs.Prelude.{Some, None}
 use Rattle.inf_ports.specs.Outside.{Told, Has, Lacks, Rose}
-use Rattle.first_part.specs.Part.{Program}
+use Rattle.limbo_typed.specs.Typed.{Module}
 use Rattle.inferno_tool.specs.Built.{IsBuilt}
-use Rattle.inferno_tool.specs.Outcome.{Course, HasProgram, IsAccepted, IsCause, IsRunEnd, IsSinkFault, IsSourceRefusal, Tells, TellsProgram, IsUnlessMemory}
+use Rattle.inferno_tool.specs.Outcome.{Course, HasProgram, IsAccepted, IsCause, IsEndUnlessMemory, IsRefusal, IsRunEnd, IsSinkFault, IsSourceRefusal, Tells, TellsProgram}
 use Rattle.inferno_tool.specs.Words.{named_file}
 use Rattle.inferno_tool.specs.declared.cause.Cause.{Cause}
-use Rattle.inferno_tool.specs.declared.cause.Cause.TheVariants.{Done, Usage, BadSource, Host, SinkFault, NoMemory}
+use Rattle.inferno_tool.specs.declared.cause.Cause.TheVariants.{Done, Broke, Usage, BadSource, Limit, Host, SinkFault, NoMemory}
 use Rattle.inferno_tool.specs.Faults.{IsFault}
 use Rattle.inferno_tool.proofs.Faults.{faulty}
+use Rattle.inferno_tool.proofs.Trees.{one_module}
 
 -- closing keeps the cause, or it is want of memory
 pub closed : (c : Course) (before after : Cause) → IsCause c before → (after ≡ before) ⊎ (after ≡ NoMemory) → IsCause c after
@@ -32,14 +33,16 @@ told_not_lacking : {A : Type 0} (told : Told) (path source : List ℕ) → Tells
 told_not_lacking None path source tells lacks = absurd tells
 told_not_lacking (Some files) path source tells lacks = let same : Some source ≡ None = sym tells ∙ lacks in cc
 
-refused_accepted : {A : Type 0} (c : Course) (a : HasProgram c.words c.told) (file source : List ℕ) → named_file c.words ≡ Some file → Tells c.told file (Some source) → ((program : Program) → IsBuilt source program → ⊥) → A
+refused_accepted : {A : Type 0} (c : Course) (a : HasProgram c.words c.told) (file source : List ℕ) → named_file c.words ≡ Some file → Tells c.told file (Some source) → ((m : Module) → IsBuilt source m → ⊥) → A
 refused_accepted c a file source named tells outside =
     let there : Has c.told file a.accepted.read.source = (let P : List ℕ → Type 0 = λ x. Has c.told x a.accepted.read.source in subst P (one_file c.words a.file file a.accepted.named named) a.accepted.read.stands) in
     let same : source ≡ a.accepted.read.source = same_bytes c.told file source a.accepted.read.source tells there in
-    absurd (outside a.accepted.read.program (let P : List ℕ → Type 0 = λ x. IsBuilt x a.accepted.read.program in subst P (sym same) a.accepted.read.built))
+    absurd (outside a.program (let P : List ℕ → Type 0 = λ x. IsBuilt x a.program in subst P (sym same) a.accepted.read.built))
 
-pub refused : (c : Course) (cause : Cause) → IsCause c cause → (file source : List ℕ) → named_file c.words ≡ Some file → Tells c.told file (Some source) → ((program : Program) → IsBuilt source program → ⊥) → (Rose c.files_before c.files_after → ⊥) → IsSourceRefusal file source cause
+pub refused : (c : Course) (cause : Cause) → IsCause c cause → (file source : List ℕ) → named_file c.words ≡ Some file → Tells c.told file (Some source) → ((m : Module) → IsBuilt source m → ⊥) → (Rose c.files_before c.files_after → ⊥) → IsSourceRefusal file source cause
 refused c Done is file source named tells outside calm = refused_accepted c is.0 file source named tells outside
+refused c (Broke broken) is file source named tells outside calm = refused_accepted c is.0 file source named tells outside
+refused c (Limit quanta) is file source named tells outside calm = refused_accepted c is.0 file source named tells outside
 refused c Usage is file source named tells outside calm = no_file c.words file is named
 refused c (BadSource other fault) is file source named tells outside calm =
     let here : other ≡ file = one_file c.words other file is.0 named in
@@ -57,27 +60,43 @@ refused c NoMemory is file source named tells outside calm = tt
 risen_further : (before now later : ℕ) → now ≤ later → Rose before now → Rose before later
 risen_further before now later up rose = omega arith
 
-pub done : (c : Course) (cause : Cause) → IsCause c cause → (program : Program) → TellsProgram c.words c.told program → (Rose c.files_before c.files_after → ⊥) → (Rose c.out_before c.out_after → ⊥) → (Rose c.err_before c.err_after → ⊥) → IsUnlessMemory cause Done
-done c Done is program t calm quiet silent = inl refl
-done c Usage is program t calm quiet silent = no_file c.words t.file is t.named
-done c (BadSource other fault) is program t calm quiet silent =
-    let there : Has c.told t.file is.1.source = (let P : List ℕ → Type 0 = λ x. Has c.told x is.1.source in subst P (one_file c.words other t.file is.0 t.named) is.1.stands) in
-    let same : t.source ≡ is.1.source = same_bytes c.told t.file t.source is.1.source t.tells there in
+-- a told program isn't refused, but for want of memory
+pub unrefused : (words : List (List ℕ)) (told : Told) (before after : ℕ) (cause : Cause) (program : Module) → IsRefusal words told before after cause → TellsProgram words told program → (Rose before after → ⊥) → cause ≡ NoMemory
+unrefused words told before after Done program is t calm = absurd is
+unrefused words told before after (Broke broken) program is t calm = absurd is
+unrefused words told before after (Limit quanta) program is t calm = absurd is
+unrefused words told before after (SinkFault out err) program is t calm = absurd is
+unrefused words told before after NoMemory program is t calm = refl
+unrefused words told before after Usage program is t calm = no_file words t.file is t.named
+unrefused words told before after (BadSource other fault) program is t calm =
+    let there : Has told t.file is.1.source = (let P : List ℕ → Type 0 = λ x. Has told x is.1.source in subst P (one_file words other t.file is.0 t.named) is.1.stands) in
+    let same : t.source ≡ is.1.source = same_bytes told t.file t.source is.1.source t.tells there in
     absurd (faulty is.1.source fault is.1.because program (let P : List ℕ → Type 0 = λ x. IsBuilt x program in subst P same t.built))
-done c (Host path true) is program t calm quiet silent =
-    told_not_lacking c.told t.file t.source t.tells
-    (let P : List ℕ → Type 0 = λ x. Lacks c.told x in subst P (one_file c.words path t.file is.0 t.named) is.1)
-done c (Host path false) is program t calm quiet silent = absurd (calm is.1)
-done c (SinkFault out err) is program t calm quiet silent =
+unrefused words told before after (Host path true) program is t calm =
+    told_not_lacking told t.file t.source t.tells
+    (let P : List ℕ → Type 0 = λ x. Lacks told x in subst P (one_file words path t.file is.0 t.named) is.1)
+unrefused words told before after (Host path false) program is t calm = absurd (calm is.1)
+
+-- a told program ends by itself where no count rises, unless memory runs out
+pub ends : (c : Course) (cause : Cause) → IsCause c cause → (program : Module) → TellsProgram c.words c.told program → (Rose c.files_before c.files_after → ⊥) → (Rose c.out_before c.out_after → ⊥) → (Rose c.err_before c.err_after → ⊥) → IsEndUnlessMemory cause
+ends c Done is program t calm quiet silent = tt
+ends c (Broke broken) is program t calm quiet silent = tt
+ends c (Limit quanta) is program t calm quiet silent = tt
+ends c Usage is program t calm quiet silent = subst IsEndUnlessMemory (sym (unrefused c.words c.told c.files_before c.files_after Usage program is t calm)) tt
+ends c (BadSource file fault) is program t calm quiet silent = subst IsEndUnlessMemory (sym (unrefused c.words c.told c.files_before c.files_after (BadSource file fault) program is t calm)) tt
+ends c (Host path missing) is program t calm quiet silent = subst IsEndUnlessMemory (sym (unrefused c.words c.told c.files_before c.files_after (Host path missing) program is t calm)) tt
+ends c (SinkFault out err) is program t calm quiet silent =
     elim is.3 [
       | inl rose ↦ absurd (quiet (let P : ℕ → Type 0 = λ x. Rose c.out_before x in subst P is.1 rose))
       | inr rose ↦ absurd (silent (risen_further c.err_before err c.err_after is.2 rose))
     ]
-done c NoMemory is program t calm quiet silent = inr refl
+ends c NoMemory is program t calm quiet silent = tt
 
 -- the closing line changes no cause, whatever it does to the count of `err`
 pub later_cause : (c : Course) (after : ℕ) (cause : Cause) → c.err_after ≤ after → IsCause c cause → IsCause (record c { err_after = after }) cause
-later_cause c after Done up is = (is.0, is.1, (is.2.0, omega (arith, is.2.1), is.2.2))
+later_cause c after Done up is = (is.0, (is.1.0, omega (arith, is.1.1), is.1.2))
+later_cause c after (Broke broken) up is = (is.0, (is.1.0, omega (arith, is.1.1), is.1.2))
+later_cause c after (Limit quanta) up is = (is.0, (is.1.0, omega (arith, is.1.1), is.1.2))
 later_cause c after Usage up is = is
 later_cause c after (BadSource file fault) up is = is
 later_cause c after (Host path true) up is = is
@@ -86,28 +105,23 @@ later_cause c after (SinkFault out err) up is = (is.0, is.1, omega arith, is.3)
 later_cause c after NoMemory up is = tt
 
 -- the accepted program is the one that the told program is, in the same file
-pub record SameProgram (words : List (List ℕ)) (told : Told) (file name : List ℕ) (prints : Option (List (List ℕ))) (program : Program) (t : TellsProgram words told program) : Type 0 where
-  pub file_is : file ≡ t.file
-  pub name_is : name ≡ program.name
-  pub prints_are : prints ≡ program.prints
-
-pub same_program : (words : List (List ℕ)) (told : Told) (file name : List ℕ) (prints : Option (List (List ℕ))) (program : Program) → IsAccepted words told file name prints → (t : TellsProgram words told program) → SameProgram words told file name prints program t
-same_program words told file name prints program a t =
+pub same_program : (words : List (List ℕ)) (told : Told) (program : Module) (t : TellsProgram words told program) (file : List ℕ) (m : Module) → IsAccepted words told file m → (file ≡ t.file) × (m ≡ program)
+same_program words told program t file m a =
     let here : file ≡ t.file = one_file words file t.file a.named t.named in
     let there : Has told t.file a.read.source = (let P : List ℕ → Type 0 = λ x. Has told x a.read.source in subst P here a.read.stands) in
     let same : t.source ≡ a.read.source = same_bytes told t.file t.source a.read.source t.tells there in
-    let both = a.read.same program (let P : List ℕ → Type 0 = λ x. IsBuilt x program in subst P same t.built) in
-    record { file_is = here; name_is = both.0; prints_are = both.1 }
+    (here, one_module a.read.source m program a.read.built (let P : List ℕ → Type 0 = λ x. IsBuilt x program in subst P same t.built))
 
 -- how the run of an accepted program ends is a cause
-pub run_cause : (c : Course) (cause : Cause) (file name : List ℕ) (prints : Option (List (List ℕ))) → IsAccepted c.words c.told file name prints → c.err_before ≤ c.err_after → IsRunEnd c.out_before c.out_after c.err_after cause → c.err_before ≡ c.err_after → IsCause c cause
-run_cause c Done file name prints accepted up end same =
-    (record { file = file; name = name; prints = prints; accepted = accepted }, end.0, (c.err_after, omega arith, (let P : ℕ → Type 0 = λ n. Rose n c.err_after → ⊥ in subst P (sym same) end.1)))
-run_cause c Usage file name prints accepted up end same = absurd end
-run_cause c (BadSource other fault) file name prints accepted up end same = absurd end
-run_cause c (Host path missing) file name prints accepted up end same = absurd end
-run_cause c (SinkFault out err) file name prints accepted up end same = (
-  record { file = file; name = name; prints = prints; accepted = accepted },
+pub run_cause : (c : Course) (cause : Cause) → HasProgram c.words c.told → IsRunEnd c.out_before c.out_after c.err_after cause → c.err_before ≡ c.err_after → IsCause c cause
+run_cause c Done program end same = (program, (c.err_after, omega arith, (end.0, (let P : ℕ → Type 0 = λ n. Rose n c.err_after → ⊥ in subst P (sym same) end.1))))
+run_cause c (Broke broken) program end same = (program, (c.err_after, omega arith, (end.0, (let P : ℕ → Type 0 = λ n. Rose n c.err_after → ⊥ in subst P (sym same) end.1))))
+run_cause c (Limit quanta) program end same = (program, (c.err_after, omega arith, (end.0, (let P : ℕ → Type 0 = λ n. Rose n c.err_after → ⊥ in subst P (sym same) end.1))))
+run_cause c Usage program end same = absurd end
+run_cause c (BadSource other fault) program end same = absurd end
+run_cause c (Host path missing) program end same = absurd end
+run_cause c (SinkFault out err) program end same = (
+  program,
   end.0,
   omega (arith, end.1),
   elim end.2 [
@@ -115,19 +129,15 @@ run_cause c (SinkFault out err) file name prints accepted up end same = (
     | inr rose ↦ inr (let P : ℕ → Type 0 = λ n. Rose n err in subst P (sym same) (let Q : ℕ → Type 0 = λ n. Rose c.err_after n in subst Q (sym end.1) rose))
   ],
 )
-run_cause c NoMemory file name prints accepted up end same = tt
+run_cause c NoMemory program end same = tt
 
 -- where a count of output rose, a told program ends so, unless memory ran out
-pub failed : (c : Course) (cause : Cause) → IsCause c cause → (program : Program) → TellsProgram c.words c.told program → (Rose c.files_before c.files_after → ⊥) → Rose c.out_before c.out_after → IsSinkFault cause ⊎ (cause ≡ NoMemory)
-failed c Done is program t calm rose = absurd (is.1 rose)
-failed c Usage is program t calm rose = no_file c.words t.file is t.named
-failed c (BadSource other fault) is program t calm rose =
-    let there : Has c.told t.file is.1.source = (let P : List ℕ → Type 0 = λ x. Has c.told x is.1.source in subst P (one_file c.words other t.file is.0 t.named) is.1.stands) in
-    let same : t.source ≡ is.1.source = same_bytes c.told t.file t.source is.1.source t.tells there in
-    absurd (faulty is.1.source fault is.1.because program (let P : List ℕ → Type 0 = λ x. IsBuilt x program in subst P same t.built))
-failed c (Host path true) is program t calm rose =
-    told_not_lacking c.told t.file t.source t.tells
-    (let P : List ℕ → Type 0 = λ x. Lacks c.told x in subst P (one_file c.words path t.file is.0 t.named) is.1)
-failed c (Host path false) is program t calm rose = absurd (calm is.1)
+pub failed : (c : Course) (cause : Cause) → IsCause c cause → (program : Module) → TellsProgram c.words c.told program → (Rose c.files_before c.files_after → ⊥) → Rose c.out_before c.out_after → IsSinkFault cause ⊎ (cause ≡ NoMemory)
+failed c Done is program t calm rose = absurd (is.1.2.0 rose)
+failed c (Broke broken) is program t calm rose = absurd (is.1.2.0 rose)
+failed c (Limit quanta) is program t calm rose = absurd (is.1.2.0 rose)
+failed c Usage is program t calm rose = inr (unrefused c.words c.told c.files_before c.files_after Usage program is t calm)
+failed c (BadSource other fault) is program t calm rose = inr (unrefused c.words c.told c.files_before c.files_after (BadSource other fault) program is t calm)
+failed c (Host path missing) is program t calm rose = inr (unrefused c.words c.told c.files_before c.files_after (Host path missing) program is t calm)
 failed c (SinkFault out err) is program t calm rose = inl tt
 failed c NoMemory is program t calm rose = inr refl

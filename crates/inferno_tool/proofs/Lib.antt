@@ -1,7 +1,9 @@
+mod Begins
 mod Causes
 mod Exact
 mod Faults
 mod LastName
-mod Literals
 mod Runs
 mod Sources
+mod Starts
+mod Trees

@@ -1,72 +1,219 @@
--- What a run of a program leaves, from what the run of its object does.
-use Rattle.std.proofs.Common.{◌≡◌, ℕ, List, [], take, Bool, true, false, Option, Some, None, refl, subst, sym, ap, ◌∙◌}
-use Rattle.std.specs.Io.KnownBytes.{Appends}
-use Rattle.inf_ports.specs.Outside.{AppendsPart}
+-- What a run of a program leaves, from what the run of its machine does.
+use Rattle.std.proofs.Common.{◌≡◌, ◌≢◌, ℕ, List, [], ◌∷◌, map, Bool, true, false, Option, Some, None, ◌⊎◌, inl, inr, refl, subst, sym, ap, ◌∙◌, if◌then◌else◌}
+use Rattle.std.specs.Prelude.{IsSome, nat_le, ◌&&◌}
+use Rattle.inf_ports.specs.Outside.{Told, Rose}
 use Rattle.dis_file.specs.declared.object.Object.{Object}
-use Rattle.first_machine.specs.declared.event.Event.{Event}
-use Rattle.first_machine.specs.declared.event.Journal.{Journal}
-use Rattle.first_machine.specs.Compiled.{asked_texts, compiled, literals}
-use Rattle.first_machine.specs.Run.{Prints, initial}
-use Rattle.first_machine.specs.Machine.{Journaled}
-use Rattle.first_host.specs.Conversation.{Conversation}
-use Rattle.first_host.specs.Conversation as conversation
-use Rattle.first_host.proofs.Starts.{fresh}
-use Rattle.inferno_tool.specs.Built.{bytes_of}
-use Rattle.inferno_tool.specs.Running.{IsRun, IsStarted}
+use Rattle.limbo_typed.specs.Typed.{Module}
+use Rattle.code_sim.specs.Keeps.{object_for}
+use Rattle.machine_core.specs.declared.event.Event.{Event}
+use Rattle.machine_core.specs.declared.event.Journal.{Journal}
+use Rattle.machine_core.specs.declared.end.End.{End}
+use Rattle.machine_core.specs.declared.end.End.TheVariants as end
+use Rattle.machine_core.specs.declared.machine.Machine.{Machine}
+use Rattle.machine_core.specs.Journal.{State, Fault, fault_in, quanta, or_else}
+use Rattle.machine_core.specs.Ends.{Breach, breaches, ended_in, any_live, faulted, over}
+use Rattle.machine_core.specs.Kept.{view_broken}
+use Rattle.machine_core.specs.Standing.{codes}
+use Rattle.machine_host.specs.declared.run.Ran.{Ran}
+use Rattle.machine_host.specs.Leading.{Leads}
+use Rattle.limbo_compiler.specs.Means.{Means}
+use Rattle.limbo_compiler.proofs.Means.{journals_mean}
+use Rattle.limbo_compiler.proofs.Sound.{none_fault}
+use Rattle.inferno_tool.specs.Outcome.{IsAccepted, IsRefusal, IsRunEnd, IsUnrun, HasRun, TellsProgram, is_run_out, lacks_memory}
+use Rattle.inferno_tool.specs.Running.{IsCompiled, IsOwnCause, IsOwnEnd, IsRun, IsStarted, NothingRan, Says, quanta_limit}
 use Rattle.inferno_tool.specs.Words.{base_name}
-use Rattle.inferno_tool.proofs.Literals.{asked_all}
+use Rattle.inferno_tool.specs.declared.cause.Cause.{Cause}
+use Rattle.inferno_tool.specs.declared.cause.Cause.TheVariants.{Done, Broke, Usage, BadSource, Limit, Host, SinkFault, NoMemory}
 
-pub is_started : (path name : List ℕ) (prints : Option (List (List ℕ))) (o : Object) (machine : Journaled) (base : List ℕ) → o ≡ compiled name prints → Prints o (asked_texts (literals prints)) → initial o ≡ Some machine.state
-    → machine.outbox ≡ None → machine.journal ≡ [] → base ≡ base_name path → IsStarted path name prints machine base
-is_started path name prints o machine base laid runs begins outbox journal named =
-    let there : initial (compiled name prints) ≡ Some machine.state = subst (λ (x : Object). initial x ≡ Some machine.state) laid begins in
+-- ---- how a run of a program ends
+
+own_end : (limit n : ℕ) (t : State) (how : End) → fault_in t.trace ≡ None → (how ≡ end.NoMemory) ⊎ (ended_in limit n t ≡ Some how) → IsOwnEnd how
+own_end limit n t how sound (inl e) = subst IsOwnEnd (sym e) tt
+own_end limit n t how sound (inr e) = by_limit (nat_le limit n && any_live t.processes) e
+  where
+    by_over : (live : Bool) (bs : List Breach) → over live bs ≡ Some how → IsOwnEnd how
+    by_over true bs e = absurd cc
+    by_over false [] e = let same : end.Done ≡ how = cc in subst IsOwnEnd same tt
+    by_over false (b ∷ bs) e = let same : end.Broke ≡ how = cc in subst IsOwnEnd same tt
+
+    by_fault : (f : Option Fault) → f ≡ None → or_else (faulted f) (over (any_live t.processes) (breaches t.trace)) ≡ Some how → IsOwnEnd how
+    by_fault None s e = by_over (any_live t.processes) (breaches t.trace) e
+    by_fault (Some f) s e = absurd cc
+
+    by_limit : (b : Bool) → or_else (if b then Some end.Limit else None) (or_else (faulted (fault_in t.trace)) (over (any_live t.processes) (breaches t.trace))) ≡ Some how → IsOwnEnd how
+    by_limit true e = let same : end.Limit ≡ how = cc in subst IsOwnEnd same tt
+    by_limit false e = by_fault (fault_in t.trace) sound e
+
+-- ---- the run
+
+-- what a machine of the program's object leads to is told of a run of the module, and ends as one may
+pub record Led (m : Module) (o : Object) (r : Ran) (old new : Option (List ℕ)) (faults_before faults_after : ℕ) : Type 0 where
+  pub leads : Leads (object_for m ∷ []) quanta_limit r old new faults_before faults_after
+  pub means : (c : IsCompiled m o) → Means m c.init r.journal.events leads.state
+  pub own : IsOwnEnd r.end
+
+pub led : (m : Module) (o : Object) (r : Ran) (old new : Option (List ℕ)) (before after : ℕ) → IsCompiled m o → Leads (o ∷ []) quanta_limit r old new before after → Led m o r old new before after
+led m o r old new before after c l =
+    let there : Leads (object_for m ∷ []) quanta_limit r old new before after = subst (λ (x : Object). Leads (x ∷ []) quanta_limit r old new before after) c.same l in
+    let reached = there.conversation.reached in
     record {
-      object = (fresh (compiled name prints) machine.state there).object;
-      begins = there;
-      outbox = outbox;
-      journal = journal;
-      prints_texts = subst (λ (x : Object). Prints x (asked_texts (literals prints))) laid runs;
-      named = named;
+      leads = there;
+      means = λ d. subst (λ (es : List Event). Means m d.init es there.state) (sym reached.all) (journals_mean m c.proper c.within.frames d.init d.first d.enters reached.journal reached.cut there.state reached.reaches);
+      own = own_end quanta_limit (quanta r.journal.events) there.state r.end (none_fault m c.proper c.within.frames c.init c.first c.enters reached.journal reached.cut there.state reached.reaches) there.conversation.ended;
     }
 
--- the machine's object prints the texts
-pub started_prints : (path name : List ℕ) (prints : Option (List (List ℕ))) (machine : Journaled) (base : List ℕ) → IsStarted path name prints machine base → Prints machine.state.object (asked_texts (literals prints))
-started_prints path name prints machine base s = subst (λ (x : Object). Prints x (asked_texts (literals prints))) (sym s.object) s.prints_texts
+pub started_codes : (path : List ℕ) (o : Object) (machine : Machine) → IsStarted path o machine → codes machine ≡ o ∷ []
+started_codes path o machine s = ap (map (λ x. x.1)) s.objects
 
-pub all_printed : (prints : Option (List (List ℕ))) (old new : Option (List ℕ)) → Appends old new (conversation.bytes_of (asked_texts (literals prints))) → Appends old new (bytes_of prints)
-all_printed prints old new a = subst (λ (l : List ℕ). Appends old new l) (asked_all prints) a
+pub run_as : (path : List ℕ) (m : Module) (o : Object) (machine : Machine) (r : Ran) (cause : Cause) (old new : Option (List ℕ)) (before after : ℕ) →
+    IsCompiled m o → IsStarted path o machine → Leads (codes machine) machine.limit r old new before after → r.objects ≡ machine.objects →
+    ((t : State) → map view_broken r.broken.items ≡ breaches t.trace → Says t r.end cause) →
+    IsRun path m (Some r.journal) r.objects.items old new before after cause
+run_as path m o machine r cause old new before after c s l same says =
+    let at : Leads (o ∷ []) quanta_limit r old new before after = subst (λ (n : ℕ). Leads (o ∷ []) n r old new before after) s.limit (subst (λ (os : List Object). Leads os machine.limit r old new before after) (started_codes path o machine s) l) in
+    let k = led m o r old new before after c at in (
+      ap (λ v. v.items) same ∙ s.objects ∙ ap (λ x. (base_name path, x) ∷ []) c.same,
+      record {
+        state = k.leads.state;
+        how = r.end;
+        conversation = k.leads.conversation;
+        init = c.init;
+        begins = c.begins;
+        means = k.means c;
+        says = says k.leads.state k.leads.broken;
+      },
+    )
 
-pub part_printed : (o : Object) (prints : Option (List (List ℕ))) (events : List Event) (old new : Option (List ℕ)) (before after : ℕ) (done : Bool) → Conversation o (asked_texts (literals prints)) events old new before after done → AppendsPart old new (bytes_of prints)
-part_printed o prints events old new before after done c = record {
-  count = c.front.0;
-  grown = subst (λ (l : List ℕ). Appends old new l) (c.front.1 ∙ ap (take c.front.0) (asked_all prints)) c.grown;
-}
+pub own_of : (path : List ℕ) (m : Module) (o : Object) (machine : Machine) (r : Ran) (old new : Option (List ℕ)) (before after : ℕ) →
+    IsCompiled m o → IsStarted path o machine → Leads (codes machine) machine.limit r old new before after → IsOwnEnd r.end
+own_of path m o machine r old new before after c s l =
+    let at : Leads (o ∷ []) quanta_limit r old new before after = subst (λ (n : ℕ). Leads (o ∷ []) n r old new before after) s.limit (subst (λ (os : List Object). Leads os machine.limit r old new before after) (started_codes path o machine s) l) in
+    (led m o r old new before after c at).own
 
--- what is known of a run that was done is known of it where the end is told as another
-undone : (o : Object) (texts : List (List ℕ)) (events : List Event) (old new : Option (List ℕ)) (before after : ℕ) (done : Bool) → Conversation o texts events old new before after done → Conversation o texts events old new before after false
-undone o texts events old new before after done c = record {
-  state = c.state;
-  requests = c.requests;
-  journal = c.journal;
-  said = c.said;
-  left = c.left;
-  all = c.all;
-  counts = c.counts;
-  counted = c.counted;
-  asked = c.asked;
-  answers = c.answers;
-  bytes = c.bytes;
-  failed = c.failed;
-  cause = c.cause;
-  served = c.served;
-  entered = c.entered;
-  near = c.near;
-  grown = c.grown;
-  front = c.front;
-  clean = λ d. absurd (let bad : false ≡ true = d in cc);
-  whole = λ d. absurd (let bad : false ≡ true = d in cc);
-}
+-- ---- the same run, told as another end
 
-pub run_undone : (path name : List ℕ) (prints : Option (List (List ℕ))) (journal : Option Journal) (objects : List (List ℕ × Object)) (old new : Option (List ℕ)) (before after : ℕ) (done : Bool) → IsRun path name prints journal objects old new before after done → IsRun path name prints journal objects old new before after false
-run_undone path name prints None objects old new before after done r = (r.0, r.1, refl)
-run_undone path name prints (Some journal) objects old new before after done r = (r.0, undone (compiled name prints) (asked_texts (literals prints)) journal.events old new before after done r.1)
+-- a write of output failed, and memory didn't run out
+lasted : (t : State) (how : End) (cause : Cause) → Says t how cause → lacks_memory cause ≡ false → how ≢ end.NoMemory
+lasted t how Done says e = λ bad. let both : end.Done ≡ end.NoMemory = sym says ∙ bad in cc
+lasted t how (Broke broken) says e = λ bad. let both : end.Broke ≡ end.NoMemory = sym says.0 ∙ bad in cc
+lasted t how (Limit quanta) says e = λ bad. let both : end.Limit ≡ end.NoMemory = sym says.0 ∙ bad in cc
+lasted t how (SinkFault out err) says e = says
+lasted t how NoMemory says e = absurd cc
+lasted t how Usage says e = absurd says
+lasted t how (BadSource file fault) says e = absurd says
+lasted t how (Host path missing) says e = absurd says
+
+module _ (path : List ℕ) (m : Module) (objects : List (List ℕ × Object)) (old new : Option (List ℕ)) (before after : ℕ) where
+  pub run_failed : (journal : Option Journal) (cause : Cause) (out err : ℕ) → IsRun path m journal objects old new before after cause → lacks_memory cause ≡ false → IsRun path m journal objects old new before after (SinkFault out err)
+  run_failed None cause out err r e = absurd (let bad : true ≡ false = sym (ap lacks_memory r.1) ∙ e in cc)
+  run_failed (Some journal) cause out err r e = (
+    r.0,
+    record {
+      state = r.1.state;
+      how = r.1.how;
+      conversation = r.1.conversation;
+      init = r.1.init;
+      begins = r.1.begins;
+      means = r.1.means;
+      says = lasted r.1.state r.1.how cause r.1.says e;
+    },
+  )
+
+  pub run_unsaid : (journal : Option Journal) (cause : Cause) → IsRun path m journal objects old new before after cause → IsRun path m journal objects old new before after NoMemory
+  run_unsaid None cause r = (r.0, refl)
+  run_unsaid (Some journal) cause r = (
+    r.0,
+    record {
+      state = r.1.state;
+      how = r.1.how;
+      conversation = r.1.conversation;
+      init = r.1.init;
+      begins = r.1.begins;
+      means = r.1.means;
+      says = tt;
+    },
+  )
+
+  run_starts : (journal : Option Journal) (cause : Cause) → IsRun path m journal objects old new before after cause → is_run_out cause ≡ true → IsSome journal
+  run_starts None cause r out = absurd (let bad : false ≡ true = sym (ap is_run_out r.1) ∙ out in cc)
+  run_starts (Some journal) cause r out = refl
+
+  says_unrun : {A : Type 0} (t : State) (how : End) (cause : Cause) → Says t how cause → IsUnrun cause → A
+  says_unrun t how Done says un = absurd un
+  says_unrun t how (Broke broken) says un = absurd un
+  says_unrun t how (Limit quanta) says un = absurd un
+  says_unrun t how (SinkFault out err) says un = absurd un
+  says_unrun t how NoMemory says un = absurd un
+  says_unrun t how Usage says un = absurd says
+  says_unrun t how (BadSource file fault) says un = absurd says
+  says_unrun t how (Host path missing) says un = absurd says
+
+  run_not_unrun : {A : Type 0} (journal : Option Journal) (cause : Cause) → IsRun path m journal objects old new before after cause → IsUnrun cause → A
+  run_not_unrun None cause r un = absurd (subst IsUnrun r.1 un)
+  run_not_unrun (Some journal) cause r un = says_unrun r.1.state r.1.how cause r.1.says un
+
+  nothing_run : (journal : Option Journal) (cause : Cause) → NothingRan journal objects old new → cause ≡ NoMemory → IsRun path m journal objects old new before after cause
+  nothing_run None cause n e = (n, e)
+  nothing_run (Some journal) cause n e = absurd cc
+
+-- ---- how a run's cause ends it
+
+pub end_of_run : (before after err : ℕ) (cause : Cause) → IsOwnCause cause → (Rose before after → ⊥) → (Rose err err → ⊥) → IsRunEnd before after err cause
+end_of_run before after err Done own a b = (a, b)
+end_of_run before after err (Broke broken) own a b = (a, b)
+end_of_run before after err (Limit quanta) own a b = (a, b)
+end_of_run before after err NoMemory own a b = tt
+end_of_run before after err Usage own a b = absurd own
+end_of_run before after err (BadSource file fault) own a b = absurd own
+end_of_run before after err (Host path missing) own a b = absurd own
+end_of_run before after err (SinkFault o e) own a b = absurd own
+
+pub lacking_end : (before after err : ℕ) (cause : Cause) → lacks_memory cause ≡ true → IsRunEnd before after err cause
+lacking_end before after err NoMemory e = tt
+lacking_end before after err Done e = absurd cc
+lacking_end before after err (Broke broken) e = absurd cc
+lacking_end before after err (Limit quanta) e = absurd cc
+lacking_end before after err Usage e = absurd cc
+lacking_end before after err (BadSource file fault) e = absurd cc
+lacking_end before after err (Host path missing) e = absurd cc
+lacking_end before after err (SinkFault o f) e = absurd cc
+
+-- ---- the whole command
+
+module _ (words : List (List ℕ)) (told : Told) (journal : Option Journal) (objects : List (List ℕ × Object)) (old new : Option (List ℕ)) (before after files_before files_after : ℕ) where
+  -- a program was run, or nothing
+  abbrev pub Happened : Cause → Type 0
+  Happened cause = HasRun words told journal objects old new before after cause ⊎ (NothingRan journal objects old new × IsRefusal words told files_before files_after cause)
+
+  pub closed_ran : (cause last : Cause) → Happened cause → (last ≡ cause) ⊎ (last ≡ NoMemory) → Happened last
+  closed_ran cause last h (inl same) = subst Happened (sym same) h
+  closed_ran cause last (inl run) (inr memory) =
+      subst Happened (sym memory) (inl (record { file = run.file; program = run.program; accepted = run.accepted; run = run_unsaid run.file run.program objects old new before after journal cause run.run }))
+  closed_ran cause last (inr none) (inr memory) = subst Happened (sym memory) (inr (none.0, tt))
+
+  refused_out : {A : Type 0} (cause : Cause) → IsRefusal words told files_before files_after cause → is_run_out cause ≡ true → A
+  refused_out Done is out = absurd is
+  refused_out (Broke broken) is out = absurd is
+  refused_out (Limit quanta) is out = absurd is
+  refused_out (SinkFault o e) is out = absurd is
+  refused_out NoMemory is out = absurd cc
+  refused_out Usage is out = absurd cc
+  refused_out (BadSource file fault) is out = absurd cc
+  refused_out (Host path missing) is out = absurd cc
+
+  pub started : (cause : Cause) → Happened cause → is_run_out cause ≡ true → IsSome journal
+  started cause (inl run) out = run_starts run.file run.program objects old new before after journal cause run.run out
+  started cause (inr none) out = refused_out cause none.1 out
+
+  pub quiet : (cause : Cause) → Happened cause → IsUnrun cause → NothingRan journal objects old new
+  quiet cause (inl run) un = run_not_unrun run.file run.program objects old new before after journal cause run.run un
+  quiet cause (inr none) un = none.0
+
+  pub told_ran : (cause : Cause) (m : Module) (t : TellsProgram words told m) → Happened cause →
+      ((file : List ℕ) (n : Module) → IsAccepted words told file n → (file ≡ t.file) × (n ≡ m)) →
+      (IsRefusal words told files_before files_after cause → cause ≡ NoMemory) →
+      IsRun t.file m journal objects old new before after cause
+  told_ran cause m t (inl run) same calm =
+      let both = same run.file run.program run.accepted in
+      subst (λ (n : Module). IsRun t.file n journal objects old new before after cause) both.1 (subst (λ (f : List ℕ). IsRun f run.program journal objects old new before after cause) both.0 run.run)
+  told_ran cause m t (inr none) same calm = nothing_run t.file m objects old new before after journal cause none.0 (calm none.1)

@@ -1,12 +1,13 @@
--- What a source's bytes are: their tokens, their tree, and the program of the part of the language that is built so far.
-use Rattle.std.specs.Prelude.{◌≤◌, ℕ, List, Option, map, encode_utf8_all, false}
-use Rattle.std.specs.List.{concat}
+-- What a source's bytes are: their tokens, their tree, and the checked module of the part of the language that is built so far.
+use Rattle.std.specs.Prelude.{◌≡◌, ◌≤◌, ℕ, List, Ok, true, false}
 use Rattle.limbo_lexer.specs.declared.token.Kind.{Kind}
 use Rattle.limbo_lexer.specs.Causes.{IsSource}
 use Rattle.limbo_lexer.specs.Tokens.{HasTokenList}
 use Rattle.limbo_tree.specs.Sources.{Source, IsTree, source_nesting}
-use Rattle.first_part.specs.Part.{Program, IsProgram}
-use Rattle.first_machine.specs.Compiled.{literals}
+use Rattle.limbo_typed.specs.Typed.{Module}
+use Rattle.limbo_names.specs.Part.{is_built}
+use Rattle.limbo_check_stmt.specs.Checking.{check, declares_init}
+use Rattle.limbo_compiler.specs.Limits.{IsWithin}
 
 -- the bytes spell a text, and these are its tokens
 pub record HasTokens (source : List ℕ) (tokens : List Kind) : Type 0 where
@@ -21,12 +22,16 @@ pub record HasTree (source : List ℕ) (tree : Source) : Type 0 where
   pub parsed : IsTree false tokens tree
   pub shallow : source_nesting tree ≤ 256
 
--- the source's bytes are a program of the built part
-pub record IsBuilt (source : List ℕ) (program : Program) : Type 0 where
+-- The tree is a program: it is in the built part, its checked module is this one, it declares `init` as a first module has to, and
+-- neither a frame nor the code is too large.
+pub record IsProgram (tree : Source) (m : Module) : Type 0 where
+  pub built : is_built tree ≡ true
+  pub checked : check tree ≡ Ok m
+  pub begins : declares_init tree ≡ true
+  pub within : IsWithin m
+
+-- the source's bytes are a program of the built part, with this checked module
+pub record IsBuilt (source : List ℕ) (m : Module) : Type 0 where
   pub tree : Source
   pub has : HasTree source tree
-  pub is : IsProgram tree program
-
--- the bytes of these literals, in order, in UTF-8
-abbrev pub bytes_of : Option (List (List ℕ)) → List ℕ
-bytes_of prints = concat (map encode_utf8_all (literals prints))
+  pub is : IsProgram tree m

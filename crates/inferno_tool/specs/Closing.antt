@@ -1,17 +1,21 @@
 -- How a command ends: its status, and the line that it writes about it.
-use Rattle.std.specs.Prelude.{ℕ, List, [], ◌∷◌, ◌++◌, codes, decimal, encode_utf8_all, ◌⊎◌, Option}
+use Rattle.std.specs.Prelude.{ℕ, List, [], ◌∷◌, ◌++◌, map, codes, decimal, encode_utf8_all, ◌⊎◌, Option}
 use Rattle.std.specs.Io.KnownBytes.{Appends}
 use Rattle.inf_ports.specs.Outside.{Rose, AppendsPart}
+use Rattle.machine_core.specs.Ends.{Breach}
+use Rattle.machine_core.specs.Kept.{view_broken}
 use Rattle.inferno_tool.specs.declared.cause.Cause.{Cause}
-use Rattle.inferno_tool.specs.declared.cause.Cause.TheVariants.{Done, Usage, BadSource, Host, SinkFault, NoMemory}
+use Rattle.inferno_tool.specs.declared.cause.Cause.TheVariants.{Done, Broke, Usage, BadSource, Limit, Host, SinkFault, NoMemory}
 use Rattle.inferno_tool.specs.declared.cause.SourceFault.{SourceFault}
 use Rattle.inferno_tool.specs.Faults.{number_of, place_of}
 
 -- the exit status of each cause
 abbrev pub status_of : Cause → ℕ
 status_of Done = 0
+status_of (Broke broken) = 1
 status_of Usage = 2
 status_of (BadSource file fault) = 3
+status_of (Limit quanta) = 6
 status_of (Host path missing) = 7
 status_of (SinkFault out err) = 8
 status_of NoMemory = 10
@@ -26,9 +30,19 @@ told fault =
     codes ":" ++ decimal (place_of fault).line ++ codes ":" ++ decimal (place_of fault).col ++ codes ": fault "
     ++ decimal (number_of fault)
 
--- the bytes of the line about each cause
+-- the line about a process that broke: its number, and with what text
+abbrev pub broken_line : Breach → List ℕ
+broken_line b = line (codes "process " ++ decimal b.pid ++ codes " broken: " ++ encode_utf8_all b.text)
+
+abbrev pub broken_lines : List Breach → List ℕ
+broken_lines [] = []
+broken_lines (b ∷ bs) = broken_line b ++ broken_lines bs
+
+-- the bytes of the lines about each cause
 abbrev pub closing_line : Cause → List ℕ
 closing_line Done = []
+closing_line (Broke broken) = broken_lines (map view_broken broken.items)
+closing_line (Limit quanta) = line (codes "limit " ++ decimal quanta)
 closing_line Usage = line (codes "usage")
 closing_line (BadSource file fault) = line (encode_utf8_all file ++ told fault)
 closing_line (Host path missing) = line (codes "file " ++ encode_utf8_all path)

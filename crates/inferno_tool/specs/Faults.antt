@@ -1,5 +1,5 @@
--- Why a source is refused, by its bytes, tokens and tree; the number of each refusal, and where it stands.
-use Rattle.std.specs.Prelude.{◌≤◌, ◌<◌, ℕ, List, length, false}
+-- Why a source is refused, by its bytes, tokens, tree and checked module; the number of each refusal, and where it stands.
+use Rattle.std.specs.Prelude.{◌≡◌, ◌≤◌, ◌<◌, ℕ, List, Ok, Err, length, true, false}
 use Rattle.inf_text.specs.declared.span.Span.{Span}
 use Rattle.limbo_lexer.specs.declared.token.Kind.{Kind}
 use Rattle.limbo_lexer.specs.declared.fault.LexFault.{LexFault}
@@ -8,10 +8,16 @@ use Rattle.limbo_lexer.specs.Causes.{IsRefused}
 use Rattle.limbo_tree.specs.Sources.{Source, IsTree, source_nesting}
 use Rattle.limbo_parser.specs.declared.tree.ParseFault.{ParseFault}
 use Rattle.limbo_parser.specs.declared.tree.ParseFault.TheVariants as parse
-use Rattle.first_part.specs.Part.{Program}
-use Rattle.inferno_tool.specs.Built.{HasTokens, HasTree, IsBuilt}
+use Rattle.limbo_typed.specs.Typed.{Module}
+use Rattle.limbo_names.specs.declared.fault.Cause.{Cause}
+use Rattle.limbo_names.specs.declared.fault.Cause.TheVariants as unmet
+use Rattle.limbo_names.specs.Part.{is_built}
+use Rattle.limbo_check_stmt.specs.Checking.{check, declares_init}
+use Rattle.limbo_lower.specs.Sizes as sizes
+use Rattle.limbo_compiler.specs.Limits as limits
+use Rattle.inferno_tool.specs.Built.{HasTokens, HasTree}
 use Rattle.inferno_tool.specs.declared.cause.SourceFault.{SourceFault}
-use Rattle.inferno_tool.specs.declared.cause.SourceFault.TheVariants.{Lex, Parse, Unbuilt}
+use Rattle.inferno_tool.specs.declared.cause.SourceFault.TheVariants.{Lex, Parse, Unbuilt, Unmet, NoInit, FrameTooLarge, CodeTooLarge}
 
 -- the number of a refusal of bytes and tokens; want of memory is none, and has 0
 abbrev pub lex_number : LexFault → ℕ
@@ -29,10 +35,23 @@ parse_number parse.NoMemory = 0
 parse_number (parse.Syntax token) = 30
 parse_number (parse.TooDeep token) = 31
 
+-- the number of a condition of names and types that isn't met
+abbrev pub unmet_number : Cause → ℕ
+unmet_number unmet.Twice = 41
+unmet_number unmet.Unknown = 42
+unmet_number unmet.TypeClash = 50
+unmet_number unmet.NotPlace = 51
+unmet_number unmet.BadFormat = 54
+unmet_number unmet.NoReturn = 63
+
 abbrev pub number_of : SourceFault → ℕ
 number_of (Lex fault) = lex_number fault
 number_of (Parse fault span) = parse_number fault
 number_of Unbuilt = 25
+number_of (Unmet cause span) = unmet_number cause
+number_of NoInit = 45
+number_of FrameTooLarge = 70
+number_of CodeTooLarge = 71
 
 -- a line and a column
 pub record Place : Type 0 where
@@ -56,7 +75,8 @@ lex_place _ = start
 abbrev pub place_of : SourceFault → Place
 place_of (Lex fault) = lex_place fault
 place_of (Parse fault span) = at span
-place_of Unbuilt = start
+place_of (Unmet cause span) = at span
+place_of _ = start
 
 -- the tokens have no tree that nests up to 256 deep
 abbrev pub HasNoTree : List Kind → Type 0
@@ -77,13 +97,31 @@ abbrev pub IsLexFault : LexFault → Type 0
 IsLexFault lex.NoMemory = ⊥
 IsLexFault _ = Unit {0}
 
+-- What a refusal of the tree says of it. It is outside the built part. It is in it, but doesn't meet this condition of names and types,
+-- the first one that it doesn't meet. It has a checked module, but doesn't declare `init` as a first module has to. It does, but the
+-- module has a frame that is too large, or code that is.
+abbrev pub IsTreeFault : Source → SourceFault → Type 0
+IsTreeFault tree (Lex fault) = ⊥
+IsTreeFault tree (Parse fault span) = ⊥
+IsTreeFault tree Unbuilt = is_built tree ≡ false
+IsTreeFault tree (Unmet cause span) = (is_built tree ≡ true) × (check tree ≡ Err cause)
+IsTreeFault tree NoInit = (is_built tree ≡ true) × (declares_init tree ≡ false) × ((m : Module) × (check tree ≡ Ok m))
+IsTreeFault tree FrameTooLarge = (is_built tree ≡ true) × (declares_init tree ≡ true) × ((m : Module) × (check tree ≡ Ok m) × sizes.FrameTooLarge m)
+IsTreeFault tree CodeTooLarge = (is_built tree ≡ true) × (declares_init tree ≡ true) × ((m : Module) × (check tree ≡ Ok m) × limits.CodeTooLarge m)
+
+-- the bytes have a tree, which has this fault
+pub record HasTreeFault (source : List ℕ) (fault : SourceFault) : Type 0 where
+  pub tree : Source
+  pub has : HasTree source tree
+  pub because : IsTreeFault tree fault
+
 -- What each refusal says of the source's bytes. One of bytes and tokens says that they have no tokens, and why. One of
 -- the grammar says that their tokens have no tree within the limit of nesting; a fault of syntax, that they have none at
--- all; a fault of depth, that more than 256 of the tokens stand before its place. The last says that they have a tree, and
--- are no program of the built part.
+-- all; a fault of depth, that more than 256 of the tokens stand before its place. The others say that they have a tree, and what is
+-- wrong with it.
 abbrev pub IsFault : List ℕ → SourceFault → Type 0
 IsFault source (Lex fault) = IsLexFault fault × IsRefused source fault × ((tokens : List Kind) → HasTokens source tokens → ⊥)
 IsFault source (Parse fault span) =
     ((tokens : List Kind) × HasTokens source tokens)
     × ((tokens : List Kind) → HasTokens source tokens → HasNoTree tokens × IsParseFault tokens fault)
-IsFault source Unbuilt = ((tree : Source) × HasTree source tree) × ((program : Program) → IsBuilt source program → ⊥)
+IsFault source fault = HasTreeFault source fault

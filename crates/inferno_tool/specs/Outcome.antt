@@ -1,13 +1,16 @@
 -- What each cause of an end says: of the words, of the files as they are told, and of which counts of faults rose.
 use Rattle.std.specs.Prelude.{ℕ, ◌≡◌, ◌≤◌, ◌⊎◌, List, Option, None, Some, Bool, true, false}
 use Rattle.inf_ports.specs.Outside.{Told, Lacks, Rose}
-use Rattle.first_part.specs.Part.{Program}
+use Rattle.dis_file.specs.declared.object.Object.{Object}
+use Rattle.limbo_typed.specs.Typed.{Module}
+use Rattle.machine_core.specs.declared.event.Journal.{Journal}
 use Rattle.inferno_tool.specs.Built.{IsBuilt}
 use Rattle.inferno_tool.specs.Reading.{IsRead, IsFaulty}
 use Rattle.inferno_tool.specs.Faults.{IsFault}
+use Rattle.inferno_tool.specs.Running.{IsRun}
 use Rattle.inferno_tool.specs.Words.{named_file}
 use Rattle.inferno_tool.specs.declared.cause.Cause.{Cause}
-use Rattle.inferno_tool.specs.declared.cause.Cause.TheVariants.{Done, Usage, BadSource, Host, SinkFault, NoMemory}
+use Rattle.inferno_tool.specs.declared.cause.Cause.TheVariants.{Done, Broke, Usage, BadSource, Limit, Host, SinkFault, NoMemory}
 
 -- a command's words, what its files tell, and the counts of faults before and after it
 pub record Course : Type 0 where
@@ -20,30 +23,36 @@ pub record Course : Type 0 where
   pub err_before : ℕ
   pub err_after : ℕ
 
--- the words name this file, whose source is a program of the built part, with this name and these prints
-pub record IsAccepted (words : List (List ℕ)) (told : Told) (file name : List ℕ) (prints : Option (List (List ℕ))) : Type 0 where
+-- the words name this file, whose source is a program of the built part, with this checked module
+pub record IsAccepted (words : List (List ℕ)) (told : Told) (file : List ℕ) (m : Module) : Type 0 where
   pub named : named_file words ≡ Some file
-  pub read : IsRead told file name prints
+  pub read : IsRead told file m
 
 -- the words name a file whose source is some program of the built part
 pub record HasProgram (words : List (List ℕ)) (told : Told) : Type 0 where
   pub file : List ℕ
-  pub name : List ℕ
-  pub prints : Option (List (List ℕ))
-  pub accepted : IsAccepted words told file name prints
+  pub program : Module
+  pub accepted : IsAccepted words told file program
+
+-- what was run is a program that the words name, and this is its run
+pub record HasRun (words : List (List ℕ)) (told : Told) (journal : Option Journal) (objects : List (List ℕ × Object)) (old new : Option (List ℕ)) (faults_before faults_after : ℕ) (cause : Cause) : Type 0 where
+  pub file : List ℕ
+  pub program : Module
+  pub accepted : IsAccepted words told file program
+  pub run : IsRun file program journal objects old new faults_before faults_after cause
 
 -- the files tell what stands at the path: these bytes, or no file
 abbrev pub Tells : Told → List ℕ → Option (List ℕ) → Type 0
 Tells None path bytes = ⊥
 Tells (Some files) path bytes = files path ≡ bytes
 
--- the words name a file of which the files tell that its source is this program
-pub record TellsProgram (words : List (List ℕ)) (told : Told) (program : Program) : Type 0 where
+-- the words name a file of which the files tell that its source is a program, with this checked module
+pub record TellsProgram (words : List (List ℕ)) (told : Told) (m : Module) : Type 0 where
   pub file : List ℕ
   pub named : named_file words ≡ Some file
   pub source : List ℕ
   pub tells : Tells told file (Some source)
-  pub built : IsBuilt source program
+  pub built : IsBuilt source m
 
 -- where a command is refused before it runs
 abbrev pub IsRefusal : List (List ℕ) → Told → ℕ → ℕ → Cause → Type 0
@@ -54,20 +63,30 @@ IsRefusal words told before after (Host path false) = (named_file words ≡ Some
 IsRefusal words told before after NoMemory = Unit {0}
 IsRefusal words told before after _ = ⊥
 
--- How a run ends: the program returned and no count of output rose, a write of output failed, or want of memory.
+-- no count of output rose
+abbrev pub IsCalm : (before after err_before err : ℕ) → Type 0
+IsCalm before after err_before err = (Rose before after → ⊥) × (Rose err_before err → ⊥)
+
+-- How a run ends: by itself where no count of output rose, or a write of output failed, or memory ran out.
 abbrev pub IsRunEnd : ℕ → ℕ → ℕ → Cause → Type 0
-IsRunEnd before after err_count Done = (Rose before after → ⊥) × (Rose err_count err_count → ⊥)
+IsRunEnd before after err_count Done = IsCalm before after err_count err_count
+IsRunEnd before after err_count (Broke broken) = IsCalm before after err_count err_count
+IsRunEnd before after err_count (Limit quanta) = IsCalm before after err_count err_count
 IsRunEnd before after err_count (SinkFault out err) =
     (out ≡ after) × (err ≡ err_count) × (Rose before after ⊎ Rose err_count err_count)
 IsRunEnd before after err_count NoMemory = Unit {0}
 IsRunEnd before after err_count _ = ⊥
 
+-- the words name a program, and no count of output rose before the closing line was written
+abbrev pub EndsByItself : Course → Type 0
+EndsByItself c = HasProgram c.words c.told × ((err : ℕ) × (err ≤ c.err_after) × IsCalm c.out_before c.out_after c.err_before err)
+
 -- Where each cause comes. Of those of a run's end want of memory comes first, and then a count of output that rose before
--- the closing line was written.
+-- the closing line was written. How the others end is said of the run itself.
 abbrev pub IsCause : Course → Cause → Type 0
-IsCause c Done =
-    HasProgram c.words c.told × (Rose c.out_before c.out_after → ⊥)
-    × ((err : ℕ) × (err ≤ c.err_after) × (Rose c.err_before err → ⊥))
+IsCause c Done = EndsByItself c
+IsCause c (Broke broken) = EndsByItself c
+IsCause c (Limit quanta) = EndsByItself c
 IsCause c (SinkFault out err) =
     HasProgram c.words c.told
     × (out ≡ c.out_after) × (err ≤ c.err_after) × (Rose c.out_before out ⊎ Rose c.err_before err)
@@ -83,6 +102,14 @@ IsSourceRefusal file source (BadSource other fault) = (other ≡ file) × IsFaul
 IsSourceRefusal file source NoMemory = Unit {0}
 IsSourceRefusal file source _ = ⊥
 
+-- the run ended by itself, or memory ran out
+abbrev pub IsEndUnlessMemory : Cause → Type 0
+IsEndUnlessMemory Done = Unit {0}
+IsEndUnlessMemory (Broke broken) = Unit {0}
+IsEndUnlessMemory (Limit quanta) = Unit {0}
+IsEndUnlessMemory NoMemory = Unit {0}
+IsEndUnlessMemory _ = ⊥
+
 -- the command ended before a program ran
 abbrev pub IsUnrun : Cause → Type 0
 IsUnrun Usage = Unit {0}
@@ -90,9 +117,11 @@ IsUnrun (BadSource file fault) = Unit {0}
 IsUnrun (Host path missing) = Unit {0}
 IsUnrun _ = ⊥
 
--- the program was run until it returned
+-- the program was run until its end
 abbrev pub is_run_out : Cause → Bool
 is_run_out Done = true
+is_run_out (Broke broken) = true
+is_run_out (Limit quanta) = true
 is_run_out (SinkFault out err) = true
 is_run_out _ = false
 
@@ -100,3 +129,8 @@ is_run_out _ = false
 abbrev pub IsSinkFault : Cause → Type 0
 IsSinkFault (SinkFault out err) = Unit {0}
 IsSinkFault _ = ⊥
+
+-- memory ran out
+abbrev pub lacks_memory : Cause → Bool
+lacks_memory NoMemory = true
+lacks_memory _ = false

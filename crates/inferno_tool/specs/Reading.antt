@@ -1,32 +1,35 @@
 -- What reading a source answers, and why it is refused.
-use Rattle.std.specs.Prelude.{ℕ, ◌≡◌, List, Option, Some, None, Result, Ok, Err, true, false, slice_get}
+use Rattle.std.specs.Prelude.{ℕ, ◌≡◌, List, Some, None, Ok, true, false, slice_get}
 use Rattle.inf_ports.specs.Outside.{Told, Has, Lacks, Rose}
 use Rattle.inf_text.specs.declared.span.Span.{Span}
 use Rattle.limbo_lexer.specs.declared.token.Token.{Token}
 use Rattle.limbo_lexer.specs.declared.fault.LexFault.{LexFault}
 use Rattle.limbo_lexer.specs.declared.fault.LexFault.TheVariants as lex
-use Rattle.first_part.specs.declared.fault.PartFault.{PartFault}
-use Rattle.first_part.specs.declared.fault.PartFault.TheVariants as part
-use Rattle.first_part.specs.declared.program.FirstProgram.{FirstProgram}
 use Rattle.limbo_parser.specs.declared.tree.ParseFault.{ParseFault}
 use Rattle.limbo_parser.specs.declared.tree.ParseFault.TheVariants as parse
-use Rattle.first_part.specs.Part.{Program}
+use Rattle.limbo_tree.specs.Sources.{Source}
+use Rattle.limbo_typed.specs.Typed.{Module}
+use Rattle.limbo_names.specs.declared.fault.CheckFault.{CheckFault}
+use Rattle.limbo_names.specs.declared.fault.CheckFault.TheVariants as check
+use Rattle.limbo_names.specs.Part.{is_built}
+use Rattle.limbo_check_stmt.specs.Checking as checking
+use Rattle.limbo_compiler.specs.declared.passes.CompileFault.{CompileFault}
+use Rattle.limbo_compiler.specs.declared.passes.CompileFault.TheVariants as compile
+use Rattle.limbo_typed.specs.Proper.{IsProper}
 use Rattle.inferno_tool.specs.Built.{IsBuilt}
-use Rattle.inferno_tool.specs.Faults.{IsFault}
+use Rattle.inferno_tool.specs.Faults.{IsFault, IsTreeFault}
 use Rattle.inferno_tool.specs.declared.cause.Cause.{Cause}
 use Rattle.inferno_tool.specs.declared.cause.Cause.TheVariants.{BadSource, Host, NoMemory}
 use Rattle.inferno_tool.specs.declared.cause.SourceFault.{SourceFault}
-use Rattle.inferno_tool.specs.declared.cause.SourceFault.TheVariants.{Lex, Parse, Unbuilt}
+use Rattle.inferno_tool.specs.declared.cause.SourceFault.TheVariants.{Lex, Parse, Unmet, FrameTooLarge, CodeTooLarge}
 use Rattle.inferno_tool.specs.declared.reading.ReadFault.{ReadFault}
 use Rattle.inferno_tool.specs.declared.reading.ReadFault.TheVariants as read
 
--- the file's bytes are a program of the built part of this name, with these prints, and every program that they are is
-pub record IsRead (told : Told) (path : List ℕ) (name : List ℕ) (prints : Option (List (List ℕ))) : Type 0 where
+-- the file's bytes are a program of the built part, with this checked module
+pub record IsRead (told : Told) (path : List ℕ) (m : Module) : Type 0 where
   pub source : List ℕ
   pub stands : Has told path source
-  pub program : Program
-  pub built : IsBuilt source program
-  pub same : (p : Program) → IsBuilt source p → (name ≡ p.name) × (prints ≡ p.prints)
+  pub built : IsBuilt source m
 
 -- where the token with this number stands, or the first place where there is none
 abbrev pub span_at : List Token → ℕ → Span
@@ -42,11 +45,16 @@ unlexed (lex.NumberTooWide span) = read.Refused (Lex (lex.NumberTooWide span))
 unlexed (lex.Unclosed span) = read.Refused (Lex (lex.Unclosed span))
 unlexed lex.SourceTooLong = read.Refused (Lex lex.SourceTooLong)
 
--- what the reader of programs answers, as an answer of the command's reader
-abbrev pub built : Result FirstProgram PartFault → Result FirstProgram ReadFault
-built (Ok program) = Ok program
-built (Err part.NoMemory) = Err read.NoMemory
-built (Err part.Outside) = Err (read.Refused Unbuilt)
+-- a refusal of names and types
+abbrev pub unchecked : CheckFault → ReadFault
+unchecked check.NoMemory = read.NoMemory
+unchecked (check.Refused cause span) = read.Refused (Unmet cause span)
+
+-- a refusal of the compiler
+abbrev pub uncompiled : CompileFault → ReadFault
+uncompiled compile.NoMemory = read.NoMemory
+uncompiled compile.FrameTooLarge = read.Refused FrameTooLarge
+uncompiled compile.CodeTooLarge = read.Refused CodeTooLarge
 
 -- a refusal of the grammar, at its token
 abbrev pub unparsed : List Token → ParseFault → ReadFault
@@ -58,6 +66,18 @@ unparsed tokens (parse.TooDeep token) = read.Refused (Parse (parse.TooDeep token
 abbrev pub IsReadFault : List ℕ → ReadFault → Type 0
 IsReadFault source read.NoMemory = Unit {0}
 IsReadFault source (read.Refused fault) = IsFault source fault
+
+-- why a tree was not read: a refusal, or want of memory
+abbrev pub IsTreeReadFault : Source → ReadFault → Type 0
+IsTreeReadFault tree read.NoMemory = Unit {0}
+IsTreeReadFault tree (read.Refused fault) = IsTreeFault tree fault
+
+-- the tree is in the built part, its checked module is this one, and it declares `init` as a first module has to
+pub record IsChecked (tree : Source) (m : Module) : Type 0 where
+  pub built : is_built tree ≡ true
+  pub checked : checking.check tree ≡ Ok m
+  pub begins : checking.declares_init tree ≡ true
+  pub proper : IsProper m
 
 -- the file's bytes have this fault
 pub record IsFaulty (told : Told) (path : List ℕ) (fault : SourceFault) : Type 0 where

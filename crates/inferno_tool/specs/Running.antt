@@ -1,27 +1,100 @@
--- What a run leaves: its journal, the objects that it was started with, and the bytes on the output.
-use Rattle.std.specs.Prelude.{◌≡◌, ℕ, List, [], ◌∷◌, Option, None, Some, Bool, false}
+-- What a run leaves: its journal, the objects that it was started with, the bytes on the output, and what all of it means.
+use Rattle.std.specs.Prelude.{◌≡◌, ◌≢◌, ℕ, List, [], ◌∷◌, map, codes, Option, None, Some, slice_get}
 use Rattle.dis_file.specs.declared.object.Object.{Object}
-use Rattle.first_machine.specs.declared.event.Journal.{Journal}
-use Rattle.first_machine.specs.Compiled.{asked_texts, compiled, literals}
-use Rattle.first_machine.specs.Run.{Prints, initial}
-use Rattle.first_machine.specs.Machine.{Journaled}
-use Rattle.first_host.specs.Conversation.{Conversation}
+use Rattle.limbo_typed.specs.Typed.{Function, Module}
+use Rattle.limbo_typed.specs.Proper.{IsProper}
+use Rattle.limbo_meaning.specs.Program.{Routine}
+use Rattle.dis_meaning.specs.Opening.{StringsSpell}
+use Rattle.code_sim.specs.Keeps.{object_for, BeginsWith}
+use Rattle.machine_core.specs.declared.event.Journal.{Journal}
+use Rattle.machine_core.specs.declared.end.End.{End}
+use Rattle.machine_core.specs.declared.end.End.TheVariants as end
+use Rattle.machine_core.specs.declared.machine.Machine.{Machine}
+use Rattle.machine_core.specs.Journal.{State}
+use Rattle.machine_core.specs.Ends.{breaches}
+use Rattle.machine_core.specs.Kept.{view_broken}
+use Rattle.machine_core.specs.Standing.{HasBegun}
+use Rattle.machine_host.specs.Conversation.{Conversation}
+use Rattle.limbo_compiler.specs.Limits.{IsWithin}
+use Rattle.limbo_compiler.specs.Means.{Means}
+use Rattle.inferno_tool.specs.declared.cause.Cause.{Cause}
+use Rattle.inferno_tool.specs.declared.cause.Cause.TheVariants.{Done, Broke, Limit, SinkFault, NoMemory}
 use Rattle.inferno_tool.specs.Words.{base_name}
 
--- A run of the program of this name, with these prints, from the file at the path. Where no machine was started nothing is
--- written. Else the objects are the file's base name and the program's object, and what the journal, the requests, the
--- console's replies and the output's bytes are is their conversation.
-abbrev pub IsRun : List ℕ → List ℕ → Option (List (List ℕ)) → Option Journal → List (List ℕ × Object) → Option (List ℕ) → Option (List ℕ) → ℕ → ℕ → Bool → Type 0
-IsRun path name prints None objects old new faults_before faults_after done = (objects ≡ []) × (new ≡ old) × (done ≡ false)
-IsRun path name prints (Some journal) objects old new faults_before faults_after done =
-    (objects ≡ (base_name path, compiled name prints) ∷ [])
-    × Conversation (compiled name prints) (asked_texts (literals prints)) journal.events old new faults_before faults_after done
+-- how many quanta a run may have
+abbrev pub quanta_limit : ℕ
+quanta_limit = 1000000
 
--- A machine that was started on the program's object, under the file's base name.
-pub record IsStarted (path name : List ℕ) (prints : Option (List (List ℕ))) (machine : Journaled) (base : List ℕ) : Type 0 where
-  pub object : machine.state.object ≡ compiled name prints
-  pub begins : initial (compiled name prints) ≡ Some machine.state
-  pub outbox : machine.outbox ≡ None
-  pub journal : machine.journal ≡ []
-  pub prints_texts : Prints (compiled name prints) (asked_texts (literals prints))
-  pub named : base ≡ base_name path
+-- the module's function of this number is called `init`
+pub record Beginning (m : Module) (init : ℕ) : Type 0 where
+  pub function : Function
+  pub there : slice_get m.functions init ≡ Some function
+  pub named : function.name ≡ codes "init"
+
+-- The object of a module that the checker gave and that is within the limits, and where its runs begin.
+pub record IsCompiled (m : Module) (o : Object) : Type 0 where
+  pub proper : IsProper m
+  pub within : IsWithin m
+  pub same : o ≡ object_for m
+  pub spelled : StringsSpell o
+  pub init : ℕ
+  pub begins : Beginning m init
+  pub first : Routine
+  pub enters : BeginsWith m init first
+
+-- an end that a run of a program can have
+abbrev pub IsOwnEnd : End → Type 0
+IsOwnEnd end.Done = Unit {0}
+IsOwnEnd end.Broke = Unit {0}
+IsOwnEnd end.Limit = Unit {0}
+IsOwnEnd end.NoMemory = Unit {0}
+IsOwnEnd _ = ⊥
+
+-- What the cause says of a run that ended so, in the state that its journal leads to: which processes broke and with what text, in
+-- order; how many quanta the limit is. Where a write of output failed, memory didn't run out.
+abbrev pub Says : State → End → Cause → Type 0
+Says t how Done = how ≡ end.Done
+Says t how (Broke broken) = (how ≡ end.Broke) × (map view_broken broken.items ≡ breaches t.trace)
+Says t how (Limit quanta) = (how ≡ end.Limit) × (quanta ≡ quanta_limit)
+Says t how (SinkFault out err) = how ≢ end.NoMemory
+Says t how NoMemory = Unit {0}
+Says t how _ = ⊥
+
+-- The run of a module that this journal is of. The journal, the requests, the console's replies and the output's bytes are a
+-- conversation, which leads to some state and ended so; beside it there is a run of the module from its function `init`, at the pace, of
+-- which the same was told: requests, replies and how each process ended; and the cause says how it ended.
+pub record RunOf (m : Module) (journal : Journal) (old new : Option (List ℕ)) (faults_before faults_after : ℕ) (cause : Cause) : Type 0 where
+  pub state : State
+  pub how : End
+  pub conversation : Conversation (object_for m ∷ []) quanta_limit journal.events state old new faults_before faults_after how
+  pub init : ℕ
+  pub begins : Beginning m init
+  pub means : Means m init journal.events state
+  pub says : Says state how cause
+
+-- no machine was started: nothing was written, and there is no journal
+pub record NothingRan (journal : Option Journal) (objects : List (List ℕ × Object)) (old new : Option (List ℕ)) : Type 0 where
+  pub unstarted : journal ≡ None
+  pub none : objects ≡ []
+  pub unwritten : new ≡ old
+
+-- A run of the module of the file at the path. Where a machine was started, the objects are the file's base name and the module's
+-- object; where none was, memory ran out.
+abbrev pub IsRun : List ℕ → Module → Option Journal → List (List ℕ × Object) → Option (List ℕ) → Option (List ℕ) → ℕ → ℕ → Cause → Type 0
+IsRun path m None objects old new faults_before faults_after cause = NothingRan None objects old new × (cause ≡ NoMemory)
+IsRun path m (Some journal) objects old new faults_before faults_after cause =
+    (objects ≡ (base_name path, object_for m) ∷ []) × RunOf m journal old new faults_before faults_after cause
+
+-- a machine that was started on the object, under the file's base name
+pub record IsStarted (path : List ℕ) (o : Object) (machine : Machine) : Type 0 where
+  pub objects : machine.objects.items ≡ (base_name path, o) ∷ []
+  pub limit : machine.limit ≡ quanta_limit
+  pub begun : HasBegun machine.objects machine.limit machine
+
+-- how a run ends, before the counts of faults are looked at
+abbrev pub IsOwnCause : Cause → Type 0
+IsOwnCause Done = Unit {0}
+IsOwnCause (Broke broken) = Unit {0}
+IsOwnCause (Limit quanta) = Unit {0}
+IsOwnCause NoMemory = Unit {0}
+IsOwnCause _ = ⊥

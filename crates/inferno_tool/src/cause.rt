@@ -1,15 +1,17 @@
 ghost use Rattle.std.specs.Prelude.{◌≡◌};
 ghost use Rattle.inferno_tool.specs.Closing.{status_of};
-ghost use Rattle.inferno_tool.specs.Faults.{lex_number, parse_number, number_of, place_of};
+ghost use Rattle.inferno_tool.specs.Outcome.{lacks_memory};
+ghost use Rattle.inferno_tool.specs.Faults.{lex_number, parse_number, unmet_number, number_of, place_of};
 
 use dis_file::Object;
-use first_machine::Journal;
 use inf_text::{Span, Text};
 use limbo_lexer::LexFault;
+use limbo_names::Cause as Unmet;
 use limbo_parser::ParseFault;
+use machine_core::{Broken, Journal};
 
 /// Why a source was refused.
-#[derive(Clone, Copy, Debug)]
+#[derive(Clone, Copy)]
 pub enum SourceFault {
     /// Refusals 1 and 20 to 24: the bytes are no text, or it has no tokens.
     Lex { fault: LexFault },
@@ -17,6 +19,14 @@ pub enum SourceFault {
     Parse { fault: ParseFault, span: Span },
     /// Refusal 25: the tree is outside the part of the language that is built so far.
     Unbuilt,
+    /// Refusals 41, 42, 50, 51, 54 and 63: a condition of names and types isn't met, at the span.
+    Unmet { cause: Unmet, span: Span },
+    /// Refusal 45: the module doesn't declare `init` as a first module has to.
+    NoInit,
+    /// Refusal 70: a function's frame passes 65,536 bytes.
+    FrameTooLarge,
+    /// Refusal 71: the code passes 1,048,576 instructions.
+    CodeTooLarge,
 }
 
 /// The number of a refusal of bytes and tokens; 0 for want of memory, which is none.
@@ -42,6 +52,20 @@ fn parse_number(fault: ParseFault) -> u8
         ParseFault::NoMemory => 0,
         ParseFault::Syntax { .. } => 30,
         ParseFault::TooDeep { .. } => 31,
+    }
+}
+
+/// The number of a condition of names and types that isn't met.
+fn unmet_number(cause: Unmet) -> u8
+    ensures { result ≡ unmet_number cause }
+{
+    match cause {
+        Unmet::Twice => 41,
+        Unmet::Unknown => 42,
+        Unmet::TypeClash => 50,
+        Unmet::NotPlace => 51,
+        Unmet::BadFormat => 54,
+        Unmet::NoReturn => 63,
     }
 }
 
@@ -76,6 +100,10 @@ impl SourceFault {
             SourceFault::Lex { fault } => lex_number(fault),
             SourceFault::Parse { fault, .. } => parse_number(fault),
             SourceFault::Unbuilt => 25,
+            SourceFault::Unmet { cause, .. } => unmet_number(cause),
+            SourceFault::NoInit => 45,
+            SourceFault::FrameTooLarge => 70,
+            SourceFault::CodeTooLarge => 71,
         }
     }
 
@@ -91,21 +119,30 @@ impl SourceFault {
                 | LexFault::NumberTooWide(span)
                 | LexFault::Unclosed(span),
             }
-            | SourceFault::Parse { span, .. } => Place::at(span),
-            SourceFault::Lex { .. } | SourceFault::Unbuilt => Place::START,
+            | SourceFault::Parse { span, .. }
+            | SourceFault::Unmet { span, .. } => Place::at(span),
+            SourceFault::Lex { .. }
+            | SourceFault::Unbuilt
+            | SourceFault::NoInit
+            | SourceFault::FrameTooLarge
+            | SourceFault::CodeTooLarge => Place::START,
         }
     }
 }
 
 /// Why a command ended.
-#[derive(Drop, Debug)]
+#[derive(Drop)]
 pub enum Cause {
     /// The work is done, and all output was taken.
     Done,
+    /// Processes broke, these in this order, and none is live.
+    Broke { broken: Vec<Broken> },
     /// The words aren't those of a command.
     Usage,
     /// A source was refused.
     BadSource { file: Text, fault: SourceFault },
+    /// There were as many quanta as the limit, and a process is live.
+    Limit { quanta: u64 },
     /// A file could not be read: it is missing, or the read failed.
     Host { path: Text, missing: bool },
     /// A write of output failed. The counts are those of `out` and `err`.
@@ -121,17 +158,26 @@ impl Cause {
     {
         match self {
             Cause::Done => 0,
+            Cause::Broke { .. } => 1,
             Cause::Usage => 2,
             Cause::BadSource { .. } => 3,
+            Cause::Limit { .. } => 6,
             Cause::Host { .. } => 7,
             Cause::SinkFault { .. } => 8,
             Cause::NoMemory => 10,
         }
     }
+
+    /// Whether it is want of memory.
+    pub fn lacks_memory(&self) -> bool
+        ensures { result ≡ lacks_memory self.now }
+    {
+        matches!(self, Cause::NoMemory)
+    }
 }
 
 /// What a run leaves beside its cause.
-#[derive(Drop, Debug)]
+#[derive(Drop)]
 pub struct Left {
     /// What happened to the machine, where one was started.
     pub journal: Option<Journal>,
@@ -140,7 +186,7 @@ pub struct Left {
 }
 
 /// How a command ended.
-#[derive(Drop, Debug)]
+#[derive(Drop)]
 pub struct Ended {
     pub status: u8,
     pub cause: Cause,

@@ -1,9 +1,11 @@
-ghost use Rattle.std.specs.Prelude.{◌≡◌, ◌≤◌, ◌⊎◌, ◌++◌, ◌∷◌, [], IfOk, string_bytes, decimal, codes, encode_utf8_all};
-ghost use Rattle.inferno_tool.specs.Closing.{line, closing_line, told, IsWritten};
+ghost use Rattle.std.specs.Prelude.{◌≡◌, ◌≤◌, ◌⊎◌, ◌++◌, ◌∷◌, [], map, IfOk, string_bytes, decimal, codes, encode_utf8_all};
+ghost use Rattle.machine_core.specs.Kept.{view_broken};
+ghost use Rattle.inferno_tool.specs.Closing.{line, closing_line, told, broken_line, broken_lines, IsWritten};
 
 use crate::cause::{Cause, SourceFault};
 use inf_ports::{Sink, write_whole};
 use inf_text::Text;
+use machine_core::Broken;
 use std::alloc::{AllocError, Global};
 
 /// A line of the command: its name, words, a path where one belongs there, and what follows it.
@@ -25,7 +27,7 @@ fn line_with(
 }
 
 /// The decimal digits of a number.
-fn digits(alloc: Global, number: u32) -> Result<String, AllocError>
+fn digits(alloc: Global, number: u64) -> Result<String, AllocError>
     ensures { IfOk result (λ text. string_bytes text ≡ decimal number) }
 {
     format!(in alloc; "{number}")
@@ -36,9 +38,9 @@ fn told(alloc: Global, fault: SourceFault) -> Result<Vec<u8>, AllocError>
     ensures { IfOk result (λ bytes. bytes.items ≡ told fault) }
 {
     let place = fault.place();
-    let line = digits(alloc, place.line)?;
-    let col = digits(alloc, place.col)?;
-    let number = digits(alloc, u32::from(fault.number()))?;
+    let line = digits(alloc, u64::from(place.line))?;
+    let col = digits(alloc, u64::from(place.col))?;
+    let number = digits(alloc, u64::from(fault.number()))?;
     let mut bytes = Vec::from_slice(alloc, b":")?;
     bytes.extend_from_slice(line.as_bytes())?;
     bytes.extend_from_slice(b":")?;
@@ -48,12 +50,48 @@ fn told(alloc: Global, fault: SourceFault) -> Result<Vec<u8>, AllocError>
     Ok(bytes)
 }
 
-/// The line about the cause.
+/// The line about a process that broke.
+fn broken_line(alloc: Global, broken: &Broken) -> Result<Vec<u8>, AllocError>
+    ensures { IfOk result (λ bytes. bytes.items ≡ broken_line (view_broken broken.now)) }
+{
+    let pid = digits(alloc, u64::from(broken.pid))?;
+    let mut words = Vec::from_slice(alloc, b"process ")?;
+    words.extend_from_slice(pid.as_bytes())?;
+    words.extend_from_slice(b" broken: ")?;
+    line_with(alloc, words.as_slice(), &broken.text, b"")
+}
+
+/// The lines about the processes that broke, in order.
+fn broken_lines(alloc: Global, broken: &[Broken]) -> Result<Vec<u8>, AllocError>
+    ensures { IfOk result (λ bytes. bytes.items ≡ broken_lines (map view_broken broken.now)) }
+{
+    let mut lines = Vec::new(alloc);
+    for one in broken {
+        let line = broken_line(alloc, one)?;
+        lines.extend_from_slice(line.as_slice())?;
+    }
+    Ok(lines)
+}
+
+/// The line about the limit of quanta.
+fn limit_line(alloc: Global, quanta: u64) -> Result<Vec<u8>, AllocError>
+    ensures { IfOk result (λ bytes. bytes.items ≡ line (codes "limit " ++ decimal quanta)) }
+{
+    let number = digits(alloc, quanta)?;
+    let mut bytes = Vec::from_slice(alloc, b"inferno: limit ")?;
+    bytes.extend_from_slice(number.as_bytes())?;
+    bytes.push(b'\n')?;
+    Ok(bytes)
+}
+
+/// The lines about the cause.
 fn closing_line(alloc: Global, cause: &Cause) -> Result<Vec<u8>, AllocError>
     ensures { IfOk result (λ bytes. bytes.items ≡ closing_line cause.now) }
 {
     match cause {
         Cause::Done => Ok(Vec::new(alloc)),
+        Cause::Broke { broken } => broken_lines(alloc, broken),
+        Cause::Limit { quanta } => limit_line(alloc, *quanta),
         Cause::Usage => Vec::from_slice(alloc, b"inferno: usage\n"),
         Cause::BadSource { file, fault } => {
             let told = told(alloc, *fault)?;
@@ -65,8 +103,8 @@ fn closing_line(alloc: Global, cause: &Cause) -> Result<Vec<u8>, AllocError>
     }
 }
 
-/// Writes the line about the cause. It is made before any of it is written: where that takes more memory than there
-/// is, the cause is want of memory. A fault of `err` changes no cause.
+/// Writes the lines about the cause. They are made before any of them is written: where that takes more memory than
+/// there is, the cause is want of memory. A fault of `err` changes no cause.
 pub fn close<E: Sink>(alloc: Global, cause: Cause, err: &mut E) -> Cause
     ensures cause { (result ≡ cause) ⊎ (result ≡ Cause.NoMemory) }
     ensures written { IsWritten (E.held err.old) (E.held err.new) (E.faults err.old) (E.faults err.new) (closing_line result) }

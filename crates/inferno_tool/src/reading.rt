@@ -1,20 +1,24 @@
-//! Reads a source: its file, tokens, tree and program.
+//! Reads a source: its file, tokens, tree, checked module and object.
 
-ghost use Rattle.std.specs.Prelude.{◌≡◌, ◌≤◌, ◌⊎◌, IfOk, IfErr, MatchResult};
-ghost use Rattle.limbo_tree.specs.Sources as sources;
+ghost use Rattle.std.specs.Prelude.{◌≡◌, ◌≤◌, ◌⊎◌, IfOk, IfErr};
 ghost use Rattle.limbo_tree.specs.View.{view_source};
-ghost use Rattle.first_part.specs.Part.{Program};
-ghost use Rattle.first_machine.specs.Compiled.{AreLiteralsIfAny};
-ghost use Rattle.inferno_tool.specs.Built.{HasTree, IsBuilt};
-ghost use Rattle.inferno_tool.specs.Reading.{IsRead, IsReadFault, IsUnread, built, span_at, unlexed, unparsed};
+ghost use Rattle.limbo_typed.specs.Typed.{Module};
+ghost use Rattle.limbo_typed.specs.View.{view_module};
+ghost use Rattle.inferno_tool.specs.Built.{HasTree, IsProgram, IsBuilt};
+ghost use Rattle.inferno_tool.specs.Reading.{IsRead, IsChecked, IsReadFault, IsTreeReadFault, IsUnread, span_at, unlexed, unparsed, unchecked, uncompiled};
+ghost use Rattle.inferno_tool.specs.Running.{IsCompiled};
 
 use crate::cause::{Cause, SourceFault};
-use first_part::{FirstProgram, PartFault, read_program};
+use dis_file::Object;
 use inf_ports::{HostFault, HostTree};
 use inf_text::{Span, Text};
+use limbo_check_stmt::{check_module, declares_init};
+use limbo_compiler::{CompileFault, compile};
 use limbo_lexer::{LexFault, Token, lex};
+use limbo_names::{CheckFault, is_built};
 use limbo_parser::{ParseFault, parse};
 use limbo_tree::Source;
+use limbo_typed::TypedModule;
 use std::alloc::Global;
 
 /// Why bytes were not read as a program.
@@ -67,16 +71,30 @@ fn unparsed(tokens: &[Token], fault: ParseFault) -> ReadFault
     }
 }
 
-/// What the reader of programs answers, as an answer of this module.
-fn built(read: Result<FirstProgram, PartFault>) -> Result<FirstProgram, ReadFault>
-    ensures { result ≡ built read }
+/// The refusal of names and types.
+fn unchecked(fault: CheckFault) -> ReadFault
+    ensures { result ≡ unchecked fault }
 {
-    match read {
-        Ok(program) => Ok(program),
-        Err(PartFault::NoMemory) => Err(ReadFault::NoMemory),
-        Err(PartFault::Outside) => Err(ReadFault::Refused {
-            fault: SourceFault::Unbuilt,
-        }),
+    match fault {
+        CheckFault::NoMemory => ReadFault::NoMemory,
+        CheckFault::Refused { cause, at } => ReadFault::Refused {
+            fault: SourceFault::Unmet { cause, span: at },
+        },
+    }
+}
+
+/// The refusal of the compiler.
+fn uncompiled(fault: CompileFault) -> ReadFault
+    ensures { result ≡ uncompiled fault }
+{
+    match fault {
+        CompileFault::NoMemory => ReadFault::NoMemory,
+        CompileFault::FrameTooLarge => ReadFault::Refused {
+            fault: SourceFault::FrameTooLarge,
+        },
+        CompileFault::CodeTooLarge => ReadFault::Refused {
+            fault: SourceFault::CodeTooLarge,
+        },
     }
 }
 
@@ -86,8 +104,6 @@ fn built(read: Result<FirstProgram, PartFault>) -> Result<FirstProgram, ReadFaul
 /// The refusal of its bytes, tokens or grammar; `NoMemory`.
 fn read_tree(alloc: Global, source: &[u8]) -> Result<Source, ReadFault>
     ensures found { IfOk result (λ tree. HasTree source.now (view_source tree)) }
-    ensures only { (tree : sources.Source) → HasTree source.now tree
-        → MatchResult result (λ found. view_source found ≡ tree) (λ e. e ≡ ReadFault.NoMemory) }
     ensures refused { IfErr result (IsReadFault source.now) }
 {
     let tokens = match lex(alloc, source) {
@@ -101,19 +117,63 @@ fn read_tree(alloc: Global, source: &[u8]) -> Result<Source, ReadFault>
     }
 }
 
-/// The program of a source.
+/// The checked module of a tree, where it is one that a program can have.
+///
+/// # Errors
+/// The refusal of the tree; `NoMemory`.
+fn checked(alloc: Global, tree: &Source) -> Result<TypedModule, ReadFault>
+    ensures found { IfOk result (λ m. IsChecked (view_source tree.now) (view_module m)) }
+    ensures refused { IfErr result (IsTreeReadFault (view_source tree.now)) }
+{
+    if !is_built(tree) {
+        return Err(ReadFault::Refused {
+            fault: SourceFault::Unbuilt,
+        });
+    }
+    let module = match check_module(alloc, tree) {
+        Ok(module) => module,
+        Err(fault) => return Err(unchecked(fault)),
+    };
+    match declares_init(alloc, tree) {
+        Ok(true) => Ok(module),
+        Ok(false) => Err(ReadFault::Refused {
+            fault: SourceFault::NoInit,
+        }),
+        Err(_) => Err(ReadFault::NoMemory),
+    }
+}
+
+/// The object of a tree that is a program.
+///
+/// # Errors
+/// The refusal of the tree; `NoMemory`.
+fn object_of(alloc: Global, tree: &Source) -> Result<Object, ReadFault>
+    ensures found { IfOk result (λ o. (m : Module) × IsProgram (view_source tree.now) m × IsCompiled m o) }
+    ensures refused { IfErr result (IsTreeReadFault (view_source tree.now)) }
+{
+    let module = match checked(alloc, tree) {
+        Ok(module) => module,
+        Err(fault) => return Err(fault),
+    };
+    match compile(alloc, &module) {
+        Ok(object) => Ok(object),
+        Err(fault) => Err(uncompiled(fault)),
+    }
+}
+
+/// The object of a source that is a program.
 ///
 /// # Errors
 /// The refusal of the source; `NoMemory`.
-fn read_built(alloc: Global, source: &[u8]) -> Result<FirstProgram, ReadFault>
-    ensures found { IfOk result (λ read. (p : Program) × IsBuilt source.now p × (read.name ≡ p.name) × (read.prints ≡ p.prints)) }
-    ensures only { (p : Program) → IsBuilt source.now p
-        → MatchResult result (λ read. (read.name ≡ p.name) × (read.prints ≡ p.prints)) (λ e. e ≡ ReadFault.NoMemory) }
+fn read_built(alloc: Global, source: &[u8]) -> Result<Object, ReadFault>
+    ensures found { IfOk result (λ o. (m : Module) × IsBuilt source.now m × IsCompiled m o) }
     ensures refused { IfErr result (IsReadFault source.now) }
-    ensures small { IfOk result (λ read. AreLiteralsIfAny read.prints) }
 {
-    let tree = read_tree(alloc, source)?;
-    built(read_program(alloc, &tree))
+    let tree = match read_tree(alloc, source) {
+        Ok(tree) => tree,
+        Err(fault) => return Err(fault),
+    };
+    object_of(alloc, &tree)
 }
 
 /// The file at the path could not be read.
@@ -136,17 +196,12 @@ fn refused(path: &Text, fault: SourceFault) -> Cause
     }
 }
 
-/// The program in the file at the path.
+/// The object of the program in the file at the path.
 ///
 /// # Errors
 /// The cause: the file can't be read, its source is refused, or want of memory.
-pub fn read_source<H: HostTree>(
-    alloc: Global,
-    path: &Text,
-    files: &mut H,
-) -> Result<FirstProgram, Cause>
-    ensures read { IfOk result (λ read. IsRead (H.told files.old) path.now read.name read.prints) }
-    ensures small { IfOk result (λ read. AreLiteralsIfAny read.prints) }
+pub fn read_source<H: HostTree>(alloc: Global, path: &Text, files: &mut H) -> Result<Object, Cause>
+    ensures read { IfOk result (λ o. (m : Module) × IsRead (H.told files.old) path.now m × IsCompiled m o) }
     ensures unread { IfErr result (λ cause. IsUnread (H.told files.old) path.now (H.faults files.old) (H.faults files.new) cause) }
     ensures kept { H.told files.new ≡ H.told files.old }
     ensures later { H.faults files.old ≤ H.faults files.new }
@@ -158,7 +213,7 @@ pub fn read_source<H: HostTree>(
         Err(HostFault::Failed) => return Err(unread(path, false)),
     };
     match read_built(alloc, source.as_slice()) {
-        Ok(program) => Ok(program),
+        Ok(object) => Ok(object),
         Err(ReadFault::NoMemory) => Err(Cause::NoMemory),
         Err(ReadFault::Refused { fault }) => Err(refused(path, fault)),
     }

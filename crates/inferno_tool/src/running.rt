@@ -1,21 +1,24 @@
-ghost use Rattle.std.specs.Prelude.{◌≡◌, ◌≤◌, ◌⊎◌, ◌↔◌, ◌∷◌, [], ◌<◌, IfOk, IsTrue, length, vec_capacity};
-ghost use Rattle.std.specs.Io.KnownBytes.{Appends};
-ghost use Rattle.inf_ports.specs.Outside.{AppendsPart, Rose};
-ghost use Rattle.first_machine.specs.Compiled.{AreLiteralsIfAny, asked_texts, compiled, literals};
-ghost use Rattle.first_machine.specs.Run.{Prints};
-ghost use Rattle.first_host.specs.Ends.{IsDone, is_done};
-ghost use Rattle.inferno_tool.specs.Built.{bytes_of};
-ghost use Rattle.inferno_tool.specs.Running.{IsRun, IsStarted};
+//! Runs a program's object.
 
-use crate::cause::Left;
+ghost use Rattle.std.specs.Prelude.{◌≡◌, ◌≤◌, ◌↔◌, IfOk, IsTrue, map};
+ghost use Rattle.inf_ports.specs.Outside.{Rose};
+ghost use Rattle.limbo_typed.specs.Typed.{Module};
+ghost use Rattle.machine_core.specs.Journal.{State};
+ghost use Rattle.machine_core.specs.Ends.{breaches};
+ghost use Rattle.machine_core.specs.Kept.{view_broken};
+ghost use Rattle.inferno_tool.specs.Running.{IsCompiled, IsOwnCause, IsOwnEnd, IsRun, IsStarted, Says, quanta_limit};
+
+use crate::cause::{Cause, Left};
 use crate::words::base_name;
 use dis_file::Object;
-use first_host::{Ran, RunEnd, run_machine};
-use first_machine::{Machine, StartFault, object_of};
-use first_part::FirstProgram;
 use inf_ports::Sink;
-use inf_text::{Seq, Text};
+use inf_text::Text;
+use machine_core::{Broken, End, Machine, Setup, StartFault};
+use machine_host::{Ran, run_machine};
 use std::alloc::{AllocError, Global};
+
+/// How many quanta a run may have.
+const QUANTA_LIMIT: u64 = 1_000_000;
 
 /// Whether a count of faults has risen.
 pub fn has_risen(before: u64, now: u64) -> bool
@@ -24,93 +27,76 @@ pub fn has_risen(before: u64, now: u64) -> bool
     before.saturating_add(1) <= now
 }
 
-/// Compiles a program to its object.
+/// Starts a machine on the object of the file at the path.
 ///
 /// # Errors
 /// Want of memory.
-fn compile(alloc: Global, program: &FirstProgram) -> Result<Object, AllocError>
-    requires { AreLiteralsIfAny program.now.prints }
-    ensures laid_out { IfOk result (λ object. object ≡ compiled program.now.name program.now.prints) }
-    ensures runs { IfOk result (λ object. Prints object (asked_texts (literals program.now.prints))) }
+fn start(alloc: Global, path: &Text, object: Object) -> Result<Machine, AllocError>
+    requires compiled { (m : Module) × IsCompiled m object }
+    ensures { IfOk result (IsStarted path.now object) }
 {
-    object_of(
-        alloc,
-        &program.name,
-        program.prints.as_ref().map(Seq::as_slice),
-    )
-}
-
-/// A machine that is started on a program, and room for what it was started with.
-#[derive(Drop)]
-struct Started {
-    machine: Machine,
-    name: Text,
-    objects: Vec<(Text, Object)>,
-}
-
-/// Compiles the program in the file at the path, and starts a machine on it.
-///
-/// # Errors
-/// Want of memory.
-fn start(alloc: Global, path: &Text, program: &FirstProgram) -> Result<Started, AllocError>
-    requires { AreLiteralsIfAny program.now.prints }
-    ensures ready { IfOk result (λ s. IsStarted path.now program.now.name program.now.prints s.machine s.name) }
-    ensures room { IfOk result (λ s. (s.objects.items ≡ []) × (length s.objects.items < vec_capacity s.objects)) }
-{
-    let object = compile(alloc, program)?;
     let name = base_name(alloc, path)?;
-    let objects = Vec::with_capacity(alloc, 1)?;
-    match Machine::start(alloc, object) {
-        Ok(machine) => Ok(Started {
-            machine,
-            name,
-            objects,
-        }),
+    let mut objects = Vec::with_capacity(alloc, 1)?;
+    objects.push_reserved((name, object));
+    let setup = Setup {
+        objects,
+        limit: QUANTA_LIMIT,
+    };
+    match Machine::start(alloc, setup) {
+        Ok(machine) => Ok(machine),
         Err(StartFault::NoMemory) => Err(AllocError),
         Err(StartFault::Malformed) => unreachable!(),
     }
 }
 
-/// Compiles the program in the file at the path, runs it and writes what it prints on `out`.
+/// What a run's end is told as, where it is one that a program's run can have.
+fn cause_of(end: End, broken: Vec<Broken>) -> Cause
+    requires own { IsOwnEnd end }
+    ensures says { (t : State) → map view_broken broken.items ≡ breaches t.trace → Says t end result }
+    ensures own { IsOwnCause result }
+{
+    match end {
+        End::Done => Cause::Done,
+        End::Broke => Cause::Broke { broken },
+        End::Limit => Cause::Limit {
+            quanta: QUANTA_LIMIT,
+        },
+        End::NoMemory => Cause::NoMemory,
+        End::Stuck | End::HeapFull | End::Faulted { .. } => unreachable!(),
+    }
+}
+
+/// Runs the object of the program in the file at the path, and writes what it prints on `out`.
 ///
-/// The end is that the program returned, or want of memory, before a machine was started or later. Then a first part of
-/// what it prints was written.
+/// The cause is how the run ended, or want of memory, before a machine was started or later.
 pub fn run_program<K: Sink>(
     alloc: Global,
     path: &Text,
-    program: &FirstProgram,
+    object: Object,
     out: &mut K,
-) -> (RunEnd, Left)
-    requires { AreLiteralsIfAny program.now.prints }
-    ensures run { IsRun path.now program.now.name program.now.prints result.1.journal result.1.objects.items
-        (K.held out.old) (K.held out.new) (K.faults out.old) (K.faults out.new) (is_done result.0) }
-    ensures whole { IsDone result.0 → (Rose (K.faults out.old) (K.faults out.new) → ⊥)
-        → Appends (K.held out.old) (K.held out.new) (bytes_of program.now.prints) }
-    ensures part { AppendsPart (K.held out.old) (K.held out.new) (bytes_of program.now.prints) }
-    ensures ends { IsDone result.0 ⊎ (result.0 ≡ RunEnd.NoMemory) }
+) -> (Cause, Left)
+    requires compiled { (m : Module) × IsCompiled m object }
+    ensures run { (m : Module) → IsCompiled m object → IsRun path.now m result.1.journal result.1.objects.items
+        (K.held out.old) (K.held out.new) (K.faults out.old) (K.faults out.new) result.0 }
+    ensures own { IsOwnCause result.0 }
     ensures later { K.faults out.old ≤ K.faults out.new }
 {
-    let Ok(started) = start(alloc, path, program) else {
+    let Ok(machine) = start(alloc, path, object) else {
         let left = Left {
             journal: None,
             objects: Vec::new(alloc),
         };
-        return (RunEnd::NoMemory, left);
+        return (Cause::NoMemory, left);
     };
-    let Started {
-        machine,
-        name,
-        mut objects,
-    } = started;
     let Ran {
-        journal,
-        object,
         end,
+        journal,
+        objects,
+        broken,
     } = run_machine(alloc, machine, out);
-    objects.push_reserved((name, object));
     let left = Left {
         journal: Some(journal),
         objects,
     };
-    (end, left)
+    (cause_of(end, broken), left)
 }

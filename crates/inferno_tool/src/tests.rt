@@ -1,8 +1,8 @@
 use super::top::inferno;
 use crate::cause::Ended;
-use first_machine::Event;
 use inf_ports::{Failed, MemSink, MemTree, Sink};
 use inf_text::{Seq, Text};
+use machine_core::Event;
 use std::alloc::Global;
 use std::test::Fail;
 
@@ -42,6 +42,17 @@ S: module { init: fn(c: ref Draw->Context, nil: list of string); };
 init(nil: ref Draw->Context, a: list of string) { sys = load Sys Sys->PATH;
 sys->print(\"one\"); sys->print(\"\"); sys->print(\"\\ttwo\\\"\\\\\"); sys->print(\"\\n\"); }
 ";
+
+/// What programs below begin with: 6 lines, whose `init` is still to be written.
+const HEAD: &str = "implement T;
+include \"sys.m\";
+sys: Sys;
+include \"draw.m\";
+T: module { init: fn(nil: ref Draw->Context, nil: list of string); };
+";
+
+/// The beginning of `init`, in a line of its own.
+const INIT: &str = "init(nil: ref Draw->Context, nil: list of string) { sys = load Sys Sys->PATH; ";
 
 /// A command over memory: its words, the bytes at `hello.b`, which call of each port fails, and what must come of it.
 #[derive(Drop)]
@@ -104,6 +115,15 @@ fn go(alloc: Global) -> Result<Vec<Text>, Fail> {
     Ok(vec![in alloc; text(alloc, "go")?, text(alloc, "hello.b")?]?)
 }
 
+/// Runs `go hello.b` over this source, and answers how it ended and what was written on `out` and `err`.
+fn command(alloc: Global, source: &[u8]) -> Result<(Ended, MemSink, MemSink), Fail> {
+    let mut files = tree(alloc, source, None)?;
+    let mut out = MemSink::new(alloc, 100, Vec::new(alloc))?;
+    let mut err = MemSink::new(alloc, 100, Vec::new(alloc))?;
+    let ended = inferno(alloc, &go(alloc)?, &mut files, &mut out, &mut err);
+    Ok((ended, out, err))
+}
+
 /// Runs a row, and answers its status and what was written on `out` and `err`.
 fn run(alloc: Global, row: &Row) -> Result<(u8, MemSink, MemSink), Fail> {
     let mut words = Vec::new(alloc);
@@ -162,10 +182,10 @@ fn rows(rt: HostRuntime) -> Result<(), Fail> {
         ),
         Row::refused(b"implement T", b"inferno: hello.b:1:12: fault 30\n"),
         Row::refused(b"implement T; cyclic", b"inferno: hello.b:1:14: fault 30\n"),
-        Row::refused(b"implement T;", b"inferno: hello.b:1:1: fault 25\n"),
+        Row::refused(b"implement T; x: int;", b"inferno: hello.b:1:1: fault 25\n"),
         Row::refused(
-            b"implement T; f() { return 1; }",
-            b"inferno: hello.b:1:1: fault 25\n",
+            b"implement T; T: module { f: fn(); }; f() { }",
+            b"inferno: hello.b:1:1: fault 45\n",
         ),
         Row {
             words: &["go", "none.b"],
@@ -207,6 +227,75 @@ fn rows(rt: HostRuntime) -> Result<(), Fail> {
         assert_eq!(rt; status, row.status, "status of row {k}");
         assert_eq!(rt; out.as_slice(), row.out, "out of row {k}");
         assert_eq!(rt; err.as_slice(), row.err, "err of row {k}");
+    }
+    Ok(())
+}
+
+/// What programs print and how they end: behind the head stand these functions, then `init` with these statements.
+#[test]
+fn programs(rt: HostRuntime) -> Result<(), Fail> {
+    let alloc = rt.alloc();
+    let rows = [
+        (
+            "f(n: int): int { if (n < 2) { return 1; } m := n - 1; return n * f(m); }",
+            "x := f(10); sys->print(\"%d\\n\", x);",
+            0,
+            "3628800\n",
+            "",
+        ),
+        (
+            "g(): int { return g(); }",
+            "sys->print(\"so far\\n\"); g(); sys->print(\"never\\n\");",
+            1,
+            "so far\n",
+            "inferno: process 1 broken: stack overflow\n",
+        ),
+        ("", "sys->print(\"%d%%\\n\", 5 - 7);", 0, "-2%\n", ""),
+        (
+            "",
+            "x := 2147483647; sys->print(\"%d %d %d\\n\", x + 1, x * x, 0 - x - 2);",
+            0,
+            "-2147483648 1 2147483647\n",
+            "",
+        ),
+        (
+            "",
+            "i := 0; while (i < 3) { if (i == 1) sys->print(\"one\\n\"); else sys->print(\"%d\\n\", i); i = i + 1; }",
+            0,
+            "0\none\n2\n",
+            "",
+        ),
+    ];
+    for (functions, statements, status, out, err) in rows {
+        let source = format!(in alloc; "{HEAD}{functions}\n{INIT}{statements} }}")?;
+        let (ended, printed, lines) = command(alloc, source.as_bytes())?;
+        assert_eq!(rt; ended.status, status);
+        assert_eq!(rt; printed.as_slice(), out.as_bytes());
+        assert_eq!(rt; lines.as_slice(), err.as_bytes());
+    }
+    Ok(())
+}
+
+/// Where names and types don't fit: behind the head stands this line, its seventh, then an `init` that does nothing.
+#[test]
+fn refusals(rt: HostRuntime) -> Result<(), Fail> {
+    let alloc = rt.alloc();
+    let rows = [
+        ("f() { x := 1; x := 2; }", "7:15: fault 41"),
+        ("f() { y = 1; }", "7:7: fault 42"),
+        ("f(): int { return; }", "7:12: fault 50"),
+        ("f() { f = 1; }", "7:7: fault 51"),
+        ("f() { sys->print(\"%d\"); }", "7:7: fault 54"),
+        ("f(n: int): int { if (n) return 1; }", "7:1: fault 63"),
+        ("f() { for (;;) ; }", "1:1: fault 25"),
+    ];
+    for (line, told) in rows {
+        let source = format!(in alloc; "{HEAD}{line}\n{INIT} }}")?;
+        let wanted = format!(in alloc; "inferno: hello.b:{told}\n")?;
+        let (ended, printed, lines) = command(alloc, source.as_bytes())?;
+        assert_eq!(rt; ended.status, 3);
+        assert_eq!(rt; printed.as_slice(), b"".as_slice());
+        assert_eq!(rt; lines.as_slice(), wanted.as_bytes());
     }
     Ok(())
 }
@@ -297,19 +386,17 @@ fn one_byte_at_a_time(rt: HostRuntime) -> Result<(), Fail> {
     Ok(())
 }
 
-/// The events of the program that greets: its five instructions up to the print, the console's Rwrite of 13 bytes, and
-/// its return.
+/// The events of the program that greets: its instructions up to the print, three of which begin the module, the console's
+/// Rwrite of 13 bytes, and its end.
 #[test]
 fn journal_of_hello(rt: HostRuntime) -> Result<(), Fail> {
     let alloc = rt.alloc();
-    let mut files = tree(alloc, HELLO, None)?;
-    let mut out = MemSink::new(alloc, 100, Vec::new(alloc))?;
-    let mut err = MemSink::new(alloc, 100, Vec::new(alloc))?;
+    let (ended, _, _) = command(alloc, HELLO)?;
     let Ended {
         journal,
         objects,
         ..
-    } = inferno(alloc, &go(alloc)?, &mut files, &mut out, &mut err);
+    } = ended;
     let events = match &journal {
         Some(journal) => journal.events.as_slice(),
         None => &[],

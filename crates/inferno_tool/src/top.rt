@@ -1,12 +1,10 @@
-ghost use Rattle.std.specs.Prelude.{◌≡◌, ◌≤◌, ◌⊎◌, ℕ, List, [], Option, true, None, Some, IsSome, IfOk, IfErr};
-ghost use Rattle.std.specs.Io.KnownBytes.{Appends, Keeps};
-ghost use Rattle.inf_ports.specs.Outside.{Rose, AppendsPart};
-ghost use Rattle.first_part.specs.Part.{Program};
-ghost use Rattle.first_machine.specs.Compiled.{AreLiteralsIfAny};
-ghost use Rattle.inferno_tool.specs.Built.{IsBuilt, bytes_of};
+ghost use Rattle.std.specs.Prelude.{◌≡◌, ◌≤◌, ◌⊎◌, ℕ, List, Option, true, None, Some, IsSome, IfOk, IfErr};
+ghost use Rattle.inf_ports.specs.Outside.{Rose};
+ghost use Rattle.limbo_typed.specs.Typed.{Module};
+ghost use Rattle.inferno_tool.specs.Built.{IsBuilt};
 ghost use Rattle.inferno_tool.specs.Closing.{status_of, closing_line, IsWritten};
-ghost use Rattle.inferno_tool.specs.Outcome.{Course, HasProgram, IsAccepted, IsRefusal, IsCause, IsRunEnd, IsSinkFault, IsUnrun, is_run_out, IsSourceRefusal, Tells, TellsProgram, IsUnlessMemory};
-ghost use Rattle.inferno_tool.specs.Running.{IsRun};
+ghost use Rattle.inferno_tool.specs.Outcome.{Course, HasRun, IsAccepted, IsRefusal, IsCause, IsRunEnd, IsSinkFault, IsUnrun, is_run_out, IsSourceRefusal, IsEndUnlessMemory, Tells, TellsProgram, IsUnlessMemory};
+ghost use Rattle.inferno_tool.specs.Running.{IsCompiled, IsRun, NothingRan};
 ghost use Rattle.inferno_tool.specs.Words.{named_file};
 
 use crate::cause::{Cause, Ended, Left};
@@ -14,13 +12,12 @@ use crate::closing::close;
 use crate::reading::read_source;
 use crate::running::{has_risen, run_program};
 use crate::words::named_file;
-use first_host::RunEnd;
-use first_part::FirstProgram;
+use dis_file::Object;
 use inf_ports::{HostTree, Sink};
 use inf_text::Text;
 use std::alloc::Global;
 
-/// The file that the words name, and the program in it.
+/// The file that the words name, and the object of the program in it.
 ///
 /// # Errors
 /// The cause for which there is none.
@@ -28,9 +25,8 @@ fn prepare<'a, H: HostTree>(
     alloc: Global,
     words: &'a [Text],
     files: &mut H,
-) -> Result<(&'a Text, FirstProgram), Cause>
-    ensures accepted { IfOk result (λ x. IsAccepted words.now (H.told files.old) x.0.now x.1.name x.1.prints) }
-    ensures small { IfOk result (λ x. AreLiteralsIfAny x.1.prints) }
+) -> Result<(&'a Text, Object), Cause>
+    ensures accepted { IfOk result (λ x. (m : Module) × IsAccepted words.now (H.told files.old) x.0.now m × IsCompiled m x.1) }
     ensures refused { IfErr result (λ cause. IsRefusal words.now (H.told files.old) (H.faults files.old) (H.faults files.new) cause) }
     ensures kept { H.told files.new ≡ H.told files.old }
     ensures later { H.faults files.old ≤ H.faults files.new }
@@ -38,31 +34,29 @@ fn prepare<'a, H: HostTree>(
     let Some(path) = named_file(words) else {
         return Err(Cause::Usage);
     };
-    let program = read_source(alloc, path, files)?;
-    Ok((path, program))
+    let object = read_source(alloc, path, files)?;
+    Ok((path, object))
 }
 
-/// Runs the program in the file at the path, and says how that ended.
+/// Runs the object of the program in the file at the path, and says how that ended.
 fn carry_out<K: Sink, E: Sink>(
     alloc: Global,
     path: &Text,
-    program: &FirstProgram,
+    object: Object,
     out: &mut K,
     err: &E,
 ) -> (Cause, Left)
-    requires { AreLiteralsIfAny program.now.prints }
+    requires compiled { (m : Module) × IsCompiled m object }
     ensures end { IsRunEnd (K.faults out.old) (K.faults out.new) (E.faults err.now) result.0 }
-    ensures run { IsRun path.now program.now.name program.now.prints result.1.journal result.1.objects.items
-        (K.held out.old) (K.held out.new) (K.faults out.old) (K.faults out.new) (is_run_out result.0) }
-    ensures whole { result.0 ≡ Cause.Done → Appends (K.held out.old) (K.held out.new) (bytes_of program.now.prints) }
-    ensures part { AppendsPart (K.held out.old) (K.held out.new) (bytes_of program.now.prints) }
+    ensures run { (m : Module) → IsCompiled m object → IsRun path.now m result.1.journal result.1.objects.items
+        (K.held out.old) (K.held out.new) (K.faults out.old) (K.faults out.new) result.0 }
     ensures later { K.faults out.old ≤ K.faults out.new }
 {
     let out_before = out.faults();
     let err_before = err.faults();
-    let (end, left) = run_program(alloc, path, program, out);
-    if end == RunEnd::NoMemory {
-        return (Cause::NoMemory, left);
+    let (cause, left) = run_program(alloc, path, object, out);
+    if cause.lacks_memory() {
+        return (cause, left);
     }
     let out_now = out.faults();
     let err_now = err.faults();
@@ -73,10 +67,10 @@ fn carry_out<K: Sink, E: Sink>(
         };
         return (cause, left);
     }
-    (Cause::Done, left)
+    (cause, left)
 }
 
-/// Does the command's work, up to the line about its end.
+/// Does the command's work, up to the lines about its end.
 fn decide<H: HostTree, K: Sink, E: Sink>(
     alloc: Global,
     words: &[Text],
@@ -94,22 +88,15 @@ fn decide<H: HostTree, K: Sink, E: Sink>(
       err_before = E.faults err.now;
       err_after = E.faults err.now;
     }) result.0 }
-    ensures printed { (program : Program) → TellsProgram words.now (H.told files.old) program
-        → result.0 ≡ Cause.Done → Appends (K.held out.old) (K.held out.new) (bytes_of program.prints) }
-    ensures printed_part { (program : Program) → TellsProgram words.now (H.told files.old) program
-        → AppendsPart (K.held out.old) (K.held out.new) (bytes_of program.prints) }
-    ensures conversation { (program : Program) (t : TellsProgram words.now (H.told files.old) program)
-        → IsRun t.file program.name program.prints result.1.journal result.1.objects.items
-        (K.held out.old) (K.held out.new) (K.faults out.old) (K.faults out.new) (is_run_out result.0) }
-    ensures started { is_run_out result.0 ≡ true → IsSome result.1.journal }
-    ensures quiet { IsUnrun result.0 → (K.held out.new ≡ K.held out.old) × (result.1.journal ≡ None) × (result.1.objects.items ≡ []) }
-    ensures accepted { HasProgram words.now (H.told files.old)
-        ⊎ ((K.held out.new ≡ K.held out.old) × (result.1.journal ≡ None) × (result.1.objects.items ≡ [])) }
+    ensures ran { HasRun words.now (H.told files.old) result.1.journal result.1.objects.items
+        (K.held out.old) (K.held out.new) (K.faults out.old) (K.faults out.new) result.0
+        ⊎ (NothingRan result.1.journal result.1.objects.items (K.held out.old) (K.held out.new)
+        × IsRefusal words.now (H.told files.old) (H.faults files.old) (H.faults files.new) result.0) }
     ensures kept { H.told files.new ≡ H.told files.old }
     ensures later { (H.faults files.old ≤ H.faults files.new) × (K.faults out.old ≤ K.faults out.new) }
 {
     match prepare(alloc, words, files) {
-        Ok((path, program)) => carry_out(alloc, path, &program, out, err),
+        Ok((path, object)) => carry_out(alloc, path, object, out, err),
         Err(cause) => {
             let left = Left {
                 journal: None,
@@ -123,7 +110,7 @@ fn decide<H: HostTree, K: Sink, E: Sink>(
 /// Carries out the command that the words ask for, and tells on `err` how it ended.
 ///
 /// The words are exactly `go FILE`, which compiles the file and runs it. `files` gives the source, `out` takes what the
-/// program prints, and `err` the closing line. The status is the cause's number.
+/// program prints, and `err` the closing lines. The status is the cause's number.
 pub fn inferno<H: HostTree, K: Sink, E: Sink>(
     alloc: Global,
     words: &[Text],
@@ -133,6 +120,14 @@ pub fn inferno<H: HostTree, K: Sink, E: Sink>(
 ) -> Ended
     ensures status { result.status ≡ status_of result.cause }
     ensures closing { IsWritten (E.held err.old) (E.held err.new) (E.faults err.old) (E.faults err.new) (closing_line result.cause) }
+
+    // What happened: a program that the words name was run, and the requests and the bytes on `out` are those of a run of its
+    // source's meaning, under the replies that came, for the journal that is answered; how it ended is what the cause says. Or
+    // nothing was run, and nothing written.
+    ensures ran { HasRun words.now (H.told files.old) result.journal result.objects.items
+        (K.held out.old) (K.held out.new) (K.faults out.old) (K.faults out.new) result.cause
+        ⊎ (NothingRan result.journal result.objects.items (K.held out.old) (K.held out.new)
+        × IsRefusal words.now (H.told files.old) (H.faults files.old) (H.faults files.new) result.cause) }
 
     // Where each cause comes.
     ensures cause { IsCause (record {
@@ -152,37 +147,27 @@ pub fn inferno<H: HostTree, K: Sink, E: Sink>(
     ensures missing { (file : List ℕ) → named_file words.now ≡ Some file → Tells (H.told files.old) file None
         → (Rose (H.faults files.old) (H.faults files.new) → ⊥) → IsUnlessMemory result.cause (Cause.Host file true) }
     ensures refused { (file source : List ℕ) → named_file words.now ≡ Some file → Tells (H.told files.old) file (Some source)
-        → ((program : Program) → IsBuilt source program → ⊥)
+        → ((m : Module) → IsBuilt source m → ⊥)
         → (Rose (H.faults files.old) (H.faults files.new) → ⊥)
         → IsSourceRefusal file source result.cause }
 
-    // A program of the built part is done, unless a count rises.
-    ensures done { (program : Program) → TellsProgram words.now (H.told files.old) program
+    // A program of the built part is run until it ends by itself, unless a count rises; and it is that program which is run.
+    ensures ends { (m : Module) → TellsProgram words.now (H.told files.old) m
         → (Rose (H.faults files.old) (H.faults files.new) → ⊥)
         → (Rose (K.faults out.old) (K.faults out.new) → ⊥)
         → (Rose (E.faults err.old) (E.faults err.new) → ⊥)
-        → IsUnlessMemory result.cause Cause.Done }
-
-    // What is printed: the program's literals in order, or a first part of them where it isn't done; else nothing.
-    ensures printed { (program : Program) → TellsProgram words.now (H.told files.old) program
-        → result.cause ≡ Cause.Done → Appends (K.held out.old) (K.held out.new) (bytes_of program.prints) }
-    ensures printed_part { (program : Program) → TellsProgram words.now (H.told files.old) program
-        → AppendsPart (K.held out.old) (K.held out.new) (bytes_of program.prints) }
-    ensures quiet { IsUnrun result.cause → (K.held out.new ≡ K.held out.old) × (result.journal ≡ None) × (result.objects.items ≡ []) }
-    ensures accepted { HasProgram words.now (H.told files.old)
-        ⊎ ((K.held out.new ≡ K.held out.old) × (result.journal ≡ None) × (result.objects.items ≡ [])) }
+        → IsEndUnlessMemory result.cause }
+    ensures told { (m : Module) (t : TellsProgram words.now (H.told files.old) m)
+        → (Rose (H.faults files.old) (H.faults files.new) → ⊥)
+        → IsRun t.file m result.journal result.objects.items
+        (K.held out.old) (K.held out.new) (K.faults out.old) (K.faults out.new) result.cause }
+    ensures started { is_run_out result.cause ≡ true → IsSome result.journal }
+    ensures quiet { IsUnrun result.cause → NothingRan result.journal result.objects.items (K.held out.old) (K.held out.new) }
 
     // A write of output that failed is told, unless memory ran out.
-    ensures failed { (program : Program) → TellsProgram words.now (H.told files.old) program
+    ensures failed { (m : Module) → TellsProgram words.now (H.told files.old) m
         → (Rose (H.faults files.old) (H.faults files.new) → ⊥) → Rose (K.faults out.old) (K.faults out.new)
         → IsSinkFault result.cause ⊎ (result.cause ≡ Cause.NoMemory) }
-
-    // What happened: the journal over the objects, the requests, the console's replies, and the bytes that it wrote. It
-    // answered `i/o error` only where a count rose.
-    ensures conversation { (program : Program) (t : TellsProgram words.now (H.told files.old) program)
-        → IsRun t.file program.name program.prints result.journal result.objects.items
-        (K.held out.old) (K.held out.new) (K.faults out.old) (K.faults out.new) (is_run_out result.cause) }
-    ensures started { is_run_out result.cause ≡ true → IsSome result.journal }
 
     // What stands afterwards.
     ensures kept { H.told files.new ≡ H.told files.old }

@@ -10,15 +10,15 @@ use Rattle.inferno_tool.proofs.reading.read_source.Goals as goal
 pub returns-in-Ok-read_built-clause-read : goal.returns-in-Ok-read_built-clause-read
 returns-in-Ok-read_built-clause-read g c =
     let found = c.in-Ok-read_built.ensures.found in
-    record {
-      source = c.in-Ok.source.items;
-      stands = c.in-Ok.ensures.found;
-      program = found.0;
-      built = rw (← c.as_slice.ensures.value) found.1;
-      same = λ p built.
-          let here : IsBuilt c.as_slice.result.now p = rw c.as_slice.ensures.value built in
-          c.in-Ok-read_built.ensures.only p here;
-    }
+    let m = found.0 in (
+      m,
+      record {
+        source = c.in-Ok.source.items;
+        stands = c.in-Ok.ensures.found;
+        built = subst (λ (s : List ℕ). IsBuilt s m) c.as_slice.ensures.value found.1;
+      },
+      found.2,
+    )
 
 pub returns-clause-unread : goal.returns-clause-unread
 returns-clause-unread g c =

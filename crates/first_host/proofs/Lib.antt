@@ -1,6 +1,0 @@
-mod Says
-mod Journals
-mod Talks
-mod Ends
-mod Steps
-pub mod Starts

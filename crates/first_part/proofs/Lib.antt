@@ -1,4 +1,0 @@
-mod Inside
-mod Once
-mod Prints
-mod Tops
