@@ -43,7 +43,7 @@ init(nil: ref Draw->Context, a: list of string) { sys = load Sys Sys->PATH;
 sys->print(\"one\"); sys->print(\"\"); sys->print(\"\\ttwo\\\"\\\\\"); sys->print(\"\\n\"); }
 ";
 
-/// What programs below begin with: 6 lines, whose `init` is still to be written.
+/// What programs below begin with: 5 lines, whose `init` is still to be written.
 const HEAD: &str = "implement T;
 include \"sys.m\";
 sys: Sys;
@@ -276,17 +276,34 @@ fn programs(rt: HostRuntime) -> Result<(), Fail> {
     Ok(())
 }
 
-/// Where names and types don't fit: behind the head stands this line, its seventh, then an `init` that does nothing.
+/// A loop that prints 100,000 lines prints them all: 588,890 bytes, the last line's at their end.
+#[test]
+fn many_lines(rt: HostRuntime) -> Result<(), Fail> {
+    let alloc = rt.alloc();
+    let source = format!(in alloc;
+        "{HEAD}{INIT} i := 0; while (i < 100000) {{ sys->print(\"%d\\n\", i); i = i + 1; }} }}"
+    )?;
+    let mut files = tree(alloc, source.as_bytes(), None)?;
+    let mut out = MemSink::new(alloc, 600_000, Vec::new(alloc))?;
+    let mut err = MemSink::new(alloc, 100, Vec::new(alloc))?;
+    let ended = inferno(alloc, &go(alloc)?, &mut files, &mut out, &mut err);
+    assert_eq!(rt; ended.status, 0);
+    assert_eq!(rt; out.as_slice().len(), 588_890);
+    assert!(rt; out.as_slice().ends_with(b"\n99998\n99999\n"));
+    Ok(())
+}
+
+/// Where names and types don't fit: behind the head stands this line, the sixth, then an `init` that does nothing.
 #[test]
 fn refusals(rt: HostRuntime) -> Result<(), Fail> {
     let alloc = rt.alloc();
     let rows = [
-        ("f() { x := 1; x := 2; }", "7:15: fault 41"),
-        ("f() { y = 1; }", "7:7: fault 42"),
-        ("f(): int { return; }", "7:12: fault 50"),
-        ("f() { f = 1; }", "7:7: fault 51"),
-        ("f() { sys->print(\"%d\"); }", "7:7: fault 54"),
-        ("f(n: int): int { if (n) return 1; }", "7:1: fault 63"),
+        ("f() { x := 1; x := 2; }", "6:15: fault 41"),
+        ("f() { y = 1; }", "6:7: fault 42"),
+        ("f(): int { return; }", "6:12: fault 50"),
+        ("f() { f = 1; }", "6:7: fault 51"),
+        ("f() { sys->print(\"%d\"); }", "6:7: fault 54"),
+        ("f(n: int): int { if (n) return 1; }", "6:1: fault 63"),
         ("f() { for (;;) ; }", "1:1: fault 25"),
     ];
     for (line, told) in rows {
@@ -386,8 +403,8 @@ fn one_byte_at_a_time(rt: HostRuntime) -> Result<(), Fail> {
     Ok(())
 }
 
-/// The events of the program that greets: its instructions up to the print, three of which begin the module, the console's
-/// Rwrite of 13 bytes, and its end.
+/// The events of the program that greets: three instructions that begin the module and four of the print, the console's
+/// Rwrite of 13 bytes, and two that return.
 #[test]
 fn journal_of_hello(rt: HostRuntime) -> Result<(), Fail> {
     let alloc = rt.alloc();
@@ -403,12 +420,12 @@ fn journal_of_hello(rt: HostRuntime) -> Result<(), Fail> {
     };
     let reply = Vec::from_slice(alloc, &[11, 0, 0, 0, 119, 0, 0, 13, 0, 0, 0])?;
     let wanted = [
-        Event::Quantum { pid: 1, count: 5 },
+        Event::Quantum { pid: 1, count: 7 },
         Event::Reply {
             link: 1,
             frame: Seq::from_vec(reply),
         },
-        Event::Quantum { pid: 1, count: 1 },
+        Event::Quantum { pid: 1, count: 2 },
     ];
     assert!(rt; events == wanted.as_slice());
     assert_eq!(rt; objects.len(), 1);
