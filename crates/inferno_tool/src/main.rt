@@ -1,9 +1,9 @@
 //! The command `inferno`: it compiles Limbo to Dis objects and runs them.
 //!
 //! One public call, `inferno` in `top`, does all that the program does, over words, a tree of files and two sinks; its
-//! contract cites `specs/Outcome.antt` (where each cause comes), `specs/Closing.antt` (the status and the closing line),
-//! `specs/Built.antt` (which programs are built) and `specs/Faults.antt` (why a source is refused). `main` hands it the
-//! real files and streams.
+//! contract cites `specs/Running.antt` (what a run is, and what it means), `specs/Outcome.antt` (where each cause comes),
+//! `specs/Closing.antt` (the status and the closing lines), `specs/Built.antt` (which programs are built) and
+//! `specs/Faults.antt` (why a source is refused). `main` hands it the real files and streams.
 #![tactic(auto)]
 
 ghost use Rattle.std.specs.Prelude.{◌≡◌, ◌≢◌, ◌⊎◌, ◌↔◌, IfOk, IfErr, IsOkAnd, IsErrAnd, IsErrOf, map, drop, string_bytes, encode_utf8_all};
