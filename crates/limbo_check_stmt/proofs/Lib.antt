@@ -3,4 +3,7 @@ pub mod Proper
 pub mod ProperStmts
 pub mod ProperParams
 pub mod ProperSource
+pub mod Judged
+pub mod JudgedSource
+pub mod Clauses
 pub mod Begins

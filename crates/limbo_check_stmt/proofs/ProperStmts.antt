@@ -41,7 +41,7 @@ pub choose_ok : {A B : Type 0} (o : Option A) (c : Cause) (k : A → Result B Ca
 choose_ok (Some a) c k y h = (a, refl, h)
 choose_ok None c k y h = absurd cc
 
-all_of : (s : Scope) (v : Env) (before : List Expr) (es : tree.Exprs) (ys : List Expr) → type_all s v before es ≡ Ok ys → (xs : List Expr) × (ys ≡ before ++ xs) × TypeAll s v es xs
+pub all_of : (s : Scope) (v : Env) (before : List Expr) (es : tree.Exprs) (ys : List Expr) → type_all s v before es ≡ Ok ys → (xs : List Expr) × (ys ≡ before ++ xs) × TypeAll s v es xs
 unfolding types types_one type_all
 all_of s v before tree.NoExprs ys h = ([], sym (ok_is before ys h) ∙ append_none before, rule.done)
 all_of s v before (tree.MoreExprs e es) ys h =

@@ -1,5 +1,5 @@
--- Statements, functions and whole modules, checked from the left to the right, with the first condition that isn't met. That this is
--- what the rules of `Typing` say is proved.
+-- Statements, functions and whole modules, checked from the left to the right, with the first condition that isn't met. That what is
+-- given is what the rules of `Typing` give, wherever they give something, is proved.
 use Rattle.std.specs.Prelude.{◌≡◌, ℕ, pos, int_lt, List, [], ◌∷◌, ◌++◌, Bool, true, false, not, ◌&&◌, ◌||◌, Option, None, Some, Result, Ok, Err, slice_get, codes, if◌then◌else◌}
 use Rattle.limbo_types.specs.Types.{Ty, FnTy, Int, Nothing}
 use Rattle.limbo_types.specs.Same.{same}

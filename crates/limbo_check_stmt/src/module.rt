@@ -1,12 +1,14 @@
 //! Whole modules.
 
-ghost use Rattle.std.specs.Prelude.{◌≡◌, [], map, true, IfOk};
+ghost use Rattle.std.specs.Prelude.{◌≡◌, [], map, true, IfOk, MatchResult};
 ghost use Rattle.limbo_tree.specs.View.{view_top, view_source};
+ghost use Rattle.limbo_typed.specs.Typed.{Module};
 ghost use Rattle.limbo_typed.specs.View.{view_function, view_module};
 ghost use Rattle.limbo_typed.specs.Proper.{IsProper};
 ghost use Rattle.limbo_names.specs.Part.{is_built};
 ghost use Rattle.limbo_names.specs.View.{Gives, view_scope};
 ghost use Rattle.limbo_check_stmt.specs.Checking as checking;
+ghost use Rattle.limbo_check_stmt.specs.Typing.{IsModule};
 
 use crate::function::function;
 use limbo_names::{CheckFault, Scope, declare, has_init};
@@ -65,6 +67,12 @@ pub fn check_module(alloc: Global, source: &Source) -> Result<TypedModule, Check
 
     // Of a source of the part that is built, what is given is proper.
     ensures proper { is_built (view_source source.now) ≡ true → IfOk result (λ m. IsProper (view_module m)) }
+
+    // The checked module is the one that the rules give.
+    ensures found { IfOk result (λ m. IsModule (view_source source.now) (view_module m)) }
+
+    // Where they give one, it is given, unless memory runs out.
+    ensures only { (m : Module) → IsModule (view_source source.now) m → MatchResult result (λ found. view_module found ≡ m) (λ e. e ≡ CheckFault.NoMemory) }
 {
     checked(alloc, source)
 }
