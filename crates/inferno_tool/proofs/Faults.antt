@@ -2,6 +2,7 @@
 use Rattle.std.proofs.Common.{◌≡◌, ℕ, List, Ok, Err, true, false, subst, sym, ◌∙◌}
 use Rattle.limbo_tree.specs.Sources.{Source}
 use Rattle.limbo_typed.specs.Typed.{Module}
+use Rattle.limbo_check_stmt.proofs.JudgedSource.{given, once}
 use Rattle.limbo_lower.specs.Sizes as sizes
 use Rattle.limbo_compiler.specs.Limits as limits
 use Rattle.inferno_tool.specs.Built.{HasTree, IsProgram, IsBuilt}
@@ -17,13 +18,13 @@ unprogrammed : (tree : Source) (fault : SourceFault) → IsTreeFault tree fault 
 unprogrammed tree (Lex fault) is m p = is
 unprogrammed tree (Parse fault span) is m p = is
 unprogrammed tree Unbuilt is m p = absurd (let bad : true ≡ false = sym p.built ∙ is in cc)
-unprogrammed tree (Unmet cause span) is m p = let bad : Ok m ≡ Err cause = sym p.checked ∙ is.1 in cc
+unprogrammed tree (Unmet cause span) is m p = absurd (let bad : Ok m ≡ Err cause = sym (given tree m p.checked) ∙ is.1 in cc)
 unprogrammed tree NoInit is m p = absurd (let bad : true ≡ false = sym p.begins ∙ is.1 in cc)
 unprogrammed tree FrameTooLarge is m p =
-    let same : is.2.0 ≡ m = (let both : Ok is.2.0 ≡ Ok m = sym is.2.1 ∙ p.checked in cc) in
+    let same : is.2.0 ≡ m = once tree is.2.0 m is.2.1 p.checked in
     p.within.frames (subst sizes.FrameTooLarge same is.2.2)
 unprogrammed tree CodeTooLarge is m p =
-    let same : is.2.0 ≡ m = (let both : Ok is.2.0 ≡ Ok m = sym is.2.1 ∙ p.checked in cc) in
+    let same : is.2.0 ≡ m = once tree is.2.0 m is.2.1 p.checked in
     p.within.code (subst limits.CodeTooLarge same is.2.2)
 
 unbuilt : (source : List ℕ) (fault : SourceFault) → HasTreeFault source fault → (m : Module) → IsBuilt source m → ⊥

@@ -1,11 +1,12 @@
 -- A source has one tree at most, and one checked module.
-use Rattle.std.proofs.Common.{◌≡◌, ℕ, List, Ok, false, subst, sym, ◌∙◌}
+use Rattle.std.proofs.Common.{◌≡◌, ℕ, List, false, subst}
 use Rattle.limbo_lexer.specs.declared.token.Kind.{Kind}
 use Rattle.limbo_lexer.specs.Tokens.{HasTokenList}
 use Rattle.limbo_lexer.proofs.Sources.{one_source}
 use Rattle.limbo_lexer.proofs.Cutting.{one_token_list}
 use Rattle.limbo_tree.specs.Sources.{Source, IsTree}
 use Rattle.limbo_parser.proofs.Trees.{one_tree}
+use Rattle.limbo_check_stmt.proofs.JudgedSource.{once}
 use Rattle.limbo_typed.specs.Typed.{Module}
 use Rattle.inferno_tool.specs.Built.{HasTokens, HasTree, IsProgram, IsBuilt}
 
@@ -18,8 +19,5 @@ pub tree_of : (source : List ℕ) (t u : Source) → HasTree source t → HasTre
 tree_of source t u x y =
     one_tree false y.tokens t u (subst (λ (l : List Kind). IsTree false l t) (one_tokens source x.tokens y.tokens x.lexed y.lexed) x.parsed) y.parsed
 
-one_program : (tree : Source) (m n : Module) → IsProgram tree m → IsProgram tree n → m ≡ n
-one_program tree m n x y = let same : Ok m ≡ Ok n = sym x.checked ∙ y.checked in cc
-
 pub one_module : (source : List ℕ) (m n : Module) → IsBuilt source m → IsBuilt source n → m ≡ n
-one_module source m n x y = one_program y.tree m n (subst (λ (t : Source). IsProgram t m) (tree_of source x.tree y.tree x.has y.has) x.is) y.is
+one_module source m n x y = once y.tree m n (subst (λ (t : Source). IsProgram t m) (tree_of source x.tree y.tree x.has y.has) x.is).checked y.is.checked

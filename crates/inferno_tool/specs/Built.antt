@@ -1,12 +1,13 @@
 -- What a source's bytes are: their tokens, their tree, and the checked module of the part of the language that is built so far.
-use Rattle.std.specs.Prelude.{◌≡◌, ◌≤◌, ℕ, List, Ok, true, false}
+use Rattle.std.specs.Prelude.{◌≡◌, ◌≤◌, ℕ, List, true, false}
 use Rattle.limbo_lexer.specs.declared.token.Kind.{Kind}
 use Rattle.limbo_lexer.specs.Causes.{IsSource}
 use Rattle.limbo_lexer.specs.Tokens.{HasTokenList}
 use Rattle.limbo_tree.specs.Sources.{Source, IsTree, source_nesting}
 use Rattle.limbo_typed.specs.Typed.{Module}
 use Rattle.limbo_names.specs.Part.{is_built}
-use Rattle.limbo_check_stmt.specs.Checking.{check, declares_init}
+use Rattle.limbo_check_stmt.specs.Checking.{declares_init}
+use Rattle.limbo_check_stmt.specs.Typing.{IsModule}
 use Rattle.limbo_compiler.specs.Limits.{IsWithin}
 
 -- the bytes spell a text, and these are its tokens
@@ -22,11 +23,11 @@ pub record HasTree (source : List ℕ) (tree : Source) : Type 0 where
   pub parsed : IsTree false tokens tree
   pub shallow : source_nesting tree ≤ 256
 
--- The tree is a program: it is in the built part, its checked module is this one, it declares `init` as a first module has to, and
+-- The tree is a program: it is in the built part, its checked module is this one by the rules of names and types, it declares `init` as a first module has to, and
 -- neither a frame nor the code is too large.
 pub record IsProgram (tree : Source) (m : Module) : Type 0 where
   pub built : is_built tree ≡ true
-  pub checked : check tree ≡ Ok m
+  pub checked : IsModule tree m
   pub begins : declares_init tree ≡ true
   pub within : IsWithin m
 

@@ -1,5 +1,5 @@
 -- Why a source is refused, by its bytes, tokens, tree and checked module; the number of each refusal, and where it stands.
-use Rattle.std.specs.Prelude.{◌≡◌, ◌≤◌, ◌<◌, ℕ, List, Ok, Err, length, true, false}
+use Rattle.std.specs.Prelude.{◌≡◌, ◌≤◌, ◌<◌, ℕ, List, Err, length, true, false}
 use Rattle.inf_text.specs.declared.span.Span.{Span}
 use Rattle.limbo_lexer.specs.declared.token.Kind.{Kind}
 use Rattle.limbo_lexer.specs.declared.fault.LexFault.{LexFault}
@@ -13,6 +13,7 @@ use Rattle.limbo_names.specs.declared.fault.Cause.{Cause}
 use Rattle.limbo_names.specs.declared.fault.Cause.TheVariants as unmet
 use Rattle.limbo_names.specs.Part.{is_built}
 use Rattle.limbo_check_stmt.specs.Checking.{check, declares_init}
+use Rattle.limbo_check_stmt.specs.Typing.{IsModule}
 use Rattle.limbo_lower.specs.Sizes as sizes
 use Rattle.limbo_compiler.specs.Limits as limits
 use Rattle.inferno_tool.specs.Built.{HasTokens, HasTree}
@@ -105,9 +106,9 @@ IsTreeFault tree (Lex fault) = ⊥
 IsTreeFault tree (Parse fault span) = ⊥
 IsTreeFault tree Unbuilt = is_built tree ≡ false
 IsTreeFault tree (Unmet cause span) = (is_built tree ≡ true) × (check tree ≡ Err cause)
-IsTreeFault tree NoInit = (is_built tree ≡ true) × (declares_init tree ≡ false) × ((m : Module) × (check tree ≡ Ok m))
-IsTreeFault tree FrameTooLarge = (is_built tree ≡ true) × (declares_init tree ≡ true) × ((m : Module) × (check tree ≡ Ok m) × sizes.FrameTooLarge m)
-IsTreeFault tree CodeTooLarge = (is_built tree ≡ true) × (declares_init tree ≡ true) × ((m : Module) × (check tree ≡ Ok m) × limits.CodeTooLarge m)
+IsTreeFault tree NoInit = (is_built tree ≡ true) × (declares_init tree ≡ false) × ((m : Module) × IsModule tree m)
+IsTreeFault tree FrameTooLarge = (is_built tree ≡ true) × (declares_init tree ≡ true) × ((m : Module) × IsModule tree m × sizes.FrameTooLarge m)
+IsTreeFault tree CodeTooLarge = (is_built tree ≡ true) × (declares_init tree ≡ true) × ((m : Module) × IsModule tree m × limits.CodeTooLarge m)
 
 -- the bytes have a tree, which has this fault
 pub record HasTreeFault (source : List ℕ) (fault : SourceFault) : Type 0 where

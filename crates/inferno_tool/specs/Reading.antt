@@ -1,5 +1,5 @@
 -- What reading a source answers, and why it is refused.
-use Rattle.std.specs.Prelude.{ℕ, ◌≡◌, List, Some, None, Ok, true, false, slice_get}
+use Rattle.std.specs.Prelude.{ℕ, ◌≡◌, List, Some, None, true, false, slice_get}
 use Rattle.inf_ports.specs.Outside.{Told, Has, Lacks, Rose}
 use Rattle.inf_text.specs.declared.span.Span.{Span}
 use Rattle.limbo_lexer.specs.declared.token.Token.{Token}
@@ -13,6 +13,7 @@ use Rattle.limbo_names.specs.declared.fault.CheckFault.{CheckFault}
 use Rattle.limbo_names.specs.declared.fault.CheckFault.TheVariants as check
 use Rattle.limbo_names.specs.Part.{is_built}
 use Rattle.limbo_check_stmt.specs.Checking as checking
+use Rattle.limbo_check_stmt.specs.Typing.{IsModule}
 use Rattle.limbo_compiler.specs.declared.passes.CompileFault.{CompileFault}
 use Rattle.limbo_compiler.specs.declared.passes.CompileFault.TheVariants as compile
 use Rattle.limbo_typed.specs.Proper.{IsProper}
@@ -75,7 +76,7 @@ IsTreeReadFault tree (read.Refused fault) = IsTreeFault tree fault
 -- the tree is in the built part, its checked module is this one, and it declares `init` as a first module has to
 pub record IsChecked (tree : Source) (m : Module) : Type 0 where
   pub built : is_built tree ≡ true
-  pub checked : checking.check tree ≡ Ok m
+  pub checked : IsModule tree m
   pub begins : checking.declares_init tree ≡ true
   pub proper : IsProper m
 

@@ -1,6 +1,7 @@
 use Rattle.limbo_tree.specs.View.{view_source}
 use Rattle.limbo_typed.specs.View.{view_module}
 use Rattle.limbo_check_stmt.proofs.Begins.{programs_begin}
+use Rattle.limbo_check_stmt.proofs.JudgedSource.{given}
 use Rattle.inferno_tool.proofs.Begins.{compiled}
 use Rattle.inferno_tool.proofs.reading.object_of.Goals as goal
 
@@ -12,5 +13,5 @@ returns-in-Ok-compile-clause-found c =
     let made = c.in-Ok-compile.ensures {u = tt} in (
       m,
       record { built = is.built; checked = is.checked; begins = is.begins; within = made.within },
-      compiled m c.in-Ok-compile.object is.proper made.within made.object made.spelled (programs_begin tree m is.checked is.begins),
+      compiled m c.in-Ok-compile.object is.proper made.within made.object made.spelled (programs_begin tree m (given tree m is.checked) is.begins),
     )
