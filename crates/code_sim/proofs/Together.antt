@@ -1,21 +1,25 @@
 -- Both passes of the compiler together.
-use Rattle.std.proofs.Common.{◌≡◌, ℕ, [], ◌∷◌, ◌*◌, Bool, false, Option, Some, None, refl, sym, ap, ◌∙◌, subst}
+use Rattle.std.proofs.Common.{◌≡◌, ℕ, [], ◌∷◌, ◌*◌, Bool, true, false, Option, Some, None, refl, sym, ap, ◌∙◌, subst}
 use Rattle.std.specs.Prelude.{slice_get}
 use Rattle.process_model.specs.Process as doing
 use Rattle.process_model.specs.Process.{Doing, Ends}
 use Rattle.process_model.specs.Follows.{StandsAlike}
 use Rattle.process_model.specs.Law.{Paced}
-use Rattle.process_model.specs.Composed.{opened, FollowsWithin}
-use Rattle.process_model.proofs.Composed.{passes_compose, growing_journals}
+use Rattle.process_model.specs.Passes.{unshared, FollowsWithin}
+use Rattle.process_model.proofs.Journals.{every_journal}
+use Rattle.process_model.proofs.NoHeap.{trace_equal}
+use Rattle.process_model.proofs.Unshared.{plain_shared}
+use Rattle.process_model.proofs.Passes.{passes_compose}
 use Rattle.limbo_typed.specs.Typed.{Module}
 use Rattle.limbo_typed.specs.Proper.{IsProper}
+use Rattle.system_model.specs.Values.{Value}
+use Rattle.system_model.specs.World as outside
+use Rattle.system_model.specs.World.{opening_world}
+use Rattle.system_model.specs.Ending.{Faulted}
+use Rattle.system_model.specs.Limits.{frames_limit}
 use Rattle.limbo_meaning.specs.Program.{routines_of}
-use Rattle.limbo_meaning.specs.Values.{Value}
-use Rattle.limbo_meaning.specs.World as outside
-use Rattle.limbo_meaning.specs.World.{opening_world}
 use Rattle.limbo_meaning.specs.Process as source
-use Rattle.limbo_meaning.specs.Process.{Faulted}
-use Rattle.limbo_meaning.specs.Runs.{first_process, frames_limit}
+use Rattle.limbo_meaning.specs.Runs.{first_process}
 use Rattle.core_code.specs.Code as core
 use Rattle.core_code.specs.Code.{Inst, bodies}
 use Rattle.core_code.specs.Machine as machine
@@ -31,11 +35,12 @@ use Rattle.dis_meaning.specs.Process.{Process}
 use Rattle.dis_meaning.specs.Step.{step}
 use Rattle.dis_codegen.specs.Start as start
 use Rattle.dis_codegen.specs.Start.{opening}
+use Rattle.dis_codegen.specs.Stands as upper
 use Rattle.dis_codegen.specs.Stands.{Ready}
 use Rattle.dis_codegen.specs.Paces.{inst_at, print_rank}
 use Rattle.dis_codegen.proofs.Kept as second_pass
 use Rattle.dis_codegen.proofs.Under.{same_instruction}
-use Rattle.code_sim.specs.Keeps.{object_for, code_and_object, sides, Keeps, JournalsAreRuns, NeverFaults}
+use Rattle.code_sim.specs.Keeps.{object_for, sides, Keeps, JournalsAreRuns, NeverFaults}
 
 same_rank : (i : Option Inst) → rank i ≡ print_rank i
 same_rank None = refl
@@ -62,12 +67,13 @@ module _ (m : Module) (proper : IsProper m) where
       ∙ sym (same_rank (fetch (slice_get (bodies code) q.frame.function) q.frame.pc))
       ∙ sym (f.placed q)
 
-  joined : FollowsWithin (lower.sides (routines_of m) (bodies code)) (code_and_object code) 14
+  joined : FollowsWithin (unshared (lower.sides (routines_of m) (bodies code))) (upper.sides code) 14
   joined =
       let f = first_pass.follows_by m proper in
       let g = second_pass.keeps code (proper_code m proper) in
-      let both = passes_compose (lower.sides (routines_of m) (bodies code)) (code_and_object code) f.follows g.follows
-      (record { middle = refl; under = λ r. print_rank (inst_at code r.frame.pc); tells = λ k q r h. tells f k q r h }) in
+      let first = lower.sides (routines_of m) (bodies code) in
+      let both = passes_compose (unshared first) (upper.sides code) (plain_shared first f.follows) g.follows
+      (record { middle = refl; names = refl; under = λ r. print_rank (inst_at code r.frame.pc); tells = λ k i x q r h. tells f k q r h }) in
       record { follows = both.follows; pace = both.pace ∙ ap (λ b. b * g.follows.bound) f.pace ∙ ap (λ b. 2 * b) g.pace }
 
 pub keeps : (m : Module) → IsProper m → Keeps m
@@ -85,19 +91,19 @@ keeps m proper =
 pub journals : (m : Module) → IsProper m → JournalsAreRuns m
 journals m proper init first h longest journal t e =
     let kept = keeps m proper in
-    let b = growing_journals (sides m) kept.follows false opening_world (opening (module_code m)) (first_process first) (start.first_process (module_code m)) (kept.begins init first h) kept.begins_in longest journal t e in
+    let b = every_journal (sides m) kept.follows false opening_world (opening (module_code m)) (first_process first) (start.first_process (module_code m)) (kept.begins init first h) kept.begins_in (record { kept = refl; none = refl }) longest journal t e in
     record {
       turns = b.turns;
       config = b.config;
       run = record { first = first; there = h.there; run = b.run };
       makers = b.makers;
       paced = subst (λ bound. Paced bound (λ j. 0) b.turns) kept.pace b.paced;
-      told = b.trace;
+      told = trace_equal (λ (a b : Bool). a ≡ true → b ≡ true) b.now b.config.trace t.trace b.trace;
     }
 
-module _ (m : Module) (proper : IsProper m) (k : Bool) (w : outside.World) (x y : World) (number pc : ℕ) (r : Process) where
+module _ (m : Module) (proper : IsProper m) (k : Bool) (j : ℕ) (w : outside.World) (x y : World) (number pc : ℕ) (r : Process) where
   -- A process that stands for one of the module isn't at a wrong instruction.
-  never_wrong : (o : Option (Doing source.Process Value)) → StandsAlike (opened (sides m)) k o (Some (doing.Ready r)) → (sides m).worlds k w x → step frames_limit (object_for m ∷ []) x r ≡ Ends y (Faulted number pc) → ⊥
+  never_wrong : (o : Option (Doing source.Process Value)) → StandsAlike (sides m) k j x o (Some (doing.Ready r)) → (sides m).worlds k w x → step frames_limit (object_for m ∷ []) x r ≡ Ends y (Faulted number pc) → ⊥
   never_wrong (Some (doing.Ready p)) h e does = second_pass.never_faults (module_code m) (proper_code m proper) k e.0 x y h.0 r number pc h.2 e.2 does
   never_wrong None h e does = h
   never_wrong (Some (doing.Waiting bs p)) h e does = h
@@ -107,6 +113,6 @@ module _ (m : Module) (proper : IsProper m) (k : Bool) (w : outside.World) (x y 
 pub never_faults : (m : Module) → IsProper m → NeverFaults m
 never_faults m proper init first h longest journal t e j r there y number pc does =
     let kept = keeps m proper in
-    let b = growing_journals (sides m) kept.follows false opening_world (opening (module_code m)) (first_process first) (start.first_process (module_code m)) (kept.begins init first h) kept.begins_in longest journal t e in
-    never_wrong m proper b.now b.config.world t.world y number pc r (slice_get b.config.processes j)
-    (subst (λ o. StandsAlike (opened (sides m)) b.now (slice_get b.config.processes j) o) there (b.processes j)) b.worlds does
+    let b = every_journal (sides m) kept.follows false opening_world (opening (module_code m)) (first_process first) (start.first_process (module_code m)) (kept.begins init first h) kept.begins_in (record { kept = refl; none = refl }) longest journal t e in
+    never_wrong m proper b.now j b.config.world t.world y number pc r (slice_get b.config.processes j)
+    (subst (λ o. StandsAlike (sides m) b.now j t.world (slice_get b.config.processes j) o) there (b.processes j)) b.worlds does

@@ -1,29 +1,27 @@
 -- What the object of a module keeps of its meaning.
-use Rattle.std.specs.Prelude.{ℕ, ◌≡◌, Bool, true, false, List, [], ◌∷◌, Some, slice_get}
+use Rattle.std.specs.Prelude.{ℕ, ◌≡◌, Bool, false, List, [], ◌∷◌, Some, slice_get}
 use Rattle.styx_msg.specs.declared.message.Rmsg.{Rmsg}
 use Rattle.process_model.specs.Process as process
 use Rattle.process_model.specs.Process.{Ends}
 use Rattle.process_model.specs.Source.{Turn}
 use Rattle.process_model.specs.Machine.{State, Event, replay}
-use Rattle.process_model.specs.Follows.{Follows}
+use Rattle.process_model.specs.Follows.{Sides, Follows}
 use Rattle.process_model.specs.Law.{Paced, makers, instructions, begins_code}
-use Rattle.process_model.specs.Plain.{no_counts}
-use Rattle.process_model.specs.Composed.{GrowingSides, opened, composed}
+use Rattle.process_model.specs.Plain.{no_names}
+use Rattle.process_model.specs.Passes.{unshared, through}
 use Rattle.dis_file.specs.declared.object.Object.{Object}
 use Rattle.limbo_typed.specs.Typed.{Module}
-use Rattle.limbo_meaning.specs.Values.{Value}
+use Rattle.system_model.specs.Values.{Value}
+use Rattle.system_model.specs.World as outside
+use Rattle.system_model.specs.World.{opening_world}
+use Rattle.system_model.specs.Prints.{Request}
+use Rattle.system_model.specs.Ending.{Ending, Faulted}
+use Rattle.system_model.specs.Limits.{frames_limit}
 use Rattle.limbo_meaning.specs.Program.{Routine, routines_of}
-use Rattle.limbo_meaning.specs.World as outside
-use Rattle.limbo_meaning.specs.World.{opening_world}
-use Rattle.limbo_meaning.specs.Prints.{Request}
 use Rattle.limbo_meaning.specs.Process as source
-use Rattle.limbo_meaning.specs.Process.{Ending, Faulted}
 use Rattle.limbo_meaning.specs.Runs as runs
-use Rattle.limbo_meaning.specs.Runs.{Meaning, MeaningRun, frames_limit}
-use Rattle.core_code.specs.Code as core
+use Rattle.limbo_meaning.specs.Runs.{Meaning, MeaningRun}
 use Rattle.core_code.specs.Code.{bodies}
-use Rattle.core_code.specs.Machine as machine
-use Rattle.core_code.specs.Rules as core_rules
 use Rattle.limbo_lower.specs.Code.{module_code}
 use Rattle.limbo_lower.specs.Stands as lower
 use Rattle.dis_meaning.specs.World.{World}
@@ -32,26 +30,15 @@ use Rattle.dis_meaning.specs.Step.{step}
 use Rattle.dis_meaning.specs.Rules as dis_rules
 use Rattle.dis_codegen.specs.Objects.{init_of, object_of}
 use Rattle.dis_codegen.specs.Start.{opening, first_process}
-use Rattle.dis_codegen.specs.Stands.{Ready, Asking, WorldStands}
+use Rattle.dis_codegen.specs.Stands as upper
 
 -- The object of a module.
 abbrev pub object_for : Module → Object
 object_for m = object_of (module_code m)
 
--- Three-address code and its object. What is known of the machine is whether Sys is loaded.
-abbrev pub code_and_object : core.Module → GrowingSides Bool outside.World World machine.Process Process Value Request Rmsg Ending
-code_and_object c = record {
-  grows = λ a b. a ≡ true → b ≡ true;
-  program = core_rules.rules frames_limit (bodies c);
-  code = dis_rules.rules frames_limit (object_of c ∷ []);
-  ready = Ready c;
-  asking = Asking c;
-  worlds = WorldStands c;
-}
-
 -- A module and its object: a process of one stands for one of the other where one of the three-address code stands between them.
-abbrev pub sides : Module → GrowingSides Bool outside.World World source.Process Process Value Request Rmsg Ending
-sides m = composed (lower.sides (routines_of m) (bodies (module_code m))) (code_and_object (module_code m))
+abbrev pub sides : Module → Sides Bool outside.World World source.Process Process Value Value Request Rmsg Ending
+sides m = through (unshared (lower.sides (routines_of m) (bodies (module_code m)))) (upper.sides (module_code m))
 
 -- The module begins with this function, which has this number.
 pub record BeginsWith (m : Module) (init : ℕ) (first : Routine) : Type 0 where
@@ -61,9 +48,9 @@ pub record BeginsWith (m : Module) (init : ℕ) (first : Routine) : Type 0 where
 -- The object follows the meaning: whatever a process of the object does next, the module's process that it stands for does too, after
 -- some steps of its own. Of any 14 instructions in a row at least one stands for a step. Both begin alike.
 pub record Keeps (m : Module) : Type 0 where
-  pub follows : Follows (opened (sides m))
+  pub follows : Follows (sides m)
   pub pace : follows.bound ≡ 14
-  pub begins : (init : ℕ) (first : Routine) → BeginsWith m init first → (sides m).ready false (runs.first_process first) (first_process (module_code m))
+  pub begins : (init : ℕ) (first : Routine) → BeginsWith m init first → (sides m).ready false 0 (opening (module_code m)) (runs.first_process first) (first_process (module_code m))
   pub begins_in : (sides m).worlds false opening_world (opening (module_code m))
 
 -- A run of the module beside a journal of its object: its turns are the journal's instructions, each with the steps that it stands for;
@@ -81,7 +68,7 @@ abbrev pub JournalsAreRuns : Module → Type 0
 JournalsAreRuns m =
     (init : ℕ) (first : Routine) → BeginsWith m init first →
     (longest : ℕ) (journal : List (Event Rmsg)) (t : State World Process Value Request Rmsg Ending) →
-    replay (dis_rules.rules frames_limit (object_for m ∷ [])) no_counts longest (begins_code (opening (module_code m)) (first_process (module_code m))) journal ≡ Some t →
+    replay (dis_rules.rules frames_limit (object_for m ∷ [])) no_names longest (begins_code (opening (module_code m)) (first_process (module_code m))) journal ≡ Some t →
     RunBeside m init journal t
 
 -- After no journal is the next instruction of a process wrong.
@@ -89,6 +76,6 @@ abbrev pub NeverFaults : Module → Type 0
 NeverFaults m =
     (init : ℕ) (first : Routine) → BeginsWith m init first →
     (longest : ℕ) (journal : List (Event Rmsg)) (t : State World Process Value Request Rmsg Ending) →
-    replay (dis_rules.rules frames_limit (object_for m ∷ [])) no_counts longest (begins_code (opening (module_code m)) (first_process (module_code m))) journal ≡ Some t →
+    replay (dis_rules.rules frames_limit (object_for m ∷ [])) no_names longest (begins_code (opening (module_code m)) (first_process (module_code m))) journal ≡ Some t →
     (j : ℕ) (r : Process) → slice_get t.processes j ≡ Some (process.Ready r) →
     (y : World) (number pc : ℕ) → step frames_limit (object_for m ∷ []) t.world r ≡ Ends y (Faulted number pc) → ⊥

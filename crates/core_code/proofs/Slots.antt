@@ -2,7 +2,7 @@
 use Rattle.std.proofs.Common.{◌≡◌, ℕ, ◌<◌, Bool, true, false, refl, arith, if◌then◌else◌}
 use Rattle.std.specs.Prelude.{nat_eq}
 use Rattle.std.proofs.lemmas.Bool.{eq-eqb, eqb-true}
-use Rattle.limbo_meaning.specs.Values.{Value}
+use Rattle.system_model.specs.Values.{Value}
 use Rattle.core_code.specs.Machine.{Slots, put}
 
 put_when : (slots : Slots) (v : Value) (j : ℕ) (b : Bool) → b ≡ true → (if b then v else slots j) ≡ v

@@ -2,10 +2,10 @@
 use Rattle.std.specs.Prelude.{ℕ, zero, suc, List, [], ◌∷◌, length, Option, Some, None, slice_index_or, nat_eq, nat_lt, codes, if◌then◌else◌}
 use Rattle.process_model.specs.Process.{Effect, Went, Parks, Asks, Ends}
 use Rattle.limbo_typed.specs.Typed.{Piece}
-use Rattle.limbo_meaning.specs.Values.{Value, zero_value}
-use Rattle.limbo_meaning.specs.World.{World}
-use Rattle.limbo_meaning.specs.Prints.{Request, Writing, Printing, Answers, Requests, NoReply}
-use Rattle.limbo_meaning.specs.Process.{Ending, Ended, Broken}
+use Rattle.system_model.specs.Values.{Value, zero_value}
+use Rattle.system_model.specs.World.{World}
+use Rattle.system_model.specs.Prints.{Request, Writing, Printing, Answers, Requests, NoReply}
+use Rattle.system_model.specs.Ending.{Ending, Ended, Broken}
 use Rattle.core_code.specs.Code.{Inst}
 
 -- What each slot has.

@@ -2,9 +2,9 @@
 use Rattle.std.specs.Prelude.{ℕ, suc, ◌+◌, ◌-◌, Bool, true, false, List, Option, Some, None, slice_get}
 use Rattle.styx_msg.specs.declared.message.Rmsg.{Rmsg}
 use Rattle.process_model.specs.Process.{Went}
-use Rattle.limbo_meaning.specs.Values.{Num, zero_value, holds, result_of}
-use Rattle.limbo_meaning.specs.World.{World}
-use Rattle.limbo_meaning.specs.Prints.{Writing, text_of, print, hear}
+use Rattle.system_model.specs.Values.{Num, zero_value, holds, result_of}
+use Rattle.system_model.specs.World.{World}
+use Rattle.system_model.specs.Prints.{Writing, text_of, print, hear}
 use Rattle.core_code.specs.Code.{Inst, Set, Move, Operate, Unless, Jump, Back, Call, Format, Print, Return, Leave}
 use Rattle.core_code.specs.Machine.{Process, Does, put, taken, formatted, with_frames, stands_still, goes, returns, calls, prints, hears}
 

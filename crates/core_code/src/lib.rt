@@ -7,7 +7,7 @@
 //! `specs/` in the order of reading: `Code` (instructions, functions, modules as plain data), `View` (how the code's data are
 //! these), `Machine` (frames, and what becomes of them at a call, at a return and at a print), `Step` (one instruction), `Rules`
 //! (the instructions as a language of process_model), `Proper` (code that names only what is there). What the processes share, what they
-//! ask of the outside and how they end are the meaning's own, in limbo_meaning.
+//! ask of the outside and how they end are those of system_model, as in the meaning of programs.
 #![tactic(auto)]
 
 mod code;

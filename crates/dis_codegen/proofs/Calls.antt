@@ -6,15 +6,14 @@ use Rattle.std.proofs.lemmas.Bool.{eq-eqb}
 use Rattle.std.proofs.lemmas.List.{length-map}
 use Rattle.std.proofs.lemmas.Option.{slice_get-map}
 use Rattle.process_model.specs.Process.{Went, Ends}
-use Rattle.process_model.specs.Alone.{here}
 use Rattle.dis_isa.specs.declared.inst.Inst as code_inst
 use Rattle.dis_isa.specs.declared.inst.Middle.TheVariants as middle
 use Rattle.dis_isa.specs.declared.inst.Operand.TheVariants as operand
 use Rattle.dis_isa.specs.declared.op.Op.TheVariants as op
-use Rattle.limbo_meaning.specs.Values.{Value, zero_value}
-use Rattle.limbo_meaning.specs.World as outside
-use Rattle.limbo_meaning.specs.Process.{Broken}
-use Rattle.limbo_meaning.specs.Runs.{frames_limit}
+use Rattle.system_model.specs.Values.{Value, zero_value}
+use Rattle.system_model.specs.World as outside
+use Rattle.system_model.specs.Ending.{Broken}
+use Rattle.system_model.specs.Limits.{frames_limit}
 use Rattle.core_code.specs.Code as core
 use Rattle.core_code.specs.Code.{Inst, Function, Module, bodies}
 use Rattle.core_code.specs.Machine as machine
@@ -35,7 +34,7 @@ use Rattle.dis_codegen.specs.Paces as paces
 use Rattle.dis_codegen.proofs.Memory.{number_at, slot_number, stored_at, set_same, set_other, set_length}
 use Rattle.dis_codegen.proofs.Instructions.{frame, movm, lea, call}
 use Rattle.dis_codegen.proofs.Lookups.{HasAt, Coded, coded, arguments_length, has_back, frame_type_is}
-use Rattle.dis_codegen.proofs.Runs.{slots_behind, slot_at, behind_at, behind_stored, place_on, rests, steps_once, remade, stack_same, linkage_kept}
+use Rattle.dis_codegen.proofs.Runs.{slots_behind, slot_at, behind_at, behind_stored, place_on, rests, at_once, steps_once, remade, stack_same, linkage_kept}
 use Rattle.dis_codegen.proofs.Data.{middle_is}
 use Rattle.dis_codegen.proofs.Paces.{far_is}
 use Rattle.dis_codegen.proofs.Far.{NoneHas, made_words, made_with, made_stored}
@@ -78,12 +77,12 @@ with_linkage f slots b words new h = record {
   is_plain = h.is_plain;
 }
 
-module _ (m : Module) (proper : IsProper m) (k : Bool) (n : ℕ) (others : ℕ → ℕ) (w : outside.World) (x : World) (ws : WorldStands m k w x) (p : machine.Process) (r : Process) where
+module _ (m : Module) (proper : IsProper m) (k : Bool) (n : ℕ) (w : outside.World) (x : World) (ws : WorldStands m k w x) (p : machine.Process) (r : Process) where
   abbrev D : dis.Does → Type 0
-  D e = Done m proper k n others w x ws p r e
+  D e = Done m proper k n w x ws p r e
 
   abbrev pub G : Type 0
-  G = Goal m proper k n others w x ws p r
+  G = Goal m proper k n w x ws p r
 
   -- At an instruction, and with frames that are made.
   module _ (offset : ℕ) (b : Word) (made : List Frame) (h : Running m k p r offset b made) (i : Inst) (e : h.frame.inst ≡ i) where
@@ -97,14 +96,14 @@ module _ (m : Module) (proper : IsProper m) (k : Bool) (n : ℕ) (others : ℕ �
     there_is = h.frame.there ∙ ap Some e
 
     pub coded_as : Coded C (object_of m).insts (module_data m.functions) (place C p.frame.pc) p.frame.pc i
-    coded_as = subst (Coded C (object_of m).insts (module_data m.functions) (place C p.frame.pc) p.frame.pc) e (its_code m proper k n others w x ws p r offset b made h)
+    coded_as = subst (Coded C (object_of m).insts (module_data m.functions) (place C p.frame.pc) p.frame.pc) e (its_code m proper k n w x ws p r offset b made h)
 
     pub proper_as : ProperInst m.functions F p.frame.pc i
-    proper_as = subst (ProperInst m.functions F p.frame.pc) e (is_proper m proper k n others w x ws p r offset b made h)
+    proper_as = subst (ProperInst m.functions F p.frame.pc) e (is_proper m proper k n w x ws p r offset b made h)
 
     -- By the instruction here.
     pub by : (j : code_inst.Inst) (does : dis.Does) (at : ℕ) → at ≡ offset + place C p.frame.pc → slice_get (object_of m).insts at ≡ Some j → dis_step.obey frames_limit (object_of m) x r j j.op ≡ Found does → D does → G
-    by j does at is stands it done = by_instruction m proper k n others w x ws p r offset b made h j does (subst (λ a. slice_get (object_of m).insts a ≡ Some j) is stands) it done
+    by j does at is stands it done = by_instruction m proper k n w x ws p r offset b made h j does (subst (λ a. slice_get (object_of m).insts a ≡ Some j) is stands) it done
 
     pub further : (offset' at : ℕ) → offset < offset' → offset' < size i → at ≡ offset' + place C p.frame.pc → paces.place m r < paces.far m at
     further offset' at lt within is =
@@ -164,7 +163,7 @@ module _ (m : Module) (proper : IsProper m) (k : Bool) (n : ℕ) (others : ℕ �
         by 0 b [] h i e _ _ (place (context m.functions p.frame.function O) p.frame.pc) (omega arith) cd.code.0
         (frame frames_limit (object_of m) x r (suc f) (slot O.slots) (frame_desc callee) (Own (slot_offset O.slots)) _ (frame_type_is m f callee pr.0.there) refl
         (behind_stored O p.frame.slots b r.frame.words h.frame.has x r (made_at (fresh_frame callee)) refl tt))
-        (rests m k n others w p (paces.place m r) k x (with_made callee) (λ e. e)
+        (rests m k n x w p (paces.place m r) k x (with_made callee) (λ e. e)
         (made_ready count e callee pr.0.there (proper f callee pr.0.there).variables at) ws
         (further 0 b [] h i e 1 (suc r.frame.pc) (omega arith) (omega arith) at))
 
@@ -290,7 +289,7 @@ module _ (m : Module) (proper : IsProper m) (k : Bool) (n : ℕ) (others : ℕ �
         let at : suc r.frame.pc ≡ suc (suc (moved_size count)) + place T p.frame.pc = let z = h.frame.here in omega (arith, z, off) in
         by offset (made_at made) (made ∷ []) h i e _ _ (place T p.frame.pc + suc (moved_size count)) (omega (arith, off)) tail_code.0
         (addresses offset made h is into its.linkage pr.2 its.answers its.is_plain)
-        (rests m k n others w p (paces.place m r) k x (with_other offset made h is (with_words made words)) (λ e. e)
+        (rests m k n x w p (paces.place m r) k x (with_other offset made h is (with_words made words)) (λ e. e)
         (addressed {f = f} {args = args} {n = count} {into = into} {callee = callee} {made = with_words made words} (still offset made h is i e words (suc (suc (moved_size count))) at) refl there (still_made offset made h is words)
         (record {
           has = with_linkage callee (λ s. slice_index_or (taken p.frame.slots args count) s zero_value) (Plain (pos 0)) made.words (Address (InFrame r.frame.serial) (slot_offset into)) its.has;
@@ -363,13 +362,13 @@ module _ (m : Module) (proper : IsProper m) (k : Bool) (n : ℕ) (others : ℕ �
     -- Both call, or both are too high.
     by_height : (t : Bool) → core_step.step frames_limit (bodies m) w p ≡ (if t then Went w core_called else Ends w (Broken (codes "stack overflow"))) → Ready m k core_called called →
         D (if t then Went x called else Ends x (Broken (codes "stack overflow")))
-    by_height true st ready = steps_once m k n others w p (paces.place m r) w core_called x called st ready ws
+    by_height true st ready = steps_once m k n x w p (paces.place m r) w core_called x called st ready ws
     by_height false st ready = record {
       now = k;
-      grown = λ e. e;
+      changes = λ e. e;
       world = w;
-      comes = record { steps = 0; world = w; before = p; alone = here; does = st };
-      settles = record { worlds = ws; gone = tt };
+      comes = at_once m k n x w p (paces.place m r) _ st;
+      worlds = ws;
     }
 
     pub addressed_goes : offset ≡ suc (suc (moved_size count)) → (its : ForCall m callee (taken p.frame.slots args count) made) → AnswersTo made.words (InFrame r.frame.serial) (slot_offset into) → G
@@ -408,7 +407,7 @@ module _ (m : Module) (proper : IsProper m) (k : Bool) (n : ℕ) (others : ℕ �
         let at : suc r.frame.pc ≡ suc (moved_size (suc c)) + place T p.frame.pc = let z = h.frame.here in omega (arith, z) in
         by 1 (made_at made) (made ∷ []) h i e _ _ (suc (place T p.frame.pc)) (omega arith) cd.code.1.0
         (passes 1 made h is args c cd.datum 32 8 pr.1 cd.held refl (call_plain callee made.words its.has ints))
-        (rests m k n others w p (paces.place m r) k x (with_other 1 made h is (with_words made words)) (λ e. e)
+        (rests m k n x w p (paces.place m r) k x (with_other 1 made h is (with_words made words)) (λ e. e)
         (moved {f = f} {args = args} {n = suc c} {into = into} {callee = callee} {made = with_words made words} (still 1 made h is i e words (suc (moved_size (suc c))) at) refl there (still_made 1 made h is words)
         (record {
           has = passed_slots callee made.words vs (suc c) (taken_length p.frame.slots args (suc c)) ints its.has;

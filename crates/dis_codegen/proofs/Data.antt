@@ -2,7 +2,7 @@
 use Rattle.std.proofs.Common.{◌≡◌, ℕ, zero, suc, ℤ, pos, ◌+◌, ◌*◌, Bool, true, false, List, [], ◌∷◌, ◌++◌, Some, refl, sym, ap, ◌∙◌, subst, arith}
 use Rattle.std.specs.Prelude.{slice_get}
 use Rattle.dis_isa.specs.declared.inst.Operand.{Operand}
-use Rattle.limbo_meaning.specs.World as outside
+use Rattle.system_model.specs.World as outside
 use Rattle.core_code.specs.Code.{Module}
 use Rattle.dis_meaning.specs.Words.{Word, Plain, Refer, Found, ◌>>=◌, dead_address, or_wrong, word_at, plain, number_in}
 use Rattle.dis_meaning.specs.World as memory

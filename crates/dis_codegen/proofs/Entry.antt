@@ -5,8 +5,8 @@ use Rattle.dis_isa.specs.declared.inst.Inst as code_inst
 use Rattle.dis_isa.specs.declared.inst.Middle.TheVariants as middle
 use Rattle.dis_isa.specs.declared.inst.Operand.TheVariants as operand
 use Rattle.dis_isa.specs.declared.op.Op.TheVariants as op
-use Rattle.limbo_meaning.specs.World as outside
-use Rattle.limbo_meaning.specs.Runs.{frames_limit}
+use Rattle.system_model.specs.World as outside
+use Rattle.system_model.specs.Limits.{frames_limit}
 use Rattle.core_code.specs.Code.{Function, Module}
 use Rattle.core_code.specs.Machine as machine
 use Rattle.core_code.specs.Proper.{Runs, IsProper}
@@ -40,9 +40,9 @@ get_last : {A : Type 0} (xs : List A) (x : A) → slice_get (xs ++ x ∷ []) (le
 get_last [] x = refl
 get_last (y ∷ xs) x = get_last xs x
 
-module _ (m : Module) (proper : IsProper m) (k : Bool) (n : ℕ) (others : ℕ → ℕ) (w : outside.World) (x : World) (ws : WorldStands m k w x) (p : machine.Process) (r : Process) where
+module _ (m : Module) (proper : IsProper m) (k : Bool) (n : ℕ) (w : outside.World) (x : World) (ws : WorldStands m k w x) (p : machine.Process) (r : Process) where
   abbrev D : dis.Does → Type 0
-  D e = Done m proper k n others w x ws p r e
+  D e = Done m proper k n w x ws p r e
 
   module _ (pc : ℕ) (b : Word) (h : Entering m p r pc b) where
     abbrev F : Function
@@ -63,7 +63,7 @@ module _ (m : Module) (proper : IsProper m) (k : Bool) (n : ℕ) (others : ℕ �
     far_in : (a : ℕ) → a < 3 → paces.far m a ≡ a
     far_in a lt = ap (λ t. if t then a else 3 + paces.within (paces.all_sizes m.functions) (a - entry_size m.functions)) (less a (entry_size m.functions) (let t = three in omega (arith, lt, t)))
 
-    by_entry : (i : code_inst.Inst) (e : dis.Does) → slice_get (object_of m).insts pc ≡ Some i → dis_step.obey frames_limit (object_of m) x r i i.op ≡ Found e → D e → Goal m proper k n others w x ws p r
+    by_entry : (i : code_inst.Inst) (e : dis.Does) → slice_get (object_of m).insts pc ≡ Some i → dis_step.obey frames_limit (object_of m) x r i i.op ≡ Found e → D e → Goal m proper k n w x ws p r
     by_entry i e at does done = subst D (sym (step_is m k w x r i e ws h.instance (subst (λ c. slice_get (object_of m).insts c ≡ Some i) (sym h.here) at) does)) done
 
     further_in : (a c : ℕ) {here there : ℕ} → here ≡ a → there ≡ c → a < c → here < there
@@ -124,20 +124,20 @@ module _ (m : Module) (proper : IsProper m) (k : Bool) (n : ℕ) (others : ℕ �
         ∙ set_other (x.blocks ++ sys_block ∷ []) 0 (length x.blocks) (Instance 0 new_words) (λ e. let l = ap length ws.blocks in absurd (omega (arith, e, l)))
         ∙ get_last x.blocks sys_block
 
-    pub enters_goes : pc ≡ 0 → Goal m proper k n others w x ws p r
+    pub enters_goes : pc ≡ 0 → Goal m proper k n w x ws p r
     enters_goes z =
         let at : suc r.frame.pc ≡ 1 = let a = h.here in omega (arith, a, z) in
         by_entry (inst op.Load path_word (middle.Imm (pos 0)) sys_word) _ (subst (λ c. slice_get (object_of m).insts c ≡ Some (inst op.Load path_word (middle.Imm (pos 0)) sys_word)) (sym z) entry_is.0)
         (load frames_limit (object_of m) x r path_word sys_word (middle.Imm (pos 0)) (Refer (Some 1)) (Some 1) (codes "$Sys") 0 sys_imports (Data (pos 4)) (record { world = new_world; process = r })
         (data_read m k w x r ws h.instance 0 0 (Refer (Some 1)) refl refl) refl (ap (λ bs. or_wrong dead_address (slice_get bs 1) >>= dis_step.text_of) ws.blocks) refl refl refl is_loaded)
-        (rests m k n others w p (paces.place m r) true new_world _ (λ e. refl)
+        (rests m k n x w p (paces.place m r) true new_world _ (λ e. refl)
         (loads {w = b} refl (on r.frame.words b 1 at h.has h.answers h.is_plain))
         (record { outside = ws.outside; sys = Some (length x.blocks); more = more_blocks; blocks = new_blocks; loaded = λ e. (length x.blocks, refl, sys_there) })
         (let a = far_in 0 (omega arith) in let c = far_in 1 (omega arith) in further_in 0 1 (ap (paces.far m) (h.here ∙ z) ∙ a) (ap (paces.far m) at ∙ c) (omega arith)))
 
     -- ---- the answer's place
 
-    pub loads_goes : pc ≡ 1 → k ≡ true → Goal m proper k n others w x ws p r
+    pub loads_goes : pc ≡ 1 → k ≡ true → Goal m proper k n w x ws p r
     loads_goes z loaded_already =
         let at : suc r.frame.pc ≡ 2 = let a = h.here in omega (arith, a, z) in
         let new = Address (InFrame r.frame.serial) (slot_offset F.slots) in
@@ -145,7 +145,7 @@ module _ (m : Module) (proper : IsProper m) (k : Bool) (n : ℕ) (others : ℕ �
         by_entry (inst op.Lea (slot F.slots) middle.None (operand.Fp (pos 16))) _ (subst (λ c. slice_get (object_of m).insts c ≡ Some (inst op.Lea (slot F.slots) middle.None (operand.Fp (pos 16)))) (sym z) entry_is.1.0)
         (lea frames_limit (object_of m) x r (slot F.slots) (operand.Fp (pos 16)) (Own (slot_offset F.slots)) (Own (pos 16)) h.behind _ refl (behind_at F p.frame.slots h.behind r.frame.words h.has) refl
         (ap (λ a. a >>= λ ws. Found (record { world = x; process = with_frames r (with_words r.frame ws) r.below r.made })) (stored_at r.frame.words 16 4 b new refl h.answers h.is_plain tt)))
-        (rests m k n others w p (paces.place m r) k x _ (λ e. e)
+        (rests m k n x w p (paces.place m r) k x _ (λ e. e)
         (leaves {w = new} loaded_already (on words new 2 at (with_linkage F p.frame.slots h.behind r.frame.words new h.has) (set_same r.frame.words 4 new b h.answers) tt) (set_same r.frame.words 4 new b h.answers)) ws
         (let a = far_in 1 (omega arith) in let c = far_in 2 (omega arith) in further_in 1 2 (ap (paces.far m) (h.here ∙ z) ∙ a) (ap (paces.far m) at ∙ c) (omega arith)))
 
@@ -169,12 +169,12 @@ module _ (m : Module) (proper : IsProper m) (k : Bool) (n : ℕ) (others : ℕ �
         let stands = subst (λ a. HasAt (object_of m).insts a (inst_code (context m.functions p.frame.function F) p.frame.pc c.datum runs.inst)) place_is c.code in
         ap (λ t. if t then Found base else Wrong bad_jump) (within_code (object_of m).insts base _ stands (some_code (context m.functions p.frame.function F) p.frame.pc c.datum runs.inst))
 
-    pub leaves_goes : pc ≡ 2 → k ≡ true → AnswersTo r.frame.words (InFrame r.frame.serial) (slot_offset F.slots) → Goal m proper k n others w x ws p r
+    pub leaves_goes : pc ≡ 2 → k ≡ true → AnswersTo r.frame.words (InFrame r.frame.serial) (slot_offset F.slots) → Goal m proper k n w x ws p r
     leaves_goes z loaded_already answers =
         let new : Frame = record { serial = r.frame.serial; instance = r.frame.instance; pc = base; words = r.frame.words } in
         by_entry (inst op.Jmp operand.None middle.None (operand.Imm (pos base))) _ (subst (λ c. slice_get (object_of m).insts c ≡ Some (inst op.Jmp operand.None middle.None (operand.Imm (pos base)))) (sym z) entry_is.1.1.0)
         (jmp frames_limit (object_of m) x r (operand.Imm (pos base)) base in_code)
-        (rests m k n others w p (paces.place m r) k x (with_frames r new r.below r.made) (λ e. e)
+        (rests m k n x w p (paces.place m r) k x (with_frames r new r.below r.made) (λ e. e)
         (stands.begins {w = h.behind} (record {
           loaded = loaded_already;
           number = h.number;

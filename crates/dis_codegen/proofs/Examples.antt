@@ -7,13 +7,13 @@ use Rattle.styx_msg.specs.declared.message.Rmsg.TheVariants as r
 use Rattle.process_model.specs.Process.{Requested, Replied, Over}
 use Rattle.process_model.specs.Machine.{State, Event, Quantum, Reply, replay}
 use Rattle.process_model.specs.Law.{begins_code}
-use Rattle.process_model.specs.Plain.{no_counts}
+use Rattle.process_model.specs.Plain.{no_names}
 use Rattle.limbo_typed.specs.Typed as typed
-use Rattle.limbo_meaning.specs.Values.{Value}
-use Rattle.limbo_meaning.specs.Prints.{Request}
-use Rattle.limbo_meaning.specs.Process.{Ending, Ended}
-use Rattle.limbo_meaning.specs.Runs.{Trace}
-use Rattle.limbo_meaning.proofs.Examples.{byte_at}
+use Rattle.system_model.specs.Values.{Value}
+use Rattle.system_model.specs.Prints.{Request}
+use Rattle.system_model.specs.Ending.{Ending, Ended}
+use Rattle.system_model.specs.Trace.{Trace}
+use Rattle.system_model.proofs.Bytes.{byte_at}
 use Rattle.core_code.specs.Code as core
 use Rattle.core_code.specs.Code.{Set, Move, Operate, Unless, Jump, Call, Format, Print, Return, Leave}
 use Rattle.dis_isa.specs.declared.inst.Middle.{Middle}
@@ -34,7 +34,7 @@ traced (Some s) = Some s.trace
 
 -- What is told of the module's object after such a journal.
 told_of_object : ℕ → core.Module → List (Event Rmsg) → Option Trace
-told_of_object limit m journal = traced (replay (rules limit (object_of m ∷ [])) no_counts 2048 (begins_code (opening m) (first_process m)) journal)
+told_of_object limit m journal = traced (replay (rules limit (object_of m ∷ [])) no_names 2048 (begins_code (opening m) (first_process m)) journal)
 
 -- init prints the factorial of 3
 factorial : core.Module

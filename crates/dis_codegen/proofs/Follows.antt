@@ -4,10 +4,10 @@ use Rattle.std.specs.Prelude.{slice_set}
 use Rattle.styx_msg.specs.declared.message.Rmsg.{Rmsg}
 use Rattle.process_model.specs.Process.{Effect, Went}
 use Rattle.process_model.specs.Follows.{MatchesReply}
-use Rattle.limbo_meaning.specs.Values.{Value}
-use Rattle.limbo_meaning.specs.World as outside
-use Rattle.limbo_meaning.specs.Prints.{Request, Printing, Answers, Requests, NoReply, hear}
-use Rattle.limbo_meaning.specs.Process.{Ending}
+use Rattle.system_model.specs.Values.{Value}
+use Rattle.system_model.specs.World as outside
+use Rattle.system_model.specs.Prints.{Request, Printing, Answers, Requests, NoReply, hear}
+use Rattle.system_model.specs.Ending.{Ending}
 use Rattle.core_code.specs.Code as core
 use Rattle.core_code.specs.Code.{Inst, Function, Module}
 use Rattle.core_code.specs.Machine as machine
@@ -32,47 +32,47 @@ use Rattle.dis_codegen.proofs.Prints.{format_goes, formats_goes, formatted_goes,
 use Rattle.dis_codegen.proofs.Returns.{return_goes, leave_goes, ret_goes}
 use Rattle.dis_codegen.proofs.Entry.{enters_goes, loads_goes, leaves_goes}
 
-module _ (m : Module) (proper : IsProper m) (k : Bool) (n : ℕ) (others : ℕ → ℕ) (w : outside.World) (x : World) (ws : WorldStands m k w x) (p : machine.Process) (r : Process) where
+module _ (m : Module) (proper : IsProper m) (k : Bool) (n : ℕ) (w : outside.World) (x : World) (ws : WorldStands m k w x) (p : machine.Process) (r : Process) where
   abbrev G : Type 0
-  G = Goal m proper k n others w x ws p r
+  G = Goal m proper k n w x ws p r
 
   -- At the begin of an instruction.
   begins_goes : (b : Word) (h : Running m k p r 0 b []) (i : Inst) → h.frame.inst ≡ i → is_print i ≡ false → G
-  begins_goes b h (core.Set into z) e o = set_goes m proper k n others w x ws p r b h into z e
-  begins_goes b h (core.Move into from) e o = move_goes m proper k n others w x ws p r b h into from e
-  begins_goes b h (core.Operate op into left right) e o = operate_goes m proper k n others w x ws p r b h op into left right e
-  begins_goes b h (core.Unless c j) e o = unless_goes m proper k n others w x ws p r b h c j e
-  begins_goes b h (core.Jump j) e o = jump_goes m proper k n others w x ws p r b h j e
-  begins_goes b h (core.Back j) e o = back_goes m proper k n others w x ws p r b h j e
-  begins_goes b h (core.Call f args count into) e o = call_goes m proper k n others w x ws p r b h f args into count e
-  begins_goes b h (core.Format pieces) e o = format_goes m proper k n others w x ws p r b h pieces e
+  begins_goes b h (core.Set into z) e o = set_goes m proper k n w x ws p r b h into z e
+  begins_goes b h (core.Move into from) e o = move_goes m proper k n w x ws p r b h into from e
+  begins_goes b h (core.Operate op into left right) e o = operate_goes m proper k n w x ws p r b h op into left right e
+  begins_goes b h (core.Unless c j) e o = unless_goes m proper k n w x ws p r b h c j e
+  begins_goes b h (core.Jump j) e o = jump_goes m proper k n w x ws p r b h j e
+  begins_goes b h (core.Back j) e o = back_goes m proper k n w x ws p r b h j e
+  begins_goes b h (core.Call f args count into) e o = call_goes m proper k n w x ws p r b h f args into count e
+  begins_goes b h (core.Format pieces) e o = format_goes m proper k n w x ws p r b h pieces e
   begins_goes b h (core.Print args count into) e o = absurd cc
-  begins_goes b h (core.Return s) e o = return_goes m proper k n others w x ws p r b h s e
-  begins_goes b h core.Leave e o = leave_goes m proper k n others w x ws p r b h e
+  begins_goes b h (core.Return s) e o = return_goes m proper k n w x ws p r b h s e
+  begins_goes b h core.Leave e o = leave_goes m proper k n w x ws p r b h e
 
   -- One instruction.
   pub goes : Ready m k p r → G
-  goes (enters {w = b} h) = enters_goes m proper k n others w x ws p r 0 b h refl
-  goes (loads {w = b} l h) = loads_goes m proper k n others w x ws p r 1 b h refl l
-  goes (leaves {w = b} l h a) = leaves_goes m proper k n others w x ws p r 2 b h refl l a
+  goes (enters {w = b} h) = enters_goes m proper k n w x ws p r 0 b h refl
+  goes (loads {w = b} l h) = loads_goes m proper k n w x ws p r 1 b h refl l
+  goes (leaves {w = b} l h a) = leaves_goes m proper k n w x ws p r 2 b h refl l a
   goes (begins {w = b} h o) = begins_goes b h h.frame.inst refl o
-  goes (compares {o = o} {into = into} {left = left} {right = right} h e c) = compares_goes m proper k n others w x ws p r 1 (Plain (pos 1)) h o into left right e c refl refl
-  goes (fails {o = o} {into = into} {left = left} {right = right} h e c z) = fails_goes m proper k n others w x ws p r 2 (Plain (pos 1)) h o into left right e c refl z
-  goes (result {o = o} {into = into} {left = left} {right = right} h e c) = result_goes m proper k n others w x ws p r 3 _ h o into left right e c refl refl
-  goes (framed {f = f} {args = args} {n = c} {into = into} {callee = callee} {made = made} h e there is its) = framed_goes m proper k n others w x ws p r made h is f args c into e callee there its
-  goes (moved {f = f} {args = args} {n = c} {into = into} {callee = callee} {made = made} h e there is its) = moved_goes m proper k n others w x ws p r _ made h is f args c into e callee there refl its
-  goes (addressed {f = f} {args = args} {n = c} {into = into} {callee = callee} {made = made} h e there is its a) = addressed_goes m proper k n others w x ws p r _ made h is f args c into e callee there refl its a
-  goes (formats {pieces = pieces} {made = made} h e is its) = formats_goes m proper k n others w x ws p r made h is pieces e its
-  goes (formatted {args = args} {n = c} {into = into} {made = made} h e enough is its) = formatted_goes m proper k n others w x ws p r made h is args c into e its enough
-  goes (passed {args = args} {n = c} {into = into} {made = made} h e enough is its) = passed_goes m proper k n others w x ws p r _ made h is args c into e refl enough its
-  goes (prints {args = args} {n = c} {into = into} {made = made} h e enough is its same) = prints_goes m proper k n others w x ws p r _ made h is args c into e refl enough its same
-  goes (returns {w = b} v h a) = ret_goes m proper k n others w x ws p r b v h a
+  goes (compares {o = o} {into = into} {left = left} {right = right} h e c) = compares_goes m proper k n w x ws p r 1 (Plain (pos 1)) h o into left right e c refl refl
+  goes (fails {o = o} {into = into} {left = left} {right = right} h e c z) = fails_goes m proper k n w x ws p r 2 (Plain (pos 1)) h o into left right e c refl z
+  goes (result {o = o} {into = into} {left = left} {right = right} h e c) = result_goes m proper k n w x ws p r 3 _ h o into left right e c refl refl
+  goes (framed {f = f} {args = args} {n = c} {into = into} {callee = callee} {made = made} h e there is its) = framed_goes m proper k n w x ws p r made h is f args c into e callee there its
+  goes (moved {f = f} {args = args} {n = c} {into = into} {callee = callee} {made = made} h e there is its) = moved_goes m proper k n w x ws p r _ made h is f args c into e callee there refl its
+  goes (addressed {f = f} {args = args} {n = c} {into = into} {callee = callee} {made = made} h e there is its a) = addressed_goes m proper k n w x ws p r _ made h is f args c into e callee there refl its a
+  goes (formats {pieces = pieces} {made = made} h e is its) = formats_goes m proper k n w x ws p r made h is pieces e its
+  goes (formatted {args = args} {n = c} {into = into} {made = made} h e enough is its) = formatted_goes m proper k n w x ws p r made h is args c into e its enough
+  goes (passed {args = args} {n = c} {into = into} {made = made} h e enough is its) = passed_goes m proper k n w x ws p r _ made h is args c into e refl enough its
+  goes (prints {args = args} {n = c} {into = into} {made = made} h e enough is its same) = prints_goes m proper k n w x ws p r _ made h is args c into e refl enough its same
+  goes (returns {w = b} v h a) = ret_goes m proper k n w x ws p r b v h a
 
 -- ---- replies
 
-module _ (m : Module) (proper : IsProper m) (k : Bool) (others : ℕ → ℕ) (w : outside.World) (x : World) (ws : WorldStands m k w x) (p : machine.Process) (r : Process) (h : Asking m k p r) where
+module _ (m : Module) (proper : IsProper m) (k : Bool) (n : ℕ) (w : outside.World) (x : World) (ws : WorldStands m k w x) (p : machine.Process) (r : Process) (h : Asking m k p r) where
   abbrev M : Effect outside.World machine.Process Value Request Ending → dis.Does → Type 0
-  M e f = MatchesReply (sides m) k others e f
+  M e f = MatchesReply (sides m) k n x e f
 
   outside_stands : (v : outside.World) → WorldStands m k v (outside_is x v)
   outside_stands v = record { outside = refl; sys = ws.sys; more = ws.more; blocks = ws.blocks; loaded = ws.loaded }
@@ -87,7 +87,7 @@ module _ (m : Module) (proper : IsProper m) (k : Bool) (others : ℕ → ℕ) (w
       (stored_at r.frame.words (32 + 4 * into) (8 + into) (word_of (p.frame.slots into)) (word_of a) (omega arith) (h.waits.stands.has.ints into h.waits.into) (word_plain (p.frame.slots into)) (word_plain a))))
       (record {
         now = k;
-        grown = λ e. e;
+        changes = λ e. e;
         world = v;
         after = _;
         does = refl;
@@ -107,16 +107,16 @@ module _ (m : Module) (proper : IsProper m) (k : Bool) (others : ℕ → ℕ) (w
           frames = refl;
           fresh = h.fresh;
         }) h.waits.other;
-        settles = record { worlds = outside_stands v; gone = tt };
+        worlds = outside_stands v;
       })
   hears_alike (Requests v req kk) = record {
     now = k;
-    grown = λ e. e;
+    changes = λ e. e;
     world = v;
     after = _;
     does = refl;
     related = record { loaded = h.loaded; number = h.number; waits = h.waits; stack = h.stack; frames = h.frames; fresh = h.fresh; writing = kk; printing = refl; printing_too = refl };
-    settles = record { worlds = outside_stands v; gone = tt };
+    worlds = outside_stands v;
   }
   hears_alike NoReply = tt
 

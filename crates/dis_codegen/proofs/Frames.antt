@@ -2,7 +2,7 @@
 use Rattle.std.proofs.Common.{◌≡◌, ℕ, zero, suc, pos, ◌+◌, ◌*◌, ◌/◌, ◌<◌, ◌≤◌, Bool, false, List, [], ◌∷◌, ◌++◌, length, map, Some, None, refl, sym, ap, ◌∙◌, arith, if◌then◌else◌}
 use Rattle.std.specs.Prelude.{slice_get, slice_set, slice_index_or}
 use Rattle.dis_file.specs.declared.types.TypeDesc.{TypeDesc}
-use Rattle.limbo_meaning.specs.Values.{Value, zero_value}
+use Rattle.system_model.specs.Values.{Value, zero_value}
 use Rattle.core_code.specs.Code.{Function, Module}
 use Rattle.core_code.specs.Machine.{Slots, taken}
 use Rattle.core_code.specs.Proper.{AreInts}

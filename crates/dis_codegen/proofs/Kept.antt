@@ -3,12 +3,12 @@ use Rattle.std.proofs.Common.{◌≡◌, ℕ, suc, ◌+◌, ◌*◌, ◌≤◌, 
 use Rattle.std.specs.Prelude.{slice_get, slice_index_or, pos}
 use Rattle.process_model.specs.Process.{Went, Ends}
 use Rattle.process_model.specs.Follows.{Follows, Matches}
-use Rattle.limbo_meaning.specs.World as outside
-use Rattle.limbo_meaning.specs.World.{opening_world}
-use Rattle.limbo_meaning.specs.Values.{Value, zero_value}
-use Rattle.limbo_meaning.specs.Prints.{Printing, Answers, Requests, NoReply, text_of, print}
-use Rattle.limbo_meaning.specs.Process.{Broken, Faulted}
-use Rattle.limbo_meaning.specs.Runs.{frames_limit}
+use Rattle.system_model.specs.World as outside
+use Rattle.system_model.specs.World.{opening_world}
+use Rattle.system_model.specs.Values.{Value, zero_value}
+use Rattle.system_model.specs.Prints.{Printing, Answers, Requests, NoReply, text_of, print}
+use Rattle.system_model.specs.Ending.{Broken, Faulted}
+use Rattle.system_model.specs.Limits.{frames_limit}
 use Rattle.core_code.specs.Code as core
 use Rattle.core_code.specs.Code.{Inst, Function, Module, bodies}
 use Rattle.core_code.specs.Machine as machine
@@ -144,7 +144,7 @@ core_clean functions w v p number pc e = subst NoFault e (work_clean functions w
 
 pub never_faults : (m : Module) → IsProper m → NeverFaults m
 never_faults m proper k w x y p r number pc h ws e =
-    let g = subst (λ d. Matches (sides m) k 0 (λ n. 0) (place m) (place m r) w p d) e (goes m proper k 0 (λ n. 0) w x ws p r h) in
+    let g = subst (λ d. Matches (sides m) (place m) (place m r) k 0 w x p d) e (goes m proper k 0 w x ws p r h) in
     core_clean (bodies m) g.comes.world _ g.comes.before number pc g.comes.does
 
 -- ---- how many instructions

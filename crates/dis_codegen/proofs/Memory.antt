@@ -1,7 +1,7 @@
 -- Reads and stores of a frame's own words.
 use Rattle.std.proofs.Common.{◌≡◌, ℕ, zero, suc, pos, ◌+◌, ◌*◌, ◌/◌, ◌%◌, true, List, [], ◌∷◌, length, Some, refl, ap, ◌∙◌, arith, if◌then◌else◌}
 use Rattle.std.specs.Prelude.{slice_get, slice_set, ◌==◌}
-use Rattle.limbo_meaning.specs.Values.{Value, Num}
+use Rattle.system_model.specs.Values.{Value, Num}
 use Rattle.dis_meaning.specs.Words.{Word, Plain, Refer, Address, Found, Wrong, ◌>>=◌, type_check, or_wrong, word_number, word_at, fits, replaced, stored, plain}
 use Rattle.dis_meaning.specs.Step.{word_of}
 use Rattle.dis_codegen.specs.Code.{slot_offset}

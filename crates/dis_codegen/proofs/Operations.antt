@@ -9,9 +9,9 @@ use Rattle.dis_isa.specs.declared.inst.Operand.TheVariants as operand
 use Rattle.dis_isa.specs.declared.op.Op.{Op}
 use Rattle.dis_isa.specs.declared.op.Op.TheVariants as op
 use Rattle.limbo_typed.specs.Typed.{Operator, Add, Subtract, Multiply, Less, Equal}
-use Rattle.limbo_meaning.specs.Values.{Value, Num, truth, result_of}
-use Rattle.limbo_meaning.specs.World as outside
-use Rattle.limbo_meaning.specs.Runs.{frames_limit}
+use Rattle.system_model.specs.Values.{Value, Num, truth, result_of}
+use Rattle.system_model.specs.World as outside
+use Rattle.system_model.specs.Limits.{frames_limit}
 use Rattle.core_code.specs.Code as core
 use Rattle.core_code.specs.Code.{Inst, Function, Module, bodies}
 use Rattle.core_code.specs.Machine as machine
@@ -66,9 +66,9 @@ compared_word Add v u c = absurd c
 compared_word Subtract v u c = absurd c
 compared_word Multiply v u c = absurd c
 
-module _ (m : Module) (proper : IsProper m) (k : Bool) (n : ℕ) (others : ℕ → ℕ) (w : outside.World) (x : World) (ws : WorldStands m k w x) (p : machine.Process) (r : Process) where
+module _ (m : Module) (proper : IsProper m) (k : Bool) (n : ℕ) (w : outside.World) (x : World) (ws : WorldStands m k w x) (p : machine.Process) (r : Process) where
   abbrev D : dis.Does → Type 0
-  D e = Done m proper k n others w x ws p r e
+  D e = Done m proper k n w x ws p r e
 
   module _ (offset : ℕ) (b : Word) (h : Running m k p r offset b []) (i : Inst) (e : h.frame.inst ≡ i) where
     abbrev pub H : Function
@@ -85,7 +85,7 @@ module _ (m : Module) (proper : IsProper m) (k : Bool) (n : ℕ) (others : ℕ �
         core_step.obey frames_limit (bodies m) w p i ≡ machine.goes w p (suc p.frame.pc) (put p.frame.slots s v) →
         D (dis_step.next (record { world = x; process = with_frames r (with_words r.frame (slice_set r.frame.words (8 + s) (word_of v))) r.below r.made }))
     wrote last s v is on does =
-        steps_once m k n others w p (paces.place m r) w _ x _ (core_is m w p H i h.frame.found there_is ∙ does)
+        steps_once m k n x w p (paces.place m r) w _ x _ (core_is m w p H i h.frame.found there_is ∙ does)
         (begins
         (remade m k p r offset b [] h (put p.frame.slots s v) (slice_set r.frame.words (8 + s) (word_of v)) b (suc p.frame.pc) on.inst p.frame.format None r.made [] r.frames 0 (suc r.frame.pc) None
         on.there (let z = h.frame.here in let a = place_on K p.frame.pc i there_is in omega (arith, z, a, last)) (slots_put H p.frame.slots b r.frame.words h.frame.has s v is) (linkage_kept r.frame.words s (word_of v)) (omega arith) h.frames)
@@ -130,34 +130,34 @@ module _ (m : Module) (proper : IsProper m) (k : Bool) (n : ℕ) (others : ℕ �
         HasAt (object_of m).insts (place L p.frame.pc) (operation oc into left right) →
         word_of (result_of o (p.frame.slots left) (p.frame.slots right)) ≡ Plain (int_wrap w32 (f (number_of (p.frame.slots left)) (number_of (p.frame.slots right)))) →
         dis_step.obey frames_limit (object_of m) x r (inst oc (slot right) (middle.Fp (slot_offset left)) (slot into)) oc ≡ dis_step.operates x r (inst oc (slot right) (middle.Fp (slot_offset left)) (slot into)) f →
-        Goal m proper k n others w x ws p r
+        Goal m proper k n w x ws p r
     arithmetic o into left right oc f e one ii il ir on has word is_op =
         let v = result_of o (p.frame.slots left) (p.frame.slots right) in
-        by_instruction m proper k n others w x ws p r 0 b [] h _ _ (first_at 0 _ (place L p.frame.pc) (omega arith) has.0)
+        by_instruction m proper k n w x ws p r 0 b [] h _ _ (first_at 0 _ (place L p.frame.pc) (omega arith) has.0)
         (is_op ∙ operated frames_limit (object_of m) x r (inst oc (slot right) (middle.Fp (slot_offset left)) (slot into)) f (number_of (p.frame.slots right)) (number_of (p.frame.slots left)) (Own (slot_offset into)) _
-        (slot_number m proper k n others w x ws p r 0 b [] h right ir) (slot_middle m proper k n others w x ws p r 0 b [] h left (slot into) il) refl
+        (slot_number m proper k n w x ws p r 0 b [] h right ir) (slot_middle m proper k n w x ws p r 0 b [] h left (slot into) il) refl
         (ap (store x r (Own (slot_offset into))) (sym word) ∙ slot_stored J p.frame.slots b r.frame.words h.frame.has x r into (word_of v) refl ii (word_plain v)))
         (wrote 0 b h (core.Operate o into left right) e one into v ii on refl)
 
     -- The first instruction of a comparison.
     compare_begins : (o : Operator) (into left right : ℕ) (oc : Op) (e : h.frame.inst ≡ core.Operate o into left right) → IsComparison o → size (core.Operate o into left right) ≡ 4 →
-        HasAt (object_of m).insts (place L p.frame.pc) (comparison oc J.slots (place L p.frame.pc) into left right) → Goal m proper k n others w x ws p r
+        HasAt (object_of m).insts (place L p.frame.pc) (comparison oc J.slots (place L p.frame.pc) into left right) → Goal m proper k n w x ws p r
     compare_begins o into left right oc e is four has =
-        by_instruction m proper k n others w x ws p r 0 b [] h _ _ (first_at 0 _ (place L p.frame.pc) (omega arith) has.0)
+        by_instruction m proper k n w x ws p r 0 b [] h _ _ (first_at 0 _ (place L p.frame.pc) (omega arith) has.0)
         (movw frames_limit (object_of m) x r (operand.Imm (pos 1)) (slot J.slots) (Plain (pos 1)) (Own (slot_offset J.slots)) _ refl refl (behind_stored J p.frame.slots b r.frame.words h.frame.has x r (Plain (pos 1)) refl tt))
         (let at : suc r.frame.pc ≡ 1 + place L p.frame.pc = let z = h.frame.here in omega (arith, z) in
-        rests m k n others w p (paces.place m r) k x _ (λ e. e)
+        rests m k n x w p (paces.place m r) k x _ (λ e. e)
         (compares {o = o} {into = into} {left = left} {right = right} (kept_behind 0 b h (core.Operate o into left right) e (Plain (pos 1)) 1 (suc r.frame.pc) tt at) refl is) ws
         (further 0 b h (core.Operate o into left right) e 1 (suc r.frame.pc) (omega arith) (omega (arith, four)) at))
 
-    pub operate_goes : (o : Operator) (into left right : ℕ) → h.frame.inst ≡ core.Operate o into left right → Goal m proper k n others w x ws p r
+    pub operate_goes : (o : Operator) (into left right : ℕ) → h.frame.inst ≡ core.Operate o into left right → Goal m proper k n w x ws p r
     operate_goes o into left right e =
-        let c = subst (Coded L (object_of m).insts (module_data m.functions) (place L p.frame.pc) p.frame.pc) e (its_code m proper k n others w x ws p r 0 b [] h) in
-        let pr = subst (ProperInst m.functions J p.frame.pc) e (is_proper m proper k n others w x ws p r 0 b [] h) in
+        let c = subst (Coded L (object_of m).insts (module_data m.functions) (place L p.frame.pc) p.frame.pc) e (its_code m proper k n w x ws p r 0 b [] h) in
+        let pr = subst (ProperInst m.functions J p.frame.pc) e (is_proper m proper k n w x ws p r 0 b [] h) in
         by_operator o e c.code pr
       where
         by_operator : (o : Operator) → h.frame.inst ≡ core.Operate o into left right → HasAt (object_of m).insts (place L p.frame.pc) (operate J.slots (place L p.frame.pc) o into left right) →
-            IsInt J into × IsInt J left × IsInt J right × Runs J (suc p.frame.pc) → Goal m proper k n others w x ws p r
+            IsInt J into × IsInt J left × IsInt J right × Runs J (suc p.frame.pc) → Goal m proper k n w x ws p r
         by_operator Add e has pr = arithmetic Add into left right op.Addw (λ m s. m +ℤ s) e refl pr.0 pr.1 pr.2 pr.3 has (sum_word (p.frame.slots left) (p.frame.slots right)) refl
         by_operator Subtract e has pr = arithmetic Subtract into left right op.Subw (λ m s. m -ℤ s) e refl pr.0 pr.1 pr.2 pr.3 has (difference_word (p.frame.slots left) (p.frame.slots right)) refl
         by_operator Multiply e has pr = arithmetic Multiply into left right op.Mulw (λ m s. m *ℤ s) e refl pr.0 pr.1 pr.2 pr.3 has (product_word (p.frame.slots left) (p.frame.slots right)) refl
@@ -187,10 +187,10 @@ module _ (m : Module) (proper : IsProper m) (k : Bool) (n : ℕ) (others : ℕ �
         go Multiply c = absurd c
 
     ints : IsInt I into × IsInt I left × IsInt I right × Runs I (suc p.frame.pc)
-    ints = subst (ProperInst m.functions I p.frame.pc) e (is_proper m proper k n others w x ws p r offset b [] h)
+    ints = subst (ProperInst m.functions I p.frame.pc) e (is_proper m proper k n w x ws p r offset b [] h)
 
     stands_there : HasAt (object_of m).insts (place M p.frame.pc) (comparison (op_of o) I.slots (place M p.frame.pc) into left right)
-    stands_there = go o is (subst (Coded M (object_of m).insts (module_data m.functions) (place M p.frame.pc) p.frame.pc) e (its_code m proper k n others w x ws p r offset b [] h)).code
+    stands_there = go o is (subst (Coded M (object_of m).insts (module_data m.functions) (place M p.frame.pc) p.frame.pc) e (its_code m proper k n w x ws p r offset b [] h)).code
       where
         go : (o : Operator) → IsComparison o → HasAt (object_of m).insts (place M p.frame.pc) (operate I.slots (place M p.frame.pc) o into left right) → HasAt (object_of m).insts (place M p.frame.pc) (comparison (op_of o) I.slots (place M p.frame.pc) into left right)
         go Less c h = h
@@ -222,36 +222,36 @@ module _ (m : Module) (proper : IsProper m) (k : Bool) (n : ℕ) (others : ℕ �
         (there_is offset b h i e) at (subst (λ b. HasSlots I p.frame.slots b r.frame.words) same h.frame.has) refl (omega arith) h.frames
 
     -- The result goes into its slot.
-    pub result_goes : offset ≡ 3 → b ≡ compared o (p.frame.slots left) (p.frame.slots right) → Goal m proper k n others w x ws p r
+    pub result_goes : offset ≡ 3 → b ≡ compared o (p.frame.slots left) (p.frame.slots right) → Goal m proper k n w x ws p r
     result_goes off is_b =
         let v = result_of o (p.frame.slots left) (p.frame.slots right) in
         let at : suc (suc (suc (place M p.frame.pc))) ≡ offset + place M p.frame.pc = omega (arith, off) in
-        by_instruction m proper k n others w x ws p r offset b [] h _ _ (subst (λ a. slice_get (object_of m).insts a ≡ Some (inst op.Movw (slot I.slots) middle.None (slot into))) at stands_there.1.1.1.0)
+        by_instruction m proper k n w x ws p r offset b [] h _ _ (subst (λ a. slice_get (object_of m).insts a ≡ Some (inst op.Movw (slot I.slots) middle.None (slot into))) at stands_there.1.1.1.0)
         (movw frames_limit (object_of m) x r (slot I.slots) (slot into) (word_of v) (Own (slot_offset into)) _
         (ap (λ a. a >>= plain) (behind_at I p.frame.slots b r.frame.words h.frame.has) ∙ ap plain is_b ∙ plain_is (word_of v) (word_plain v)) refl
         (slot_stored I p.frame.slots b r.frame.words h.frame.has x r into (word_of v) refl ints.0 (word_plain v)))
         (wrote offset b h i e (let f = four in omega (arith, f, off)) into v ints.0 ints.3 refl)
 
     -- The 0 of a test that failed.
-    pub fails_goes : offset ≡ 2 → compared o (p.frame.slots left) (p.frame.slots right) ≡ Plain (pos 0) → Goal m proper k n others w x ws p r
+    pub fails_goes : offset ≡ 2 → compared o (p.frame.slots left) (p.frame.slots right) ≡ Plain (pos 0) → Goal m proper k n w x ws p r
     fails_goes off is_zero =
         let at : suc (suc (place M p.frame.pc)) ≡ offset + place M p.frame.pc = omega (arith, off) in
         let here : suc r.frame.pc ≡ 3 + place M p.frame.pc = let z = h.frame.here in omega (arith, z, off) in
-        by_instruction m proper k n others w x ws p r offset b [] h _ _ (subst (λ a. slice_get (object_of m).insts a ≡ Some (inst op.Movw (operand.Imm (pos 0)) middle.None (slot I.slots))) at stands_there.1.1.0)
+        by_instruction m proper k n w x ws p r offset b [] h _ _ (subst (λ a. slice_get (object_of m).insts a ≡ Some (inst op.Movw (operand.Imm (pos 0)) middle.None (slot I.slots))) at stands_there.1.1.0)
         (movw frames_limit (object_of m) x r (operand.Imm (pos 0)) (slot I.slots) (Plain (pos 0)) (Own (slot_offset I.slots)) _ refl refl
         (ap (store x r (Own (slot_offset I.slots))) (sym is_zero) ∙ behind_stored I p.frame.slots b r.frame.words h.frame.has x r its_word refl (word_plain its_value)))
-        (rests m k n others w p (paces.place m r) k x _ (λ e. e)
+        (rests m k n x w p (paces.place m r) k x _ (λ e. e)
         (result {o = o} {into = into} {left = left} {right = right} (kept_behind offset b h i e its_word 3 (suc r.frame.pc) (word_plain its_value) here) refl is) ws
         (further offset b h i e 3 (suc r.frame.pc) (omega (arith, off)) (let f = four in omega (arith, f)) here))
 
     -- The test: where it holds, the result is there already; where it fails, the 0 comes next.
-    pub compares_goes : offset ≡ 1 → b ≡ Plain (pos 1) → Goal m proper k n others w x ws p r
+    pub compares_goes : offset ≡ 1 → b ≡ Plain (pos 1) → Goal m proper k n w x ws p r
     compares_goes off is_one =
         let at : suc (place M p.frame.pc) ≡ offset + place M p.frame.pc = omega (arith, off) in
-        by_instruction m proper k n others w x ws p r offset b [] h (inst (op_of o) (slot left) (middle.Fp (slot_offset right)) (operand.Imm (pos (place M p.frame.pc + 3)))) _ (subst (λ a. slice_get (object_of m).insts a ≡ Some (inst (op_of o) (slot left) (middle.Fp (slot_offset right)) (operand.Imm (pos (place M p.frame.pc + 3))))) at stands_there.1.0)
+        by_instruction m proper k n w x ws p r offset b [] h (inst (op_of o) (slot left) (middle.Fp (slot_offset right)) (operand.Imm (pos (place M p.frame.pc + 3)))) _ (subst (λ a. slice_get (object_of m).insts a ≡ Some (inst (op_of o) (slot left) (middle.Fp (slot_offset right)) (operand.Imm (pos (place M p.frame.pc + 3))))) at stands_there.1.0)
         (is_test o is (inst (op_of o) (slot left) (middle.Fp (slot_offset right)) (operand.Imm (pos (place M p.frame.pc + 3))))
         ∙ tested frames_limit (object_of m) x r (inst (op_of o) (slot left) (middle.Fp (slot_offset right)) (operand.Imm (pos (place M p.frame.pc + 3)))) (test_of o) (number_of (p.frame.slots left)) (number_of (p.frame.slots right)) (place M p.frame.pc + 3)
-        (slot_number m proper k n others w x ws p r offset b [] h left ints.1) (slot_middle m proper k n others w x ws p r offset b [] h right (operand.Imm (pos (place M p.frame.pc + 3))) ints.2) last_target)
+        (slot_number m proper k n w x ws p r offset b [] h left ints.1) (slot_middle m proper k n w x ws p r offset b [] h right (operand.Imm (pos (place M p.frame.pc + 3))) ints.2) last_target)
         (by_test (test_of o (number_of (p.frame.slots left)) (number_of (p.frame.slots right))) refl)
       where
         is_test : (o : Operator) → IsComparison o → (j : code_inst.Inst) → dis_step.obey frames_limit (object_of m) x r j (op_of o) ≡ dis_step.tests (object_of m) x r j (test_of o)
@@ -270,11 +270,11 @@ module _ (m : Module) (proper : IsProper m) (k : Bool) (n : ℕ) (others : ℕ �
         by_test : (t : Bool) → test_of o (number_of (p.frame.slots left)) (number_of (p.frame.slots right)) ≡ t → D (dis_step.branch x r t (place M p.frame.pc + 3))
         by_test true q =
             let here : place M p.frame.pc + 3 ≡ 3 + place M p.frame.pc = omega arith in
-            rests m k n others w p (paces.place m r) k x _ (λ e. e)
+            rests m k n x w p (paces.place m r) k x _ (λ e. e)
             (result {o = o} {into = into} {left = left} {right = right} (kept_word its_word (is_one ∙ sym (compared_is true q)) here) refl is) ws
             (further offset b h i e 3 (place M p.frame.pc + 3) (omega (arith, off)) (let f = four in omega (arith, f)) here)
         by_test false q =
             let here : suc r.frame.pc ≡ 2 + place M p.frame.pc = let z = h.frame.here in omega (arith, z, off) in
-            rests m k n others w p (paces.place m r) k x _ (λ e. e)
+            rests m k n x w p (paces.place m r) k x _ (λ e. e)
             (fails {o = o} {into = into} {left = left} {right = right} (kept_one is_one here) refl is (compared_is false q)) ws
             (further offset b h i e 2 (suc r.frame.pc) (omega (arith, off)) (let f = four in omega (arith, f)) here)

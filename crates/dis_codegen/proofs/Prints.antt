@@ -3,16 +3,15 @@ use Rattle.std.proofs.Common.{◌≡◌, ℕ, zero, suc, ℤ, pos, ◌+◌, ◌-
 use Rattle.std.specs.Prelude.{slice_get, slice_set, drop, replicate}
 use Rattle.std.proofs.lemmas.Bool.{eq-eqb}
 use Rattle.std.proofs.lemmas.List.{length-map}
-use Rattle.process_model.specs.Alone as alone
 use Rattle.dis_isa.specs.declared.inst.Middle.TheVariants as middle
 use Rattle.dis_isa.specs.declared.inst.Operand.TheVariants as operand
 use Rattle.dis_isa.specs.declared.op.Op.TheVariants as op
 use Rattle.limbo_typed.specs.Typed.{Piece}
 use Rattle.limbo_typed.specs.Proper.{holes}
-use Rattle.limbo_meaning.specs.Values.{Value}
-use Rattle.limbo_meaning.specs.World as outside
-use Rattle.limbo_meaning.specs.Prints.{Printing, Answers, Requests, NoReply, text_of, print}
-use Rattle.limbo_meaning.specs.Runs.{frames_limit}
+use Rattle.system_model.specs.Values.{Value}
+use Rattle.system_model.specs.World as outside
+use Rattle.system_model.specs.Prints.{Printing, Answers, Requests, NoReply, text_of, print}
+use Rattle.system_model.specs.Limits.{frames_limit}
 use Rattle.core_code.specs.Code as core
 use Rattle.core_code.specs.Code.{Inst, Function, Module, bodies}
 use Rattle.core_code.specs.Machine as machine
@@ -37,7 +36,7 @@ use Rattle.dis_codegen.specs.Paces as paces
 use Rattle.dis_codegen.proofs.Memory.{at_word, replaced_fit, stored_at, word_plain}
 use Rattle.dis_codegen.proofs.Instructions.{frame, movp, mcall}
 use Rattle.dis_codegen.proofs.Lookups.{HasAt, Coded, has_back, arguments_length, print_type_is}
-use Rattle.dis_codegen.proofs.Runs.{slots_behind, slots_put, behind_at, behind_stored, place_on, rests, steps_once, remade, stack_same, linkage_kept}
+use Rattle.dis_codegen.proofs.Runs.{slots_behind, slots_put, behind_at, behind_stored, place_on, rests, at_once, steps_once, remade, stack_same, linkage_kept}
 use Rattle.dis_codegen.proofs.Data.{data_read, text_read, block_kept}
 use Rattle.dis_codegen.proofs.Far.{NoneHas, made_stored, own_stored}
 use Rattle.dis_codegen.proofs.Texts.{format_is, numbers_are, get_seam, set_seam, drop_seam, rows_seam, zeros_plain, blank_print, most_of}
@@ -45,12 +44,12 @@ use Rattle.dis_codegen.proofs.Frames.{rows, ArePlain, taken_length}
 use Rattle.dis_codegen.proofs.Simple.{Done, core_is}
 use Rattle.dis_codegen.proofs.Calls.{G, by, on, further, there_is, coded_as, proper_as, none_above, not_own, not_below, in_made_is, passes, addresses, with_other, still, still_made}
 
-module _ (m : Module) (proper : IsProper m) (k : Bool) (n : ℕ) (others : ℕ → ℕ) (w : outside.World) (x : World) (ws : WorldStands m k w x) (p : machine.Process) (r : Process) where
+module _ (m : Module) (proper : IsProper m) (k : Bool) (n : ℕ) (w : outside.World) (x : World) (ws : WorldStands m k w x) (p : machine.Process) (r : Process) where
   abbrev D : dis.Does → Type 0
-  D e = Done m proper k n others w x ws p r e
+  D e = Done m proper k n w x ws p r e
 
   abbrev Goal' : Type 0
-  Goal' = G m proper k n others w x ws p r
+  Goal' = G m proper k n w x ws p r
 
   -- ---- a format: the frame is made
 
@@ -85,18 +84,18 @@ module _ (m : Module) (proper : IsProper m) (k : Bool) (n : ℕ) (others : ℕ �
     pub format_goes : Goal'
     format_goes =
         let i = core.Format pieces in
-        let cd = coded_as m proper k n others w x ws p r 0 b [] h i e in
+        let cd = coded_as m proper k n w x ws p r 0 b [] h i e in
         let C = context m.functions p.frame.function O in
         let at : suc r.frame.pc ≡ 1 + place C p.frame.pc = let z = h.frame.here in omega (arith, z) in
-        by m proper k n others w x ws p r 0 b [] h i e _ _ (place C p.frame.pc) (omega arith) cd.code.0
+        by m proper k n w x ws p r 0 b [] h i e _ _ (place C p.frame.pc) (omega arith) cd.code.0
         (frame frames_limit (object_of m) x r (suc (length m.functions)) (slot O.slots) (print_desc m.functions) (Own (slot_offset O.slots)) _ (print_type_is m) refl
         (behind_stored O p.frame.slots b r.frame.words h.frame.has x r (made_at new) refl tt))
-        (rests m k n others w p (paces.place m r) k x with_new (λ e. e)
+        (rests m k n x w p (paces.place m r) k x with_new (λ e. e)
         (formats {pieces = pieces} {made = new}
-        (on m proper k n others w x ws p r 0 b [] h i e (slice_set r.frame.words (8 + O.slots) (made_at new)) (made_at new) (r.made ++ new ∷ []) (new ∷ []) (suc r.frames) 1 at
+        (on m proper k n w x ws p r 0 b [] h i e (slice_set r.frame.words (8 + O.slots) (made_at new)) (made_at new) (r.made ++ new ∷ []) (new ∷ []) (suc r.frames) 1 at
         (slots_behind O p.frame.slots b r.frame.words h.frame.has (made_at new) tt) (linkage_kept r.frame.words O.slots (made_at new)) (omega arith) (ap (λ l. l ++ new ∷ []) h.frames))
         refl (record { later = h.fresh; given = omega arith; instance = h.frame.instance }) for_format) ws
-        (further m proper k n others w x ws p r 0 b [] h i e 1 (suc r.frame.pc) (omega arith) (omega arith) at))
+        (further m proper k n w x ws p r 0 b [] h i e 1 (suc r.frame.pc) (omega arith) (omega arith) at))
 
   -- ---- a format: the text is there
 
@@ -150,18 +149,18 @@ module _ (m : Module) (proper : IsProper m) (k : Bool) (n : ℕ) (others : ℕ �
     }
 
     there : slice_get R.code p.frame.pc ≡ Some (core.Format pieces)
-    there = there_is m proper k n others w x ws p r 1 (made_at made) (made ∷ []) h (core.Format pieces) e
+    there = there_is m proper k n w x ws p r 1 (made_at made) (made ∷ []) h (core.Format pieces) e
 
     next_is : PrintsAt R (suc p.frame.pc) (holes pieces)
-    next_is = proper_as m proper k n others w x ws p r 1 (made_at made) (made ∷ []) h (core.Format pieces) e
+    next_is = proper_as m proper k n w x ws p r 1 (made_at made) (made ∷ []) h (core.Format pieces) e
 
-    abbrev runs : (serial : ℕ) → Running m k core_formatted (with_other m proper k n others w x ws p r 1 made h is (texted serial)) 0 (made_at made) (texted serial ∷ [])
+    abbrev runs : (serial : ℕ) → Running m k core_formatted (with_other m proper k n w x ws p r 1 made h is (texted serial)) 0 (made_at made) (texted serial ∷ [])
     runs serial =
         remade m k p r 1 (made_at made) (made ∷ []) h p.frame.slots r.frame.words (made_at made) (suc p.frame.pc) (core.Print next_is.args next_is.count next_is.into) pieces None (texted serial ∷ []) (texted serial ∷ []) r.frames 0 (suc r.frame.pc) None
         next_is.there (let z = h.frame.here in let a = place_on C p.frame.pc (core.Format pieces) there in omega (arith, z, a)) h.frame.has refl (omega arith) refl
 
     -- Behind the format is a print.
-    ready : (serial : ℕ) → slice_get (opening_blocks (module_data m.functions)) serial ≡ Some (memory.Text (format_text pieces)) → (count : ℕ) → next_is.count ≡ count → Ready m k core_formatted (with_other m proper k n others w x ws p r 1 made h is (texted serial))
+    ready : (serial : ℕ) → slice_get (opening_blocks (module_data m.functions)) serial ≡ Some (memory.Text (format_text pieces)) → (count : ℕ) → next_is.count ≡ count → Ready m k core_formatted (with_other m proper k n w x ws p r 1 made h is (texted serial))
     ready serial text zero z =
         passed {args = next_is.args} {n = zero} {into = next_is.into} {made = texted serial} (runs serial) (ap (λ c. core.Print next_is.args c next_is.into) z) (let e = next_is.enough in omega (arith, e, z))
         (record { later = is.later; given = is.given; instance = is.instance }) (for_print serial text)
@@ -172,13 +171,13 @@ module _ (m : Module) (proper : IsProper m) (k : Bool) (n : ℕ) (others : ℕ �
     pub formats_goes : Goal'
     formats_goes =
         let i = core.Format pieces in
-        let cd = coded_as m proper k n others w x ws p r 1 (made_at made) (made ∷ []) h i e in
+        let cd = coded_as m proper k n w x ws p r 1 (made_at made) (made ∷ []) h i e in
         let t = text_read m k w x r ws h.frame.instance cd.datum (format_text pieces) cd.held.0 in
-        by m proper k n others w x ws p r 1 (made_at made) (made ∷ []) h i e _ _ (suc (place C p.frame.pc)) (omega arith) cd.code.1.0
+        by m proper k n w x ws p r 1 (made_at made) (made ∷ []) h i e _ _ (suc (place C p.frame.pc)) (omega arith) cd.code.1.0
         (movp frames_limit (object_of m) x r (operand.Mp (datum_offset cd.datum)) (in_made R.slots (pos 32)) (Refer (Some t.serial)) (Some t.serial) (Far (InFrame made.serial) (pos 0 +ℤ pos 32)) _ t.word refl
-        (in_made_is m proper k n others w x ws p r 1 made h is 32)
-        (made_stored x r made h.frames (not_own m proper k n others w x ws p r 1 made h is) (not_below m proper k n others w x ws p r 1 made h is) (pos 0 +ℤ pos 32) (Refer (Some t.serial)) (text_words t.serial) (text_stored t.serial)))
-        (steps_once m k n others w p (paces.place m r) w core_formatted x (with_other m proper k n others w x ws p r 1 made h is (texted t.serial))
+        (in_made_is m proper k n w x ws p r 1 made h is 32)
+        (made_stored x r made h.frames (not_own m proper k n w x ws p r 1 made h is) (not_below m proper k n w x ws p r 1 made h is) (pos 0 +ℤ pos 32) (Refer (Some t.serial)) (text_words t.serial) (text_stored t.serial)))
+        (steps_once m k n x w p (paces.place m r) w core_formatted x (with_other m proper k n w x ws p r 1 made h is (texted t.serial))
         (core_is m w p R i h.frame.found there) (ready t.serial t.text next_is.count refl) ws)
 
   -- ---- a print
@@ -194,13 +193,13 @@ module _ (m : Module) (proper : IsProper m) (k : Bool) (n : ℕ) (others : ℕ �
     i = core.Print args count into
 
     cd : Coded T (object_of m).insts (module_data m.functions) (place T p.frame.pc) p.frame.pc i
-    cd = coded_as m proper k n others w x ws p r offset (made_at made) (made ∷ []) h i e
+    cd = coded_as m proper k n w x ws p r offset (made_at made) (made ∷ []) h i e
 
     pr : AreInts S args count × IsInt S into × Runs S (suc p.frame.pc)
-    pr = proper_as m proper k n others w x ws p r offset (made_at made) (made ∷ []) h i e
+    pr = proper_as m proper k n w x ws p r offset (made_at made) (made ∷ []) h i e
 
     there_print : slice_get S.code p.frame.pc ≡ Some i
-    there_print = there_is m proper k n others w x ws p r offset (made_at made) (made ∷ []) h i e
+    there_print = there_is m proper k n w x ws p r offset (made_at made) (made ∷ []) h i e
 
     tail_code : HasAt (object_of m).insts (place T p.frame.pc + moved_size count) (answer_to S.slots into ∷ inst op.Mcall (slot S.slots) (middle.Imm (pos 16)) sys_word ∷ [])
     tail_code =
@@ -220,10 +219,10 @@ module _ (m : Module) (proper : IsProper m) (k : Bool) (n : ℕ) (others : ℕ �
         let words = slice_set made.words 4 answer_address in
         let at : suc r.frame.pc ≡ suc (moved_size count) + place T p.frame.pc = let z = h.frame.here in omega (arith, z, off) in
         let linkage_at : slice_get made.words 4 ≡ Some its.linkage = ap (λ l. slice_get l 4) its.words ∙ get_seam its.front its.linkage _ 4 its.long in
-        by m proper k n others w x ws p r offset (made_at made) (made ∷ []) h i e _ _ (place T p.frame.pc + moved_size count) (omega (arith, off)) tail_code.0
-        (addresses m proper k n others w x ws p r offset made h is into its.linkage pr.1 linkage_at its.is_plain)
-        (rests m k n others w p (paces.place m r) k x (with_other m proper k n others w x ws p r offset made h is (with_words made words)) (λ e. e)
-        (prints {args = args} {n = count} {into = into} {made = with_words made words} (still m proper k n others w x ws p r offset made h is i e words (suc (moved_size count)) at) refl enough (still_made m proper k n others w x ws p r offset made h is words)
+        by m proper k n w x ws p r offset (made_at made) (made ∷ []) h i e _ _ (place T p.frame.pc + moved_size count) (omega (arith, off)) tail_code.0
+        (addresses m proper k n w x ws p r offset made h is into its.linkage pr.1 linkage_at its.is_plain)
+        (rests m k n x w p (paces.place m r) k x (with_other m proper k n w x ws p r offset made h is (with_words made words)) (λ e. e)
+        (prints {args = args} {n = count} {into = into} {made = with_words made words} (still m proper k n w x ws p r offset made h is i e words (suc (moved_size count)) at) refl enough (still_made m proper k n w x ws p r offset made h is words)
         (record {
           linkage = answer_address;
           is_plain = tt;
@@ -237,7 +236,7 @@ module _ (m : Module) (proper : IsProper m) (k : Bool) (n : ℕ) (others : ℕ �
           all = its.all;
           words = ap (λ l. slice_set l 4 answer_address) its.words ∙ set_seam its.front its.linkage _ 4 answer_address its.long;
         }) refl) ws
-        (further m proper k n others w x ws p r offset (made_at made) (made ∷ []) h i e (suc (moved_size count)) (suc r.frame.pc) (omega (arith, off)) (omega arith) at))
+        (further m proper k n w x ws p r offset (made_at made) (made ∷ []) h i e (suc (moved_size count)) (suc r.frame.pc) (omega (arith, off)) (omega arith) at))
 
     -- ---- the call
 
@@ -324,7 +323,7 @@ module _ (m : Module) (proper : IsProper m) (k : Bool) (n : ℕ) (others : ℕ �
     by_printing : (g : Printing) → print w (text_of p.frame.format its_args) ≡ g → offset ≡ suc (moved_size count) → (e : dis.Does) → dis_step.prints x after_print (InFrame r.frame.serial) (slot_offset into) g ≡ Found e → D e
     by_printing (Answers v a) q off e f =
         subst D (found_same (sym (ap (λ c. c >>= λ m. Found (dis_step.next m)) (answer_stored v a)) ∙ f))
-        (steps_once m k n others w p (paces.place m r) v _ (outside_is x v) _ (core_prints ∙ ap (machine.prints w p into) q)
+        (steps_once m k n x w p (paces.place m r) v _ (outside_is x v) _ (core_prints ∙ ap (machine.prints w p into) q)
         (begins
         (remade m k p r offset (made_at made) (made ∷ []) h (put p.frame.slots into a) (slice_set r.frame.words (8 + into) (word_of a)) (made_at made) (suc p.frame.pc) pr.2.inst p.frame.format None [] [] r.frames 0 (suc r.frame.pc) None
         pr.2.there (let z = h.frame.here in let s = place_on T p.frame.pc i there_print in omega (arith, z, s, off)) (slots_put S p.frame.slots (made_at made) r.frame.words h.frame.has into a pr.1) (linkage_kept r.frame.words into (word_of a)) (omega arith) refl)
@@ -333,10 +332,10 @@ module _ (m : Module) (proper : IsProper m) (k : Bool) (n : ℕ) (others : ℕ �
         subst D (found_same f)
         (record {
           now = k;
-          grown = λ e. e;
+          changes = λ e. e;
           world = v;
           after = record { number = p.number; frame = machine.waiting p.frame (suc p.frame.pc) into; below = p.below; printing = Some kk };
-          comes = record { steps = 0; world = w; before = p; alone = alone.here; does = core_prints ∙ ap (machine.prints w p into) q };
+          comes = at_once m k n x w p (paces.place m r) _ (core_prints ∙ ap (machine.prints w p into) q);
           related = record {
             loaded = h.loaded;
             number = h.number;
@@ -348,7 +347,7 @@ module _ (m : Module) (proper : IsProper m) (k : Bool) (n : ℕ) (others : ℕ �
             printing = refl;
             printing_too = refl;
           };
-          settles = record { worlds = outside_stands v; gone = tt };
+          worlds = outside_stands v;
         })
     by_printing NoReply q off e f = absurd (no_reply (text_of p.frame.format its_args) q)
 
@@ -358,7 +357,7 @@ module _ (m : Module) (proper : IsProper m) (k : Bool) (n : ℕ) (others : ℕ �
         let text = text_of p.frame.format its_args in
         let at : suc (place T p.frame.pc + moved_size count) ≡ offset + place T p.frame.pc = omega (arith, off) in
         let c = comes_to (print w text) in
-        by m proper k n others w x ws p r offset (made_at made) (made ∷ []) h i e _ c.effect (suc (place T p.frame.pc + moved_size count)) at tail_code.1.0
+        by m proper k n w x ws p r offset (made_at made) (made ∷ []) h i e _ c.effect (suc (place T p.frame.pc + moved_size count)) at tail_code.1.0
         (mcall frames_limit (object_of m) x r (slot S.slots) sys_word 16 (made_at made) (Refer ws.sys) made ws.sys (memory.Sys (names sys_imports)) (codes "print") c.effect
         (behind_at S p.frame.slots (made_at made) r.frame.words h.frame.has) frame_found
         (data_read m k w x r ws h.frame.instance 4 1 (Refer ws.sys) refl refl) refl
@@ -396,7 +395,7 @@ module _ (m : Module) (proper : IsProper m) (k : Bool) (n : ℕ) (others : ℕ �
     long9 = let a = length-append its.front (its.linkage ∷ (its.more ++ Refer (Some its.serial) ∷ [])) in let b = length-append its.more (Refer (Some its.serial) ∷ []) in let c = its.long in let d = its.long_more in omega (arith, a, b, c, d)
 
     room : suc c ≤ its.zeros
-    room = let a = its.all in let b = most_of m.functions p.frame.function U p.frame.pc args (suc c) into h.frame.found (there_is m proper k n others w x ws p r 0 (made_at made) (made ∷ []) h (core.Print args (suc c) into) e) in omega (arith, a, b)
+    room = let a = its.all in let b = most_of m.functions p.frame.function U p.frame.pc args (suc c) into h.frame.found (there_is m proper k n w x ws p r 0 (made_at made) (made ∷ []) h (core.Print args (suc c) into) e) in omega (arith, a, b)
 
     long_words : length (map word_of vs) ≡ suc c
     long_words = length-map vs word_of ∙ taken_length p.frame.slots args (suc c)
@@ -414,14 +413,14 @@ module _ (m : Module) (proper : IsProper m) (k : Bool) (n : ℕ) (others : ℕ �
     pub formatted_goes : holes p.frame.format ≤ suc c → Goal'
     formatted_goes enough =
         let i = core.Print args (suc c) into in
-        let cd = coded_as m proper k n others w x ws p r 0 (made_at made) (made ∷ []) h i e in
-        let pr = proper_as m proper k n others w x ws p r 0 (made_at made) (made ∷ []) h i e in
+        let cd = coded_as m proper k n w x ws p r 0 (made_at made) (made ∷ []) h i e in
+        let pr = proper_as m proper k n w x ws p r 0 (made_at made) (made ∷ []) h i e in
         let words = rows made.words 9 (map word_of vs) in
         let at : suc r.frame.pc ≡ moved_size (suc c) + place V p.frame.pc = let z = h.frame.here in omega (arith, z) in
-        by m proper k n others w x ws p r 0 (made_at made) (made ∷ []) h i e _ _ (place V p.frame.pc) (omega arith) cd.code.0
-        (passes m proper k n others w x ws p r 0 made h is args c cd.datum 36 9 pr.0 cd.held refl are_plain)
-        (rests m k n others w p (paces.place m r) k x (with_other m proper k n others w x ws p r 0 made h is (with_words made words)) (λ e. e)
-        (passed {args = args} {n = suc c} {into = into} {made = with_words made words} (still m proper k n others w x ws p r 0 made h is i e words (moved_size (suc c)) at) refl enough (still_made m proper k n others w x ws p r 0 made h is words)
+        by m proper k n w x ws p r 0 (made_at made) (made ∷ []) h i e _ _ (place V p.frame.pc) (omega arith) cd.code.0
+        (passes m proper k n w x ws p r 0 made h is args c cd.datum 36 9 pr.0 cd.held refl are_plain)
+        (rests m k n x w p (paces.place m r) k x (with_other m proper k n w x ws p r 0 made h is (with_words made words)) (λ e. e)
+        (passed {args = args} {n = suc c} {into = into} {made = with_words made words} (still m proper k n w x ws p r 0 made h is i e words (moved_size (suc c)) at) refl enough (still_made m proper k n w x ws p r 0 made h is words)
         (record {
           linkage = its.linkage;
           is_plain = its.is_plain;
@@ -435,4 +434,4 @@ module _ (m : Module) (proper : IsProper m) (k : Bool) (n : ℕ) (others : ℕ �
           all = let a = its.all in let b = room in let l = taken_length p.frame.slots args (suc c) in omega (arith, a, b, l);
           words = rows_are;
         })) ws
-        (further m proper k n others w x ws p r 0 (made_at made) (made ∷ []) h i e (moved_size (suc c)) (suc r.frame.pc) (omega arith) (omega arith) at))
+        (further m proper k n w x ws p r 0 (made_at made) (made ∷ []) h i e (moved_size (suc c)) (suc r.frame.pc) (omega arith) (omega arith) at))

@@ -1,14 +1,13 @@
 -- Returns.
 use Rattle.std.proofs.Common.{◌≡◌, ℕ, suc, pos, ◌+◌, ◌*◌, Bool, List, [], ◌∷◌, Some, refl, sym, ap, ◌∙◌, subst, arith}
 use Rattle.std.specs.Prelude.{slice_get, slice_set}
-use Rattle.process_model.specs.Alone as alone
 use Rattle.dis_isa.specs.declared.inst.Middle.TheVariants as middle
 use Rattle.dis_isa.specs.declared.inst.Operand.{Operand}
 use Rattle.dis_isa.specs.declared.inst.Operand.TheVariants as operand
 use Rattle.dis_isa.specs.declared.op.Op.TheVariants as op
-use Rattle.limbo_meaning.specs.Values.{Value, zero_value}
-use Rattle.limbo_meaning.specs.World as outside
-use Rattle.limbo_meaning.specs.Runs.{frames_limit}
+use Rattle.system_model.specs.Values.{Value, zero_value}
+use Rattle.system_model.specs.World as outside
+use Rattle.system_model.specs.Limits.{frames_limit}
 use Rattle.core_code.specs.Code as core
 use Rattle.core_code.specs.Code.{Inst, Function, Module, bodies}
 use Rattle.core_code.specs.Machine as machine
@@ -29,17 +28,17 @@ use Rattle.dis_codegen.specs.Paces as paces
 use Rattle.dis_codegen.proofs.Memory.{at_word, stored_at, word_plain}
 use Rattle.dis_codegen.proofs.Instructions.{movw}
 use Rattle.dis_codegen.proofs.Lookups.{HasAt, coded}
-use Rattle.dis_codegen.proofs.Runs.{slots_put, slots_behind, step_is, rests, steps_once, stack_same, linkage_kept}
+use Rattle.dis_codegen.proofs.Runs.{slots_put, slots_behind, step_is, rests, at_once, steps_once, stack_same, linkage_kept}
 use Rattle.dis_codegen.proofs.Far.{own_stored, below_stored}
 use Rattle.dis_codegen.proofs.Simple.{Done, core_is, slot_source}
 use Rattle.dis_codegen.proofs.Calls.{G, by, further, there_is, coded_as, proper_as, none_above}
 
-module _ (m : Module) (proper : IsProper m) (k : Bool) (n : ℕ) (others : ℕ → ℕ) (w : outside.World) (x : World) (ws : WorldStands m k w x) (p : machine.Process) (r : Process) where
+module _ (m : Module) (proper : IsProper m) (k : Bool) (n : ℕ) (w : outside.World) (x : World) (ws : WorldStands m k w x) (p : machine.Process) (r : Process) where
   abbrev D : dis.Does → Type 0
-  D e = Done m proper k n others w x ws p r e
+  D e = Done m proper k n w x ws p r e
 
   abbrev Goal' : Type 0
-  Goal' = G m proper k n others w x ws p r
+  Goal' = G m proper k n w x ws p r
 
   -- ---- the answer is stored
 
@@ -65,7 +64,7 @@ module _ (m : Module) (proper : IsProper m) (k : Bool) (n : ℕ) (others : ℕ �
     -- By a store to there.
     by_store : (where_to : Place) (s : ℕ) (after : Memory) → AnswersTo r.frame.words where_to (slot_offset s) → store x r (Far where_to (slot_offset s)) (word_of v) ≡ Found after → D (dis_step.next after) → Goal'
     by_store where_to s after a stored done =
-        by m proper k n others w x ws p r 0 b [] h i e _ _ (place C p.frame.pc) (omega arith) has.0
+        by m proper k n w x ws p r 0 b [] h i e _ _ (place C p.frame.pc) (omega arith) has.0
         (movw frames_limit (object_of m) x r source answer_word (word_of v) (Far where_to (slot_offset s)) after reads (spot_is where_to s a) stored) done
 
     by_stack : (gs : List machine.Frame) (rs : List Frame) → p.below ≡ gs → r.below ≡ rs → StackStands m F r.frame gs rs → Goal'
@@ -75,17 +74,17 @@ module _ (m : Module) (proper : IsProper m) (k : Bool) (n : ℕ) (others : ℕ �
         by_store (InFrame r.frame.serial) F.slots (record { world = x; process = after }) st
         (own_stored x r h.frames (none_above m F r.frame p.below r.below r.frame.serial (omega arith) h.stack) (slot_offset F.slots) (word_of v) words
         (stored_at r.frame.words (32 + 4 * F.slots) (8 + F.slots) b (word_of v) (omega arith) h.frame.has.behind h.frame.has.is_plain (word_plain v)))
-        (rests m k n others w p (paces.place m r) k x (with_frames r (at_pc (with_words r.frame words) (suc r.frame.pc)) r.below []) (λ e. e)
+        (rests m k n x w p (paces.place m r) k x (with_frames r (at_pc (with_words r.frame words) (suc r.frame.pc)) r.below []) (λ e. e)
         (returns {w = word_of v} v (record {
           loaded = h.loaded;
           number = h.number;
-          frame = record { function = F; found = h.frame.found; inst = i; there = there_is m proper k n others w x ws p r 0 b [] h i e; here = at_ret; instance = h.frame.instance; has = slots_behind F p.frame.slots b r.frame.words h.frame.has (word_of v) (word_plain v) };
+          frame = record { function = F; found = h.frame.found; inst = i; there = there_is m proper k n w x ws p r 0 b [] h i e; here = at_ret; instance = h.frame.instance; has = slots_behind F p.frame.slots b r.frame.words h.frame.has (word_of v) (word_plain v) };
           stack = subst (λ gs. StackStands m F (at_pc (with_words r.frame words) (suc r.frame.pc)) (answered v gs) r.below) (sym pe)
               (subst (λ rs. StackStands m F (at_pc (with_words r.frame words) (suc r.frame.pc)) [] rs) (sym re) (linkage_kept r.frame.words F.slots (word_of v) ∙ st));
           frames = refl;
           fresh = h.fresh;
         }) gives) ws
-        (further m proper k n others w x ws p r 0 b [] h i e 1 (suc r.frame.pc) (omega arith) (omega (arith, two)) at_ret))
+        (further m proper k n w x ws p r 0 b [] h i e 1 (suc r.frame.pc) (omega arith) (omega (arith, two)) at_ret))
     by_stack (g ∷ gs) (f ∷ fs) pe re st =
         let into = st.0.stands.function in
         let words = slice_set f.words (8 + g.into) (word_of v) in
@@ -93,11 +92,11 @@ module _ (m : Module) (proper : IsProper m) (k : Bool) (n : ℕ) (others : ℕ �
         by_store (InFrame f.serial) g.into (record { world = x; process = after }) st.1
         (below_stored x r f fs re h.frames (λ e. let lt = st.2 in absurd (omega (arith, e, lt))) (none_above m into f gs fs f.serial (omega arith) st.3) (slot_offset g.into) (word_of v) words
         (stored_at f.words (32 + 4 * g.into) (8 + g.into) (word_of (g.slots g.into)) (word_of v) (omega arith) (st.0.stands.has.ints g.into st.0.into) (word_plain (g.slots g.into)) (word_plain v)))
-        (rests m k n others w p (paces.place m r) k x (with_frames r (at_pc r.frame (suc r.frame.pc)) (with_words f words ∷ fs) []) (λ e. e)
+        (rests m k n x w p (paces.place m r) k x (with_frames r (at_pc r.frame (suc r.frame.pc)) (with_words f words ∷ fs) []) (λ e. e)
         (returns {w = b} v (record {
           loaded = h.loaded;
           number = h.number;
-          frame = record { function = F; found = h.frame.found; inst = i; there = there_is m proper k n others w x ws p r 0 b [] h i e; here = at_ret; instance = h.frame.instance; has = h.frame.has };
+          frame = record { function = F; found = h.frame.found; inst = i; there = there_is m proper k n w x ws p r 0 b [] h i e; here = at_ret; instance = h.frame.instance; has = h.frame.has };
           stack = subst (λ gs. StackStands m F (at_pc r.frame (suc r.frame.pc)) (answered v gs) (with_words f words ∷ fs)) (sym pe) (
             record {
               made = st.0.made;
@@ -120,7 +119,7 @@ module _ (m : Module) (proper : IsProper m) (k : Bool) (n : ℕ) (others : ℕ �
           frames = refl;
           fresh = h.fresh;
         }) gives) ws
-        (further m proper k n others w x ws p r 0 b [] h i e 1 (suc r.frame.pc) (omega arith) (omega (arith, two)) at_ret))
+        (further m proper k n w x ws p r 0 b [] h i e 1 (suc r.frame.pc) (omega arith) (omega (arith, two)) at_ret))
     by_stack [] (f ∷ fs) pe re st = absurd st
     by_stack (g ∷ gs) [] pe re st = absurd st
 
@@ -130,10 +129,10 @@ module _ (m : Module) (proper : IsProper m) (k : Bool) (n : ℕ) (others : ℕ �
   pub return_goes : (b : Word) (h : Running m k p r 0 b []) (s : ℕ) → h.frame.inst ≡ core.Return s → Goal'
   return_goes b h s e =
       let i = core.Return s in
-      stores_answer b h i e (slot s) (p.frame.slots s) refl refl (slot_source m proper k n others w x ws p r 0 b [] h s (proper_as m proper k n others w x ws p r 0 b [] h i e)) (coded_as m proper k n others w x ws p r 0 b [] h i e).code
+      stores_answer b h i e (slot s) (p.frame.slots s) refl refl (slot_source m proper k n w x ws p r 0 b [] h s (proper_as m proper k n w x ws p r 0 b [] h i e)) (coded_as m proper k n w x ws p r 0 b [] h i e).code
 
   pub leave_goes : (b : Word) (h : Running m k p r 0 b []) → h.frame.inst ≡ core.Leave → Goal'
-  leave_goes b h e = stores_answer b h core.Leave e (operand.Imm (pos 0)) zero_value refl refl refl (coded_as m proper k n others w x ws p r 0 b [] h core.Leave e).code
+  leave_goes b h e = stores_answer b h core.Leave e (operand.Imm (pos 0)) zero_value refl refl refl (coded_as m proper k n w x ws p r 0 b [] h core.Leave e).code
 
   -- ---- the frame goes
 
@@ -176,14 +175,14 @@ module _ (m : Module) (proper : IsProper m) (k : Bool) (n : ℕ) (others : ℕ �
         subst (λ rs. D (dis_step.returns x r rs)) (sym re)
         (record {
           now = k;
-          grown = λ e. e;
+          changes = λ e. e;
           world = w;
-          comes = record { steps = 0; world = w; before = p; alone = alone.here; does = st ∙ ap (λ gs. machine.returns w p gs v) pe };
-          settles = record { worlds = ws; gone = tt };
+          comes = at_once m k n x w p (paces.place m r) _ (st ∙ ap (λ gs. machine.returns w p gs v) pe);
+          worlds = ws;
         })
     by_frames (g ∷ gs) (f ∷ fs) pe re st stack =
         subst (λ rs. D (dis_step.returns x r rs)) (sym re)
-        (steps_once m k n others w p (paces.place m r) w (machine.with_frames p (machine.moved g g.pc (put g.slots g.into v)) gs) x (with_frames r f fs r.made) (st ∙ ap (λ gs. machine.returns w p gs v) pe)
+        (steps_once m k n x w p (paces.place m r) w (machine.with_frames p (machine.moved g g.pc (put g.slots g.into v)) gs) x (with_frames r f fs r.made) (st ∙ ap (λ gs. machine.returns w p gs v) pe)
         (begins {w = stack.0.made} (record {
           loaded = h.loaded;
           number = h.number;

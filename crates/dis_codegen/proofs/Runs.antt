@@ -2,19 +2,23 @@
 use Rattle.std.proofs.Common.{◌≡◌, ℕ, zero, suc, ◌+◌, ◌*◌, ◌<◌, ◌≤◌, Bool, true, List, [], ◌∷◌, Option, Some, refl, sym, ap, ◌∙◌, subst, arith, ◌⊎◌, inl, inr}
 use Rattle.std.specs.Prelude.{slice_get, slice_set, take}
 use Rattle.std.proofs.lemmas.Bool.{cases_eq}
-use Rattle.process_model.specs.Process.{Went}
-use Rattle.process_model.specs.Alone.{here, on}
+use Rattle.process_model.specs.Process.{Effect, Went}
+use Rattle.process_model.specs.Alone.{no_loss, one_loss, Comes}
+use Rattle.process_model.specs.Plain.{no_names}
+use Rattle.process_model.proofs.Quiet.{quiets_none}
 use Rattle.process_model.specs.Follows.{Moves}
 use Rattle.dis_isa.specs.declared.inst.Inst as code_inst
 use Rattle.limbo_typed.specs.Typed.{Piece}
-use Rattle.limbo_meaning.specs.Values.{Value}
-use Rattle.limbo_meaning.specs.World as outside
-use Rattle.limbo_meaning.specs.Prints.{Writing}
-use Rattle.limbo_meaning.specs.Runs.{frames_limit}
+use Rattle.system_model.specs.Values.{Value}
+use Rattle.system_model.specs.World as outside
+use Rattle.system_model.specs.Prints.{Writing, Request}
+use Rattle.system_model.specs.Ending.{Ending}
+use Rattle.system_model.specs.Limits.{frames_limit}
 use Rattle.core_code.specs.Code.{Inst, Function, Module, bodies}
 use Rattle.core_code.specs.Machine as machine
 use Rattle.core_code.specs.Machine.{Slots, put}
 use Rattle.core_code.specs.Step as core_step
+use Rattle.core_code.specs.Rules as core_rules
 use Rattle.core_code.specs.Proper.{IsInt}
 use Rattle.core_code.proofs.Slots.{put_same, put_other}
 use Rattle.dis_meaning.specs.Words.{InFrame, Word, Address, Found, ◌>>=◌, type_check, dead_address, or_wrong, word_at, stored, bad_jump}
@@ -99,14 +103,18 @@ step_is m k w x r i e ws z at h =
 
 -- ---- who moves
 
-module _ (m : Module) (k : Bool) (i : ℕ) (others : ℕ → ℕ) (w : outside.World) (p : machine.Process) (at : ℕ) where
+module _ (m : Module) (k : Bool) (i : ℕ) (x0 : World) (w : outside.World) (p : machine.Process) (at : ℕ) where
   -- The other code stands still, and the place rises.
-  pub rests : (now : Bool) (x : World) (r : Process) → (k ≡ true → now ≡ true) → Ready m now p r → WorldStands m now w x → at < paces.place m r → Moves (sides m) k i others (paces.place m) at w p x r
-  rests now x r g h ws lt = record { now = now; grown = g; steps = 0; world = w; after = p; told = []; alone = here; same = tt; related = h; worlds = ws; pace = λ e. lt }
+  pub rests : (now : Bool) (x : World) (r : Process) → (k ≡ true → now ≡ true) → Ready m now p r → WorldStands m now w x → at < paces.place m r → Moves (sides m) (paces.place m) at k i w x0 p x r
+  rests now x r g h ws lt = record { now = now; changes = g; steps = 0; world = w; after = p; burst = no_loss (quiets_none (core_rules.rules frames_limit (bodies m)) no_names w p); related = h; worlds = ws; pace = λ e. lt }
+
+  -- What it does at once.
+  pub at_once : (e : Effect outside.World machine.Process Value Request Ending) → core_step.step frames_limit (bodies m) w p ≡ e → Comes (core_rules.rules frames_limit (bodies m)) no_names w p e
+  at_once e st = record { steps = 0; world = w; before = p; quiets = quiets_none (core_rules.rules frames_limit (bodies m)) no_names w p; does = st }
 
   -- It makes one step.
-  pub steps_once : (w' : outside.World) (p' : machine.Process) (x : World) (r : Process) → core_step.step frames_limit (bodies m) w p ≡ Went w' p' → Ready m k p' r → WorldStands m k w' x → Moves (sides m) k i others (paces.place m) at w p x r
-  steps_once w' p' x r st h ws = record { now = k; grown = λ e. e; steps = 1; world = w'; after = p'; told = []; alone = on st here; same = tt; related = h; worlds = ws; pace = λ e. absurd cc }
+  pub steps_once : (w' : outside.World) (p' : machine.Process) (x : World) (r : Process) → core_step.step frames_limit (bodies m) w p ≡ Went w' p' → Ready m k p' r → WorldStands m k w' x → Moves (sides m) (paces.place m) at k i w x0 p x r
+  steps_once w' p' x r st h ws = record { now = k; changes = λ e. e; steps = 1; world = w'; after = p'; burst = one_loss (quiets_none (core_rules.rules frames_limit (bodies m)) no_names w p) st; related = h; worlds = ws; pace = λ e. absurd cc }
 
 -- ---- what becomes of a process
 

@@ -11,9 +11,9 @@ use Rattle.dis_isa.specs.declared.inst.Middle.TheVariants as middle
 use Rattle.dis_isa.specs.declared.inst.Operand.{Operand}
 use Rattle.dis_isa.specs.declared.op.Op.TheVariants as op
 use Rattle.limbo_typed.specs.Typed.{Operator, Add, Subtract, Multiply, Less, Equal}
-use Rattle.limbo_meaning.specs.Values.{Value, Num, holds}
-use Rattle.limbo_meaning.specs.World as outside
-use Rattle.limbo_meaning.specs.Runs.{frames_limit}
+use Rattle.system_model.specs.Values.{Value, Num, holds}
+use Rattle.system_model.specs.World as outside
+use Rattle.system_model.specs.Limits.{frames_limit}
 use Rattle.core_code.specs.Code as core
 use Rattle.core_code.specs.Code.{Inst, Function, Module, bodies}
 use Rattle.core_code.specs.Machine as machine
@@ -90,9 +90,9 @@ core_is m w p f i e h =
     ap (λ c. core_step.work frames_limit (bodies m) w p (core_step.fetch c p.frame.pc)) (slice_get-map (λ f. f.code) m.functions p.frame.function ∙ ap (option_map (λ f. f.code)) e)
     ∙ ap (core_step.work frames_limit (bodies m) w p) h
 
-module _ (m : Module) (proper : IsProper m) (k : Bool) (n : ℕ) (others : ℕ → ℕ) (w : outside.World) (x : World) (ws : WorldStands m k w x) (p : machine.Process) (r : Process) where
+module _ (m : Module) (proper : IsProper m) (k : Bool) (n : ℕ) (w : outside.World) (x : World) (ws : WorldStands m k w x) (p : machine.Process) (r : Process) where
   abbrev pub Done : dis.Does → Type 0
-  Done e = Matches (sides m) k n others (paces.place m) (paces.place m r) w p e
+  Done e = Matches (sides m) (paces.place m) (paces.place m r) k n w x p e
 
   abbrev pub Goal : Type 0
   Goal = Done (dis_step.step frames_limit (object_of m ∷ []) x r)
@@ -155,7 +155,7 @@ module _ (m : Module) (proper : IsProper m) (k : Bool) (n : ℕ) (others : ℕ �
         core_step.obey frames_limit (bodies m) w p i ≡ machine.goes w p (suc p.frame.pc) (put p.frame.slots s v) →
         Done (dis_step.next (record { world = x; process = with_frames r (with_words r.frame (slice_set r.frame.words (8 + s) (word_of v))) r.below r.made }))
     written i e one s v is on does =
-        steps_once m k n others w p (paces.place m r) w _ x _ (core_as i e ∙ does)
+        steps_once m k n x w p (paces.place m r) w _ x _ (core_as i e ∙ does)
         (begins
         (remade m k p r 0 b [] h (put p.frame.slots s v) (slice_set r.frame.words (8 + s) (word_of v)) b (suc p.frame.pc) on.inst p.frame.format None r.made [] r.frames 0 (suc r.frame.pc) None
         on.there (let z = h.frame.here in let a = place_on C p.frame.pc i (there_as i e) in omega (arith, z, a, one)) (slots_put G p.frame.slots b r.frame.words h.frame.has s v is) (linkage_kept r.frame.words s (word_of v)) (omega arith) h.frames)
@@ -182,7 +182,7 @@ module _ (m : Module) (proper : IsProper m) (k : Bool) (n : ℕ) (others : ℕ �
     -- Both are at another place, and nothing else changed.
     led : (i : Inst) → h.frame.inst ≡ i → (pc : ℕ) → Runs G pc → core_step.obey frames_limit (bodies m) w p i ≡ machine.goes w p pc p.frame.slots → Done (dis_step.jumps x r (place C pc))
     led i e pc on does =
-        steps_once m k n others w p (paces.place m r) w _ x _ (core_as i e ∙ does)
+        steps_once m k n x w p (paces.place m r) w _ x _ (core_as i e ∙ does)
         (begins
         (remade m k p r 0 b [] h p.frame.slots r.frame.words b pc on.inst p.frame.format None r.made [] r.frames 0 (place C pc) None
         on.there (omega arith) h.frame.has refl (omega arith) h.frames)
@@ -192,7 +192,7 @@ module _ (m : Module) (proper : IsProper m) (k : Bool) (n : ℕ) (others : ℕ �
     falls : (i : Inst) → h.frame.inst ≡ i → core_step.obey frames_limit (bodies m) w p i ≡ machine.goes w p (suc p.frame.pc) p.frame.slots → size i ≡ 1 → Runs G (suc p.frame.pc) →
         Done (dis_step.next (record { world = x; process = r }))
     falls i e does one on =
-        steps_once m k n others w p (paces.place m r) w _ x _ (core_as i e ∙ does)
+        steps_once m k n x w p (paces.place m r) w _ x _ (core_as i e ∙ does)
         (begins
         (remade m k p r 0 b [] h p.frame.slots r.frame.words b (suc p.frame.pc) on.inst p.frame.format None r.made [] r.frames 0 (suc r.frame.pc) None
         on.there (let z = h.frame.here in let a = place_on C p.frame.pc i (there_as i e) in omega (arith, z, a, one)) h.frame.has refl (omega arith) h.frames)

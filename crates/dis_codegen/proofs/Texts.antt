@@ -5,8 +5,8 @@ use Rattle.std.proofs.lemmas.Bool.{eqb-true}
 use Rattle.std.specs.Prelude.{slice_get, slice_set, drop, replicate, ◌==◌}
 use Rattle.limbo_typed.specs.Typed.{Piece, Chars, Decimal}
 use Rattle.limbo_typed.specs.Proper.{holes}
-use Rattle.limbo_meaning.specs.Values.{Value, Num}
-use Rattle.limbo_meaning.specs.Prints.{decimal_text, text_of}
+use Rattle.system_model.specs.Values.{Value, Num}
+use Rattle.system_model.specs.Prints.{decimal_text, text_of}
 use Rattle.core_code.specs.Code as core
 use Rattle.core_code.specs.Code.{Inst, Function, Module}
 use Rattle.dis_meaning.specs.Words.{Word, Plain, Refer, Found, ◌>>=◌, blanks, blank}

@@ -1,8 +1,12 @@
 -- What the law asks.
 use Rattle.std.proofs.Common.{◌≡◌, ℕ, zero, suc, ◌+◌, ◌-◌, ◌<◌, ◌≤◌, Bool, true, false, List, [], ◌∷◌, ◌++◌, map, Option, Some, None, refl, sym, ◌∙◌, arith, rules, tests, codes, if◌then◌else◌}
 use Rattle.std.specs.Prelude.{nat_lt}
-use Rattle.process_model.specs.Renaming.{Link}
-use Rattle.process_model.specs.Follows.{Follows}
+use Rattle.process_model.specs.Process as doing
+use Rattle.process_model.specs.Process.{Doing}
+use Rattle.process_model.specs.Follows.{StandsAlike, Follows}
+use Rattle.process_model.proofs.NoHeap.{no_heap}
+use Rattle.system_model.specs.Values.{Value}
+use Rattle.dis_meaning.specs.World.{World}
 use Rattle.limbo_typed.specs.Typed.{Operator, Add, Subtract, Multiply, Less, Equal}
 use Rattle.core_code.specs.Code as core
 use Rattle.core_code.specs.Code.{Inst, Function, Module}
@@ -12,7 +16,7 @@ use Rattle.dis_meaning.specs.Words.{Word}
 use Rattle.dis_meaning.specs.Process.{Frame, Process}
 use Rattle.dis_codegen.specs.Code.{operation_size, moved_size, size}
 use Rattle.dis_codegen.specs.Objects.{find, entry_size, entry_length}
-use Rattle.dis_codegen.specs.Stands.{Running, Ready, enters, loads, leaves, begins, compares, fails, result, framed, moved, addressed, formats, formatted, passed, prints, returns, Asking, knowledge, sides}
+use Rattle.dis_codegen.specs.Stands.{Running, Ready, enters, loads, leaves, begins, compares, fails, result, framed, moved, addressed, formats, formatted, passed, prints, returns, Asking, code_and_object, sides}
 use Rattle.dis_codegen.specs.Paces.{all_sizes, within, far, place}
 use Rattle.dis_codegen.proofs.Follows.{goes, answers_alike}
 
@@ -104,26 +108,26 @@ grows_asking m a b p r g h = record { loaded = g h.loaded; number = h.number; wa
 
 -- ---- all of it
 
-pub link : Link knowledge
-link = record {
-  same = λ k e. e;
-  on = λ a b c g h e. h (g e);
-  name_on = λ a b n o g h. h;
-  value_on = λ a b v u g h. h;
-  one = λ k n o o' e f. sym e ∙ f;
-  other = λ k n n' o e f. e ∙ sym f;
-}
+-- No process waits for another, and nothing belongs to one alone.
+pub keeps : (m : Module) (k now : Bool) (i : ℕ) (x x' : World) (d : Doing machine.Process Value) (e : Doing Process Value) → StandsAlike (sides m) k i x (Some d) (Some e) → (k ≡ true → now ≡ true) → StandsAlike (sides m) now i x' (Some d) (Some e)
+keeps m k now i x x' (doing.Ready p) (doing.Ready q) h g = grows m k now p q g h
+keeps m k now i x x' (doing.Asking p) (doing.Asking q) h g = grows_asking m k now p q g h
+keeps m k now i x x' (doing.Waiting bs p) (doing.Waiting cs q) h g = absurd h.1
+keeps m k now i x x' doing.Gone doing.Gone h g = tt
+keeps m k now i x x' _ _ h g = absurd h
 
 unfoldable pub object_follows : (m : Module) → IsProper m → Follows (sides m)
 object_follows m proper = record {
-  link = link;
+  heaps = no_heap (code_and_object m) (λ k e. e) (λ a b c g h e. h (g e));
+  table = λ k i x bs cs p q h. absurd h.1;
+  rooted = λ k i x d e h. tt;
+  keeps = λ k now i x x' d e h g hold. keeps m k now i x x' d e h g;
   place = place m;
   bound = 7;
   some = omega arith;
-  within = λ k p q h. far_small m q.frame.pc;
-  grow = λ a b p q g h. grows m a b p q g h;
-  grow_asking = λ a b p q g h. grows_asking m a b p q g h;
-  each = λ k i others w x p q h ws. goes m proper k i others w x ws p q h;
-  answers = λ k others a w x p q h ws. answers_alike m proper k others w x ws p q h a;
-  meets = λ k others w x bs cs p q j a bs' cs' p' q' l b w1 e1 w2 e2 f ws. record { worlds = ws; gone = tt };
+  within = λ k i x p q h. far_small m q.frame.pc;
+  each = λ k i w x p q h ws. goes m proper k i w x ws p q h;
+  answers = λ k i a w x p q h ws. answers_alike m proper k i w x ws p q h a;
+  downs = λ k l w x x' ws f. absurd cc;
+  meets = λ k i j w x bs cs p q n a a' bs' cs' p' q' l b b' ne h. absurd h.1;
 }

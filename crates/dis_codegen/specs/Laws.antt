@@ -2,10 +2,10 @@
 use Rattle.std.specs.Prelude.{ℕ, ◌≡◌, ◌≤◌, ◌*◌, Bool, false, [], ◌∷◌, length, Some}
 use Rattle.process_model.specs.Process.{Ends}
 use Rattle.process_model.specs.Follows.{Follows}
-use Rattle.limbo_meaning.specs.World as outside
-use Rattle.limbo_meaning.specs.World.{opening_world}
-use Rattle.limbo_meaning.specs.Process.{Faulted}
-use Rattle.limbo_meaning.specs.Runs.{frames_limit}
+use Rattle.system_model.specs.World as outside
+use Rattle.system_model.specs.World.{opening_world}
+use Rattle.system_model.specs.Ending.{Faulted}
+use Rattle.system_model.specs.Limits.{frames_limit}
 use Rattle.core_code.specs.Code.{Module}
 use Rattle.core_code.specs.Machine as machine
 use Rattle.core_code.specs.Rules as core_rules

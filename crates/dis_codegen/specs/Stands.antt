@@ -2,16 +2,15 @@
 -- instructions further, and its words have the slots' values.
 use Rattle.std.specs.Prelude.{ℕ, suc, ℤ, pos, ◌+◌, ◌<◌, ◌≤◌, ◌≡◌, Bool, true, false, List, [], ◌∷◌, ◌++◌, length, map, replicate, Option, Some, None, slice_get, slice_index_or}
 use Rattle.styx_msg.specs.declared.message.Rmsg.{Rmsg}
-use Rattle.process_model.specs.Renaming.{Renaming}
 use Rattle.process_model.specs.Follows.{Sides}
-use Rattle.process_model.specs.Plain.{no_names, no_counts}
+use Rattle.process_model.specs.Plain.{GrowingSides, opened}
 use Rattle.limbo_typed.specs.Typed.{Operator, Less, Equal, Piece}
 use Rattle.limbo_typed.specs.Proper.{holes}
-use Rattle.limbo_meaning.specs.Values.{Value, zero_value, result_of}
-use Rattle.limbo_meaning.specs.World as outside
-use Rattle.limbo_meaning.specs.Prints.{Request, Writing}
-use Rattle.limbo_meaning.specs.Process.{Ending}
-use Rattle.limbo_meaning.specs.Runs.{frames_limit}
+use Rattle.system_model.specs.Values.{Value, zero_value, result_of}
+use Rattle.system_model.specs.World as outside
+use Rattle.system_model.specs.Prints.{Request, Writing}
+use Rattle.system_model.specs.Ending.{Ending}
+use Rattle.system_model.specs.Limits.{frames_limit}
 use Rattle.core_code.specs.Code as core
 use Rattle.core_code.specs.Code.{Inst, Function, Module, bodies}
 use Rattle.core_code.specs.Machine as machine
@@ -77,10 +76,6 @@ abbrev pub Answers : Inst → Slots → Value → Type 0
 Answers (core.Return s) slots v = v ≡ slots s
 Answers core.Leave slots v = v ≡ zero_value
 Answers _ slots v = ⊥
-
--- What is known of the machine is whether Sys is loaded; numbers and values are equal on both sides.
-abbrev pub knowledge : Renaming Bool Value Value
-knowledge = record { grows = λ a b. a ≡ true → b ≡ true; name = λ k n o. n ≡ o; value = λ k v u. v ≡ u }
 
 module _ (m : Module) where
   -- A frame is so many instructions behind the begin of an instruction's code.
@@ -219,15 +214,17 @@ module _ (m : Module) where
     pub blocks : x.blocks ≡ Instance 0 (Refer (Some 1) ∷ Refer sys ∷ data_words 2 (module_data m.functions)) ∷ memory.Text path_of_sys ∷ (data_texts (module_data m.functions) ++ more)
     pub loaded : k ≡ true → (n : ℕ) × (sys ≡ Some n) × (slice_get x.blocks n ≡ Some (Sys (names sys_imports)))
 
-  -- Three-address code and its object.
-  abbrev pub sides : Sides Bool outside.World World machine.Process Process Value Value Request Rmsg Ending
-  sides = record {
-    map = knowledge;
+  -- Three-address code and its object. No process waits for another yet. What is known of the machine is whether Sys is loaded.
+  abbrev pub code_and_object : GrowingSides Bool outside.World World machine.Process Process Value Request Rmsg Ending
+  code_and_object = record {
+    grows = λ a b. a ≡ true → b ≡ true;
     program = core_rules.rules frames_limit (bodies m);
-    naming = no_names;
     code = dis_rules.rules frames_limit (object_of m ∷ []);
-    counting = no_counts;
     ready = Ready;
     asking = Asking;
-    worlds = λ k w x named. WorldStands k w x;
+    waiting = λ k bs p q. ⊥;
+    worlds = WorldStands;
   }
+
+  abbrev pub sides : Sides Bool outside.World World machine.Process Process Value Value Request Rmsg Ending
+  sides = opened code_and_object

@@ -1,8 +1,8 @@
 -- What a machine begins with, for the object of a module: the module's data with their strings, and the first process.
 use Rattle.std.specs.Prelude.{ℕ, suc, List, [], ◌∷◌, codes, Option, Some, None, slice_get}
 use Rattle.dis_file.specs.declared.types.TypeDesc.{TypeDesc}
+use Rattle.system_model.specs.World.{opening_world}
 use Rattle.core_code.specs.Code.{Module}
-use Rattle.limbo_meaning.specs.World.{opening_world}
 use Rattle.dis_meaning.specs.Words.{Word, Plain, Refer, blank}
 use Rattle.dis_meaning.specs.World as memory
 use Rattle.dis_meaning.specs.World.{Content, Instance, World}

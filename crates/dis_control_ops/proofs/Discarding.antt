@@ -2,8 +2,8 @@
 use Rattle.std.proofs.Common.{◌≡◌, ℕ, ℤ, ◌<◌, length, get_or, Bool, true, false, List, [], ◌∷◌, ◌++◌, map, Some, ◌⊎◌, inl, inr, refl, sym, ap, ◌∙◌, arith, if◌then◌else◌}
 use Rattle.std.specs.Prelude.{slice_get, reverse, nat_eq}
 use Rattle.std.proofs.lemmas.Bool.{eqb-true}
-use Rattle.limbo_meaning.specs.Prints as prints
-use Rattle.limbo_meaning.specs.World as outside
+use Rattle.system_model.specs.Prints as prints
+use Rattle.system_model.specs.World as outside
 use Rattle.dis_meaning.specs.Words.{Place, InBlock, InFrame, Word, Access, Found, Wrong, ◌>>=◌, dead_address, stored}
 use Rattle.dis_meaning.specs.World.{World}
 use Rattle.dis_meaning.specs.Process.{Frame, Process, Does, with_words, with_frames}

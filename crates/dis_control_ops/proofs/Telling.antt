@@ -1,7 +1,7 @@
 -- What an instruction came to, as it is told.
 use Rattle.std.proofs.Common.{◌≡◌, ℕ, Result, Ok, Err, OnErr, sym, ap, ◌∙◌, subst}
 use Rattle.process_model.specs.Process.{Went, Ends}
-use Rattle.limbo_meaning.specs.Process.{Faulted}
+use Rattle.system_model.specs.Ending.{Faulted}
 use Rattle.dis_isa.specs.declared.inst.Inst.{Inst}
 use Rattle.dis_isa.specs.declared.op.Op.{Op}
 use Rattle.dis_file.specs.declared.object.Object.{Object}

@@ -1,10 +1,10 @@
 -- What an instruction and a reply come to, as the definitions have it.
 use Rattle.std.specs.Prelude.{◌≡◌, ℕ, List, [], Bool, true, false, Option, Some, None, Result, Ok, Err, slice_get}
 use Rattle.dis_file.specs.declared.object.Object.{Object}
+use Rattle.system_model.specs.Ending.{Ended, Broken, Faulted}
 use Rattle.dis_meaning.specs.Words.{Access, ◌>>=◌, type_check, or_wrong}
 use Rattle.dis_meaning.specs.Step.{object_of, work}
 use Rattle.process_model.specs.Process.{Went, Parks, Asks, Ends}
-use Rattle.limbo_meaning.specs.Process.{Ended, Broken, Faulted}
 use Rattle.dis_meaning.specs.World.{World, block}
 use Rattle.dis_meaning.specs.Process.{Process, Does}
 use Rattle.sys_print.specs.declared.writing.Request.{Request}

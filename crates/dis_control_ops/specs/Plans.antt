@@ -1,6 +1,6 @@
 -- What a print comes to, and what is done then.
 use Rattle.std.specs.Prelude.{ℤ, List}
-use Rattle.limbo_meaning.specs.Prints.{Printing, print}
+use Rattle.system_model.specs.Prints.{Printing, print}
 use Rattle.dis_meaning.specs.Words.{Place, Word, Access, Found, ◌>>=◌}
 use Rattle.dis_meaning.specs.World.{World}
 use Rattle.dis_meaning.specs.Process.{Process, Does}

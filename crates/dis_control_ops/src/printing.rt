@@ -1,8 +1,8 @@
 //! Calls of `print`.
 
 ghost use Rattle.std.specs.Prelude.{◌≡◌, ◌+◌, ◌<◌, ◌^◌, Some, slice_get, vec_len, false, IfOk, OnErr};
-ghost use Rattle.limbo_meaning.specs.Prints as prints;
-ghost use Rattle.limbo_meaning.specs.Values.{Num};
+ghost use Rattle.system_model.specs.Prints as prints;
+ghost use Rattle.system_model.specs.Values.{Num};
 ghost use Rattle.process_model.specs.Process.{Went};
 ghost use Rattle.dis_meaning.specs.Process.{Frame};
 ghost use Rattle.dis_meaning.specs.Step as meaning;

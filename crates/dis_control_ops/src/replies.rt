@@ -1,8 +1,8 @@
 //! Replies to prints.
 
 ghost use Rattle.std.specs.Prelude.{◌≡◌};
-ghost use Rattle.limbo_meaning.specs.Prints as prints;
-ghost use Rattle.limbo_meaning.specs.Values.{Num};
+ghost use Rattle.system_model.specs.Prints as prints;
+ghost use Rattle.system_model.specs.Values.{Num};
 ghost use Rattle.dis_meaning.specs.Step as meaning;
 ghost use Rattle.sys_print.specs.Worlds as outside;
 ghost use Rattle.dis_control_ops.specs.Words.{view_place};

@@ -9,8 +9,8 @@ use Rattle.dis_isa.specs.declared.inst.Inst.{Inst}
 use Rattle.dis_isa.specs.declared.op.Op.{Op}
 use Rattle.dis_isa.specs.declared.op.Op.TheVariants as op
 use Rattle.dis_file.specs.declared.object.Object.{Object}
-use Rattle.limbo_meaning.specs.Prints.{Printing, Answers, Requests, NoReply, print}
-use Rattle.limbo_meaning.specs.Process.{Ended, Broken, Faulted}
+use Rattle.system_model.specs.Prints.{Printing, Answers, Requests, NoReply, print}
+use Rattle.system_model.specs.Ending.{Ended, Broken, Faulted}
 use Rattle.dis_meaning.specs.Words.{Place, InFrame, Plain, Refer, Address, Access, Found, Wrong, ◌>>=◌, type_check, bad_jump, or_wrong, reference, word_number}
 use Rattle.dis_meaning.specs.World.{World}
 use Rattle.dis_meaning.specs.Process.{Frame, Process, Does, or_fault, with_frames, height}

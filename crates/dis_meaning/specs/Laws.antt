@@ -2,7 +2,7 @@
 use Rattle.std.specs.Prelude.{ℕ, ℤ, ◌+◌, ◌≡◌, List}
 use Rattle.process_model.specs.Process.{Ends}
 use Rattle.dis_file.specs.declared.object.Object.{Object}
-use Rattle.limbo_meaning.specs.Process.{Faulted}
+use Rattle.system_model.specs.Ending.{Faulted}
 use Rattle.dis_meaning.specs.Words.{Word, Found, word_at, stored}
 use Rattle.dis_meaning.specs.World.{World}
 use Rattle.dis_meaning.specs.Process.{Process}

@@ -5,7 +5,7 @@ use Rattle.std.specs.Int.{w32, cast_signed, from_be_bytes}
 use Rattle.std.specs.Str.{chars, is_utf8, IsUtf8}
 use Rattle.dis_file.specs.declared.object.Item.{Item}
 use Rattle.dis_file.specs.declared.object.Object.{Object}
-use Rattle.limbo_meaning.specs.World.{opening_world}
+use Rattle.system_model.specs.World.{opening_world}
 use Rattle.dis_meaning.specs.Words.{Word, Plain, Refer, Access, Found, Wrong, stored, blank}
 use Rattle.dis_meaning.specs.World.{Content, Text, Instance, World}
 use Rattle.dis_meaning.specs.Process.{Process}

@@ -1,9 +1,9 @@
 -- One process of a machine.
 use Rattle.std.specs.Prelude.{ℕ, suc, ℤ, List, [], length, Option, None}
 use Rattle.process_model.specs.Process.{Effect, Parks, Ends}
-use Rattle.limbo_meaning.specs.Values.{Value}
-use Rattle.limbo_meaning.specs.Prints.{Request, Writing}
-use Rattle.limbo_meaning.specs.Process.{Ending, Faulted}
+use Rattle.system_model.specs.Values.{Value}
+use Rattle.system_model.specs.Prints.{Request, Writing}
+use Rattle.system_model.specs.Ending.{Ending, Faulted}
 use Rattle.dis_meaning.specs.Words.{Place, Word, Access, Found, Wrong}
 use Rattle.dis_meaning.specs.World.{World}
 

@@ -15,10 +15,10 @@ use Rattle.dis_isa.specs.declared.op.Op.{Op}
 use Rattle.dis_isa.specs.declared.op.Op.TheVariants as op
 use Rattle.dis_file.specs.declared.object.Import.{Import}
 use Rattle.dis_file.specs.declared.object.Object.{Object}
-use Rattle.limbo_meaning.specs.Values.{Value, Num}
-use Rattle.limbo_meaning.specs.World as outside
-use Rattle.limbo_meaning.specs.Prints.{Printing, Answers, Requests, NoReply, print, hear}
-use Rattle.limbo_meaning.specs.Process.{Ended, Broken}
+use Rattle.system_model.specs.Values.{Value, Num}
+use Rattle.system_model.specs.World as outside
+use Rattle.system_model.specs.Prints.{Printing, Answers, Requests, NoReply, print, hear}
+use Rattle.system_model.specs.Ending.{Ended, Broken}
 use Rattle.dis_meaning.specs.Words.{Place, InBlock, InFrame, Word, Plain, Refer, Address, Access, Found, Wrong, ◌>>=◌, type_check, bad_jump, dead_address, or_wrong, word_at, number_in, plain, reference, word_number, replaced, blank}
 use Rattle.dis_meaning.specs.World.{Content, Text, Instance, Sys, World, block, with_block}
 use Rattle.dis_meaning.specs.Process as process

@@ -1,6 +1,6 @@
 -- What the processes of a machine share.
 use Rattle.std.specs.Prelude.{ℕ, List, [], ◌∷◌, ◌++◌, slice_get, slice_set}
-use Rattle.limbo_meaning.specs.World as outside
+use Rattle.system_model.specs.World as outside
 use Rattle.dis_meaning.specs.Words.{Word, Access, or_wrong, dead_address}
 
 -- What a block holds: a string's characters; the data of an instance of an object of the program; or the built-in module Sys, linked

@@ -6,7 +6,7 @@ use Rattle.process_model.specs.Machine as model
 use Rattle.process_model.specs.Machine.{turns}
 use Rattle.process_model.specs.Law.{makers, repeated, begins_code}
 use Rattle.process_model.specs.Law as law
-use Rattle.process_model.specs.Plain.{no_counts}
+use Rattle.process_model.specs.Plain.{no_names}
 use Rattle.dis_file.specs.declared.object.Object.{Object}
 use Rattle.limbo_typed.specs.Typed.{Module}
 use Rattle.limbo_typed.specs.Proper.{IsProper}
@@ -79,9 +79,9 @@ abbrev cut_fine : Option ℕ → List (model.Event Rmsg)
 cut_fine None = []
 cut_fine (Some count) = singles 0 count
 
-cut_replays : (objects : List Object) (cut : Option ℕ) (s t : State) → cut_short objects cut s ≡ Some t → model.replay (machine_rules objects) no_counts 1 s (cut_fine cut) ≡ Some t
+cut_replays : (objects : List Object) (cut : Option ℕ) (s t : State) → cut_short objects cut s ≡ Some t → model.replay (machine_rules objects) no_names 1 s (cut_fine cut) ≡ Some t
 cut_replays objects None s t e = e
-cut_replays objects (Some count) s t e = turns_fine (machine_rules objects) no_counts 0 count s t e
+cut_replays objects (Some count) s t e = turns_fine (machine_rules objects) no_names 0 count s t e
 
 cut_has : (es : List (model.Event Rmsg)) (cut : Option ℕ) → law.instructions (fine es ++ cut_fine cut) ≡ law.instructions es ++ instructions (cut_events cut)
 cut_has es None = ap law.instructions (append-nil (fine es)) ∙ fine_has es ∙ sym (append-nil (law.instructions es))
@@ -95,6 +95,7 @@ cut_has es (Some count) = fine_joined es ∙ ap (λ l. law.instructions es ++ l)
     model_joined [] ys = refl
     model_joined (model.Quantum i n ∷ xs) ys = ap (λ l. repeated i n ++ l) (model_joined xs ys) ∙ sym (append_assoc (repeated i n) (law.instructions xs) (law.instructions ys))
     model_joined (model.Reply i a ∷ xs) ys = model_joined xs ys
+    model_joined (model.Down l ∷ xs) ys = model_joined xs ys
 
     fine_joined : (es : List (model.Event Rmsg)) → law.instructions (fine es ++ singles 0 count) ≡ law.instructions es ++ law.instructions (singles {A = Rmsg} 0 count)
     fine_joined es = model_joined (fine es) (singles 0 count) ∙ ap (λ l. l ++ law.instructions (singles {A = Rmsg} 0 count)) (fine_has es)
@@ -104,14 +105,14 @@ module _ (m : Module) (proper : IsProper m) (small : FrameTooLarge m → ⊥) (i
   objects = object_for m ∷ []
 
   means_from : (o : Opened) (s : State) → opened (object_for m) ≡ Some o → replay objects (begins o) journal ≡ Some s →
-      model.replay (machine_rules objects) no_counts longest (begins_code o.world o.first) (translated objects (begins o) journal) ≡ Some s →
+      model.replay (machine_rules objects) no_names longest (begins_code o.world o.first) (translated objects (begins o) journal) ≡ Some s →
       cut_short objects cut s ≡ Some t → Means m init (journal ++ cut_events cut) t
   means_from o s opens replays told more =
       let es = translated objects (begins o) journal in
       let same : o ≡ begins_with m = (let both : Some o ≡ Some (begins_with m) = sym opens ∙ beginning.begins m proper small (begun_spelled (object_for m) o opens) in cc) in
-      let all : model.replay (machine_rules objects) no_counts 1 (begins_code o.world o.first) (fine es ++ cut_fine cut) ≡ Some t =
-      on (machine_rules objects) no_counts 1 (fine es) (cut_fine cut) (begins_code o.world o.first) s t (replay_fine (machine_rules objects) no_counts longest es (begins_code o.world o.first) s told) (cut_replays objects cut s t more) in
-      let from : model.replay (machine_rules objects) no_counts 1 (begins_code (begins_with m).world (begins_with m).first) (fine es ++ cut_fine cut) ≡ Some t = subst (λ (o : Opened). model.replay (machine_rules objects) no_counts 1 (begins_code o.world o.first) (fine es ++ cut_fine cut) ≡ Some t) same all in
+      let all : model.replay (machine_rules objects) no_names 1 (begins_code o.world o.first) (fine es ++ cut_fine cut) ≡ Some t =
+      on (machine_rules objects) no_names 1 (fine es) (cut_fine cut) (begins_code o.world o.first) s t (replay_fine (machine_rules objects) no_names longest es (begins_code o.world o.first) s told) (cut_replays objects cut s t more) in
+      let from : model.replay (machine_rules objects) no_names 1 (begins_code (begins_with m).world (begins_with m).first) (fine es ++ cut_fine cut) ≡ Some t = subst (λ (o : Opened). model.replay (machine_rules objects) no_names 1 (begins_code o.world o.first) (fine es ++ cut_fine cut) ≡ Some t) same all in
       let run = journals m proper init first begins_so 1 (fine es ++ cut_fine cut) t from in
       record {
         turns = run.turns;

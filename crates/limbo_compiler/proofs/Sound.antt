@@ -1,16 +1,19 @@
 -- No run of a module tells of a wrong instruction, so no journal of its object does.
 use Rattle.std.proofs.Common.{◌≡◌, ℕ, Bool, true, false, List, [], ◌∷◌, ◌++◌, Option, Some, None, refl, sym, subst, ap, ◌∙◌, if◌then◌else◌}
 use Rattle.styx_msg.specs.declared.message.Rmsg.{Rmsg}
-use Rattle.process_model.specs.Process.{Branch, Ends, Entry, Requested, Replied, Passed, Over, Released, released, told, passing}
-use Rattle.process_model.specs.Source.{Hears, goes_on, asks_again, is_over, Steps, goes, waits, meets, polls, passes, spawns, asks, takes, ends, Run, still, next, Turn, Matched, begun, turn, reply}
-use Rattle.limbo_meaning.specs.Values.{Value}
+use Rattle.process_model.specs.Process.{Branch, Ends, Entry, Requested, Replied, Passed, Over, Released, Lost, released, told, passing}
+use Rattle.process_model.specs.Source.{Hears, goes_on, asks_again, is_over, Steps, goes, waits, meets, polls, passes, spawns, asks, ends, Run, still, next, Turn, Matched, begun, turn, down, reply}
+use Rattle.system_model.specs.Values.{Value}
+use Rattle.system_model.specs.Prints.{Request}
+use Rattle.system_model.specs.World.{World}
+use Rattle.system_model.specs.Ending.{Ending, Ended, Broken, Faulted}
+use Rattle.system_model.specs.Trace.{Trace}
+use Rattle.system_model.specs.Limits.{frames_limit}
 use Rattle.limbo_meaning.specs.Program.{Routine, routines_of}
-use Rattle.limbo_meaning.specs.Prints.{Request}
-use Rattle.limbo_meaning.specs.World.{World}
-use Rattle.limbo_meaning.specs.Process.{Process, Ending, Ended, Broken, Faulted}
+use Rattle.limbo_meaning.specs.Process.{Process}
 use Rattle.limbo_meaning.specs.Step.{step, answer}
 use Rattle.limbo_meaning.specs.Rules.{rules, naming}
-use Rattle.limbo_meaning.specs.Runs.{Meaning, Trace, MeaningRun, frames_limit}
+use Rattle.limbo_meaning.specs.Runs.{Meaning, MeaningRun}
 use Rattle.limbo_meaning.proofs.Breaks.{ends_only_so}
 use Rattle.machine_core.specs.Journal.{Fault, fault_in, fault_of, or_else}
 use Rattle.limbo_compiler.specs.Means.{NoneFault}
@@ -26,6 +29,7 @@ both_sound (Requested i m ∷ es) fs h k = both_sound es fs h k
 both_sound (Replied i a ∷ es) fs h k = both_sound es fs h k
 both_sound (Passed channel v i b j c ∷ es) fs h k = both_sound es fs h k
 both_sound (Released i names ∷ es) fs h k = both_sound es fs h k
+both_sound (Lost l ∷ es) fs h k = both_sound es fs h k
 both_sound (Over i how ∷ es) fs h k = go (fault_of how) (λ h. both_sound es fs h k) h
   where
     go : (f : Option Fault) → (Sound es → Sound (es ++ fs)) → or_else f (fault_in es) ≡ None → or_else f (fault_in (es ++ fs)) ≡ None
@@ -57,11 +61,10 @@ module _ (limit : ℕ) (routines : List Routine) where
   step_sound c e i0 (meets i p bs k a j l b q at branch fit) h =
       both_sound (c.trace ++ told i k a j l b ∷ []) [] (both_sound c.trace (told i k a j l b ∷ []) h (met_sound i k a j l b)) refl
   step_sound c e i0 (polls i p w bs p' p'' k a j l b q at does branch fit) h =
-      both_sound ((c.trace ++ []) ++ told i k a j l b ∷ []) [] (both_sound (c.trace ++ []) (told i k a j l b ∷ []) (both_sound c.trace [] h refl) (met_sound i k a j l b)) refl
-  step_sound c e i0 (passes i p w bs p' p'' at does none) h = both_sound (c.trace ++ []) [] (both_sound c.trace [] h refl) refl
+      both_sound (c.trace ++ told i k a j l b ∷ []) [] (both_sound c.trace (told i k a j l b ∷ []) h (met_sound i k a j l b)) refl
+  step_sound c e i0 (passes i p w bs p' p'' at does none) h = both_sound c.trace [] h refl
   step_sound c e i0 (spawns i p w child p' at does) h = both_sound c.trace [] h refl
   step_sound c e i0 (asks i p w m p' at does) h = both_sound (c.trace ++ Requested i m ∷ []) [] (both_sound c.trace (Requested i m ∷ []) h refl) refl
-  step_sound c e i0 (takes i a heard) h = heard_sound c i a e heard h
   step_sound c e i0 (ends i p w how at does) h =
       both_sound (c.trace ++ Over i how ∷ []) [] (both_sound c.trace (Over i how ∷ []) h (stepped_sound i c.world w p how does)) refl
 
@@ -72,6 +75,7 @@ module _ (limit : ℕ) (routines : List Routine) where
   matched_sound : (c e : Meaning) (turns : List Turn) → Matched (rules limit routines) naming c turns e → Sound c.trace → Sound e.trace
   matched_sound c e turns begun h = h
   matched_sound c e turns (turn {d = d} i n before run) h = run_sound d i e n run (matched_sound c d _ before h)
+  matched_sound c e turns (down {d = d} l w before lost) h = absurd cc
   matched_sound c e turns (reply {d = d} i a before heard) h = heard_sound d i a e heard (matched_sound c d _ before h)
 
 pub none_fault : NoneFault

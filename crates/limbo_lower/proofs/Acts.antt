@@ -6,16 +6,17 @@ use Rattle.std.specs.Option.{option_map}
 use Rattle.styx_msg.specs.declared.message.Rmsg.{Rmsg}
 use Rattle.process_model.specs.Process.{Went, Ends}
 use Rattle.process_model.specs.Plain.{PlainMatches, PlainMatchesReply}
-use Rattle.limbo_meaning.specs.Values.{Value}
+use Rattle.system_model.specs.Values.{Value}
+use Rattle.system_model.specs.World.{World}
+use Rattle.system_model.specs.Prints.{Writing, Printing, Answers, Requests, NoReply, hear}
+use Rattle.system_model.specs.Ending.{Ended, Broken}
+use Rattle.system_model.specs.Limits.{frames_limit}
 use Rattle.limbo_meaning.specs.Trees.{Evaluated, Awaiting, Eval, Block, Then}
 use Rattle.limbo_meaning.specs.Program.{Routine}
 use Rattle.limbo_meaning.specs.Evaluation.{fill_block}
-use Rattle.limbo_meaning.specs.World.{World}
-use Rattle.limbo_meaning.specs.Prints.{Writing, Printing, Answers, Requests, NoReply, hear}
 use Rattle.limbo_meaning.specs.Process as source
-use Rattle.limbo_meaning.specs.Process.{framed, frame_of, Ended, Broken}
+use Rattle.limbo_meaning.specs.Process.{framed, frame_of}
 use Rattle.limbo_meaning.specs.Step as source_step
-use Rattle.limbo_meaning.specs.Runs.{frames_limit}
 use Rattle.core_code.specs.Code as core
 use Rattle.core_code.specs.Code.{Inst}
 use Rattle.core_code.specs.Machine as machine
@@ -48,7 +49,7 @@ module _ (m : List Routine) (fresh : FreshRoutines m) (at : ℕ) where
     world = w;
     after = p;
     comes = at_once (sides m (bodies m fresh)) st;
-    waits = λ j a v e. absurd cc;
+    waits = λ j a v w x e same. absurd cc;
     worlds = refl;
   }
 

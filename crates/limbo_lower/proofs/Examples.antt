@@ -6,13 +6,13 @@ use Rattle.styx_msg.specs.declared.message.Rmsg.{Rmsg}
 use Rattle.styx_msg.specs.declared.message.Rmsg.TheVariants as r
 use Rattle.process_model.specs.Machine.{State, Event, Quantum, Reply, replay}
 use Rattle.process_model.specs.Law.{begins_code}
-use Rattle.process_model.specs.Plain.{no_counts}
+use Rattle.process_model.specs.Plain.{no_names}
 use Rattle.limbo_typed.specs.Typed.{Module, Subtract, Multiply, Equal, Decimal}
-use Rattle.limbo_meaning.specs.Values.{Value}
-use Rattle.limbo_meaning.specs.World.{World, opening_world}
-use Rattle.limbo_meaning.specs.Prints.{Request}
-use Rattle.limbo_meaning.specs.Process.{Ending}
-use Rattle.limbo_meaning.specs.Runs.{Trace}
+use Rattle.system_model.specs.Values.{Value}
+use Rattle.system_model.specs.World.{World, opening_world}
+use Rattle.system_model.specs.Prints.{Request}
+use Rattle.system_model.specs.Ending.{Ending}
+use Rattle.system_model.specs.Trace.{Trace}
 use Rattle.limbo_meaning.proofs.Examples.{told, factorial, loop, endless, texts, ordered, wrapping}
 use Rattle.core_code.specs.Code.{Set, Move, Operate, Unless, Jump, Call, Format, Print, Return, Leave, bodies}
 use Rattle.core_code.specs.Machine.{Process}
@@ -25,7 +25,7 @@ traced (Some s) = Some s.trace
 
 -- What is told of the module's code, which begins with function 0, after such a journal.
 told_of_code : ℕ → Module → List (Event Rmsg) → Option Trace
-told_of_code limit m journal = traced (replay (rules limit (bodies (module_code m))) no_counts 2048 (begins_code opening_world (first_process 0)) journal)
+told_of_code limit m journal = traced (replay (rules limit (bodies (module_code m))) no_names 2048 (begins_code opening_world (first_process 0)) journal)
 
 -- the code of the factorial
 factorial_code : bodies (module_code factorial) ≡

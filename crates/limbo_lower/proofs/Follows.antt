@@ -4,18 +4,19 @@ use Rattle.std.specs.Prelude.{slice_get, slice_set}
 use Rattle.std.proofs.lemmas.Option.{slice_get-map}
 use Rattle.std.specs.Option.{option_map}
 use Rattle.process_model.specs.Process.{Went}
-use Rattle.process_model.specs.Plain.{PlainFollows, plain_here}
+use Rattle.process_model.specs.Alone.{here}
+use Rattle.process_model.specs.Plain.{PlainFollows}
 use Rattle.limbo_typed.specs.Typed.{Piece}
-use Rattle.limbo_meaning.specs.Values.{Value, zero_value, holds}
+use Rattle.system_model.specs.Values.{Value, zero_value, holds}
+use Rattle.system_model.specs.World.{World}
+use Rattle.system_model.specs.Prints.{Writing, text_of, print}
+use Rattle.system_model.specs.Limits.{frames_limit}
 use Rattle.limbo_meaning.specs.Trees.{Term, Terms, Stm, Over, Assign, Eval, If, While, Return, Leave, Print, Block, Done, Then, Again, join}
 use Rattle.limbo_meaning.specs.Program.{Routine}
 use Rattle.limbo_meaning.specs.Evaluation.{Progress, Finished, Stepped, Calls, Blocked, next, next_all, fill_stm}
-use Rattle.limbo_meaning.specs.World.{World}
-use Rattle.limbo_meaning.specs.Prints.{Writing, text_of, print}
 use Rattle.limbo_meaning.specs.Process as source
 use Rattle.limbo_meaning.specs.Process.{framed}
 use Rattle.limbo_meaning.specs.Step.{chosen, evaluate}
-use Rattle.limbo_meaning.specs.Runs.{frames_limit}
 use Rattle.core_code.specs.Code as core
 use Rattle.core_code.specs.Code.{Inst}
 use Rattle.core_code.specs.Machine as machine
@@ -129,7 +130,7 @@ module _ (m : List Routine) (fresh : FreshRoutines m) (f into : ℕ) (r : Routin
     steps = 0;
     world = w;
     after = P pr vars (Then (Print pieces args) rest);
-    alone = plain_here;
+    goes = here;
     related = (same_number, record { routine = r; found = found; long = long; agrees = a; here = printing done next d }, below);
     worlds = refl;
     pace = λ z. let here : rank (slice_get code pc) ≡ 0 = ap rank at in
@@ -273,4 +274,5 @@ follows m fresh = record {
   within = λ p q h. rank_within (core_step.fetch (slice_get (bodies m fresh) q.frame.function) q.frame.pc);
   each = λ w x p q h e. each_follows m fresh w x p q h e;
   answers = λ a w x p q h e. answer_alike m fresh 0 a w x p q h e;
+  downs = λ l w x x' e f. absurd cc;
 }

@@ -5,8 +5,8 @@ use Rattle.process_model.proofs.Lifted.{plain_journals}
 use Rattle.limbo_typed.specs.Typed as typed
 use Rattle.limbo_typed.specs.Typed.{Module}
 use Rattle.limbo_typed.specs.Proper.{IsProper}
+use Rattle.system_model.specs.World.{opening_world}
 use Rattle.limbo_meaning.specs.Program.{routine_of, routines_of}
-use Rattle.limbo_meaning.specs.World.{opening_world}
 use Rattle.limbo_meaning.specs.Runs.{first_process}
 use Rattle.core_code.specs.Code.{Inst, bodies}
 use Rattle.core_code.specs.Machine.{Process}

@@ -4,7 +4,7 @@ use Rattle.std.specs.Prelude.{slice_get, slice_set, slice_index_or, replicate}
 use Rattle.std.proofs.lemmas.List.{get_or-set_same, get_or-set_other}
 use Rattle.std.proofs.lemmas.Bool.{cases_eq}
 use Rattle.limbo_typed.specs.Typed.{Piece}
-use Rattle.limbo_meaning.specs.Values.{Value, zero_value}
+use Rattle.system_model.specs.Values.{Value, zero_value}
 use Rattle.limbo_meaning.specs.Trees.{Term, Terms, Stm, Print, Done}
 use Rattle.limbo_meaning.specs.Program.{Routine}
 use Rattle.limbo_meaning.specs.Evaluation.{Progress, Finished, Stepped, Calls, Blocked, fill, fill_all, fill_stm}

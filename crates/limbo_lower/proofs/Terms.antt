@@ -1,10 +1,10 @@
 -- One step of an expression, and the instruction that does it.
 use Rattle.std.proofs.Common.{◌≡◌, ℕ, suc, ◌≤◌, true, false, List, [], ◌∷◌, ◌++◌, refl, sym, ap, ◌∙◌, subst, arith}
 use Rattle.limbo_typed.specs.Typed.{Operator}
-use Rattle.limbo_meaning.specs.Values.{Value, Num, result_of}
+use Rattle.system_model.specs.Values.{Value, Num, result_of}
+use Rattle.system_model.specs.World.{World}
 use Rattle.limbo_meaning.specs.Trees.{Term, Evaluated, Awaiting, Constant, Variable, Apply, Call, Terms, NoTerms, MoreTerms}
 use Rattle.limbo_meaning.specs.Evaluation.{Progress, Finished, Stepped, Calls, Blocked, after, next, next_all, fill, fill_all}
-use Rattle.limbo_meaning.specs.World.{World}
 use Rattle.core_code.specs.Code as core
 use Rattle.core_code.specs.Code.{Inst}
 use Rattle.core_code.specs.Machine.{Slots, put, taken, Process, goes}

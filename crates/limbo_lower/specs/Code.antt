@@ -3,7 +3,7 @@
 use Rattle.std.specs.Prelude.{ℕ, suc, Bool, true, false, ◌+◌, max, List, [], ◌∷◌, ◌++◌, length, map}
 use Rattle.limbo_types.specs.Types.{Ty, Int}
 use Rattle.limbo_typed.specs.Typed as typed
-use Rattle.limbo_meaning.specs.Values.{Value, Num}
+use Rattle.system_model.specs.Values.{Value, Num}
 use Rattle.limbo_meaning.specs.Trees.{Term, Evaluated, Awaiting, Constant, Variable, Apply, Call, Terms, NoTerms, MoreTerms, Stm, Over, Assign, Eval, If, While, Return, Leave, Print, Block, Done, Then, Again}
 use Rattle.limbo_meaning.specs.Program.{Routine, routine_of}
 use Rattle.core_code.specs.Code as core

@@ -3,14 +3,15 @@ use Rattle.std.specs.Prelude.{ℕ, ◌≡◌, ◌≤◌, ◌+◌, ◌*◌, List,
 use Rattle.styx_msg.specs.declared.message.Rmsg.{Rmsg}
 use Rattle.process_model.specs.Machine.{State, Event, replay}
 use Rattle.process_model.specs.Law.{begins_code}
-use Rattle.process_model.specs.Plain.{PlainFollows, no_counts}
+use Rattle.process_model.specs.Plain.{PlainFollows, no_names}
 use Rattle.limbo_typed.specs.Typed.{Function, Module}
-use Rattle.limbo_meaning.specs.Values.{Value}
+use Rattle.system_model.specs.Values.{Value}
+use Rattle.system_model.specs.World.{World, opening_world}
+use Rattle.system_model.specs.Prints.{Request}
+use Rattle.system_model.specs.Ending.{Ending}
+use Rattle.system_model.specs.Limits.{frames_limit}
 use Rattle.limbo_meaning.specs.Program.{Routine, routines_of}
-use Rattle.limbo_meaning.specs.World.{World, opening_world}
-use Rattle.limbo_meaning.specs.Prints.{Request}
-use Rattle.limbo_meaning.specs.Process.{Ending}
-use Rattle.limbo_meaning.specs.Runs.{first_process, frames_limit}
+use Rattle.limbo_meaning.specs.Runs.{first_process}
 use Rattle.limbo_meaning.specs.Replays.{HasRun}
 use Rattle.core_code.specs.Code as core
 use Rattle.core_code.specs.Code.{bodies}
@@ -32,7 +33,7 @@ abbrev pub JournalsAreRuns : Module → core.Module → Type 0
 JournalsAreRuns m c =
     (init : ℕ) (first : Routine) → slice_get (routines_of m) init ≡ Some first →
     (longest : ℕ) (journal : List (Event Rmsg)) (t : State World Process Value Request Rmsg Ending) →
-    replay (core_rules.rules frames_limit (bodies c)) no_counts longest (begins_code opening_world (core_rules.first_process init)) journal ≡ Some t →
+    replay (core_rules.rules frames_limit (bodies c)) no_names longest (begins_code opening_world (core_rules.first_process init)) journal ≡ Some t →
     HasRun m init t.trace
 
 -- How many instructions all functions have.

@@ -4,16 +4,16 @@ use Rattle.std.specs.Prelude.{ℕ, suc, ◌+◌, ◌-◌, ◌<◌, ◌≤◌, �
 use Rattle.styx_msg.specs.declared.message.Rmsg.{Rmsg}
 use Rattle.process_model.specs.Plain.{PlainSides}
 use Rattle.limbo_typed.specs.Typed.{Piece}
-use Rattle.limbo_meaning.specs.Values.{Value, zero_value}
+use Rattle.system_model.specs.Values.{Value, zero_value}
+use Rattle.system_model.specs.World.{World}
+use Rattle.system_model.specs.Prints.{Request}
+use Rattle.system_model.specs.Ending.{Ending}
+use Rattle.system_model.specs.Limits.{frames_limit}
 use Rattle.limbo_meaning.specs.Trees.{Term, Evaluated, Awaiting, Constant, Variable, Apply, Call, Terms, NoTerms, MoreTerms, Stm, Over, Assign, Eval, If, While, Return, Leave, Print, Block, Done, Then, Again}
 use Rattle.limbo_meaning.specs.Program.{Routine}
 use Rattle.limbo_meaning.specs.Evaluation.{Finished, next_all, fill_block}
-use Rattle.limbo_meaning.specs.World.{World}
-use Rattle.limbo_meaning.specs.Prints.{Request}
 use Rattle.limbo_meaning.specs.Process as source
-use Rattle.limbo_meaning.specs.Process.{Ending}
 use Rattle.limbo_meaning.specs.Rules as source_rules
-use Rattle.limbo_meaning.specs.Runs.{frames_limit}
 use Rattle.core_code.specs.Code as core
 use Rattle.core_code.specs.Code.{Inst}
 use Rattle.core_code.specs.Machine as machine

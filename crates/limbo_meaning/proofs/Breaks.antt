@@ -3,13 +3,14 @@ use Rattle.std.proofs.Common.{◌≡◌, ℕ, ◌≤◌, Bool, true, false, List
 use Rattle.std.specs.Prelude.{slice_get}
 use Rattle.styx_msg.specs.declared.message.Rmsg.{Rmsg}
 use Rattle.process_model.specs.Process.{Ends}
-use Rattle.limbo_meaning.specs.Values.{Value, zero_value}
+use Rattle.system_model.specs.Values.{Value, zero_value}
+use Rattle.system_model.specs.World.{World}
+use Rattle.system_model.specs.Prints.{Writing, Printing, Answers, Requests, NoReply, text_of, print, hear}
+use Rattle.system_model.specs.Ending.{Ended, Broken, Faulted}
 use Rattle.limbo_meaning.specs.Trees.{Stm, Over, Assign, Eval, If, While, Return, Leave, Print, Block, Done, Then, Again}
 use Rattle.limbo_meaning.specs.Program.{Routine}
 use Rattle.limbo_meaning.specs.Evaluation.{Progress, Finished, Stepped, Calls, Blocked, next, next_all}
-use Rattle.limbo_meaning.specs.World.{World}
-use Rattle.limbo_meaning.specs.Prints.{Writing, Printing, Answers, Requests, NoReply, text_of, print, hear}
-use Rattle.limbo_meaning.specs.Process.{Frame, Process, Ended, Broken, Faulted, Does, height, returns, calls, prints, hears}
+use Rattle.limbo_meaning.specs.Process.{Frame, Process, Does, height, returns, calls, prints, hears}
 use Rattle.limbo_meaning.specs.Step.{evaluate, act, work, heard}
 use Rattle.limbo_meaning.specs.Heights.{Kind, Calling, Returning, Other, kind_in, kind_of_stm, kind_of_block, kind_of}
 use Rattle.limbo_meaning.specs.Breaks.{EndsOnlySo}

@@ -1,14 +1,14 @@
 -- A process whose step is an end is gone after it.
 use Rattle.std.proofs.Common.{◌≡◌, ℕ, List, Option, Some, refl, sym, ◌∙◌, subst}
 use Rattle.std.specs.Prelude.{slice_get}
-use Rattle.styx_msg.specs.declared.message.Rmsg.{Rmsg}
-use Rattle.process_model.specs.Process.{Branch, Went, Parks, Polls, Spawns, Asks, Ends, Doing, Ready, Waiting, Asking, Gone}
-use Rattle.process_model.specs.Source.{Hears, goes_on, asks_again, is_over, Steps, goes, waits, meets, polls, passes, spawns, asks, takes, ends}
+use Rattle.process_model.specs.Process.{Branch, Went, Parks, Polls, Spawns, Asks, Ends, Doing, Ready, Waiting, Gone}
+use Rattle.process_model.specs.Source.{Steps, goes, waits, meets, polls, passes, spawns, asks, ends}
 use Rattle.process_model.proofs.Lists.{set_same}
-use Rattle.limbo_meaning.specs.Values.{Value}
+use Rattle.system_model.specs.Values.{Value}
+use Rattle.system_model.specs.World.{World}
+use Rattle.system_model.specs.Ending.{Ending}
 use Rattle.limbo_meaning.specs.Program.{Routine}
-use Rattle.limbo_meaning.specs.World.{World}
-use Rattle.limbo_meaning.specs.Process.{Process, Ending, Does}
+use Rattle.limbo_meaning.specs.Process.{Process, Does}
 use Rattle.limbo_meaning.specs.Step.{step}
 use Rattle.limbo_meaning.specs.Rules.{rules, naming}
 use Rattle.limbo_meaning.specs.Runs.{Meaning}
@@ -25,9 +25,6 @@ standing d = Some d
 ready_same : (p q : Process) → standing (Ready p) ≡ standing (Ready q) → p ≡ q
 ready_same p q e = cc
 
-ready_not_asking : (p q : Process) → standing (Ready p) ≡ standing (Asking q) → ⊥
-ready_not_asking p q e = absurd cc
-
 ready_not_waiting : (p q : Process) (bs : List (Branch Value)) → standing (Ready p) ≡ standing (Waiting bs q) → ⊥
 ready_not_waiting p q bs e = absurd cc
 
@@ -38,11 +35,6 @@ module _ (limit : ℕ) (routines : List Routine) (c : Meaning) (i : ℕ) (p : Pr
       let same : p ≡ q = ready_same p q (sym there ∙ at) in
       subst IsEnd (sym (subst (λ q. step limit routines c.world q ≡ Ends v how) same over) ∙ does) tt
 
-  not_heard : (a : Rmsg) (e : Meaning) → Hears (rules limit routines) naming c i a e → ⊥
-  not_heard a e (goes_on q w q' at does) = ready_not_asking p q (sym there ∙ at)
-  not_heard a e (asks_again q w m q' at does) = ready_not_asking p q (sym there ∙ at)
-  not_heard a e (is_over q w its at does) = ready_not_asking p q (sym there ∙ at)
-
 gone_after : (limit : ℕ) (routines : List Routine) (c e : Meaning) (i : ℕ) (p : Process) (v : World) (how : Ending) → slice_get c.processes i ≡ Some (Ready p) → step limit routines c.world p ≡ Ends v how → Steps (rules limit routines) naming c i e → slice_get e.processes i ≡ Some Gone
 gone_after limit rs c e i0 p v how there over (goes i q w q' at does) = absurd (only limit rs c i p v how there over q (Went w q') at does)
 gone_after limit rs c e i0 p v how there over (waits i q w bs q' at does) = absurd (only limit rs c i p v how there over q (Parks w bs q') at does)
@@ -51,7 +43,6 @@ gone_after limit rs c e i0 p v how there over (polls i q w bs q' q'' k a j l b r
 gone_after limit rs c e i0 p v how there over (passes i q w bs q' q'' at does none) = absurd (only limit rs c i p v how there over q (Polls w bs q' q'') at does)
 gone_after limit rs c e i0 p v how there over (spawns i q w child q' at does) = absurd (only limit rs c i p v how there over q (Spawns w child q') at does)
 gone_after limit rs c e i0 p v how there over (asks i q w m q' at does) = absurd (only limit rs c i p v how there over q (Asks w m q') at does)
-gone_after limit rs c e i0 p v how there over (takes i a heard) = absurd (not_heard limit rs c i p v how there over a e heard)
 gone_after limit rs c e i0 p v how there over (ends i q w its at does) = set_same c.processes i Gone (Ready q) at
 
 pub ends_name_nothing : EndsNameNothing

@@ -9,18 +9,21 @@ use Rattle.styx_msg.specs.declared.message.Rmsg.TheVariants as r
 use Rattle.process_model.specs.Process.{Requested, Replied, Over}
 use Rattle.process_model.specs.Machine.{State, Event, Quantum, Reply, replay}
 use Rattle.process_model.specs.Law.{begins_code}
-use Rattle.process_model.specs.Plain.{no_counts}
+use Rattle.process_model.specs.Plain.{no_names}
 use Rattle.limbo_types.specs.Types.{Ty, Int, Nothing}
 use Rattle.limbo_typed.specs.Typed.{Operator, Add, Subtract, Multiply, Less, Equal, Expr, Number, Variable, Binary, Call, NoExprs, MoreExprs, Chars, Decimal, Stmt, Stmts, Assign, Eval, If, While, Return, Print, NoStmts, MoreStmts, Var, Function, Module}
 use Rattle.limbo_typed.specs.Proper.{HasFunction, ProperExpr, ProperFunction, IsProper}
-use Rattle.limbo_meaning.specs.Values.{Value}
+use Rattle.system_model.specs.Values.{Value}
+use Rattle.system_model.proofs.Bytes.{byte_at}
+use Rattle.system_model.specs.World.{World, opening_world}
+use Rattle.system_model.specs.Prints.{Request}
+use Rattle.system_model.specs.Ending.{Ending, Ended, Broken}
+use Rattle.system_model.specs.Trace.{Trace}
 use Rattle.limbo_meaning.specs.Trees.{Done}
 use Rattle.limbo_meaning.specs.Program.{Routine, routines_of}
-use Rattle.limbo_meaning.specs.World.{World, opening_world}
-use Rattle.limbo_meaning.specs.Prints.{Request}
-use Rattle.limbo_meaning.specs.Process.{Process, Ending, Ended, Broken}
+use Rattle.limbo_meaning.specs.Process.{Process}
 use Rattle.limbo_meaning.specs.Rules.{rules}
-use Rattle.limbo_meaning.specs.Runs.{Trace, first_process}
+use Rattle.limbo_meaning.specs.Runs.{first_process}
 
 -- ---- shorter words for trees
 
@@ -67,7 +70,7 @@ traced (Some s) = Some s.trace
 
 -- What is told of the module, which begins with function 0, after such a journal.
 abbrev pub told : ℕ → Module → List (Event Rmsg) → Option Trace
-told limit m journal = traced (replay (rules limit (routines_of m)) no_counts 2048 (begins_code opening_world (opening (slice_get (routines_of m) 0))) journal)
+told limit m journal = traced (replay (rules limit (routines_of m)) no_names 2048 (begins_code opening_world (opening (slice_get (routines_of m) 0))) journal)
 
 -- ---- fact(n: int): int { if(n == 0) return 1; return n * fact(n - 1); }  init() { sys->print("%d", fact(3)); }
 
@@ -119,10 +122,6 @@ unfolding factorial
 is_proper zero f e = at_place 0 (slice_index_or both 0 int_function) f e first_proper
 is_proper (suc zero) f e = at_place 1 (slice_index_or both 1 int_function) f e second_proper
 is_proper (suc (suc n)) f e = absurd cc
-
--- a request of one byte, at an offset
-abbrev pub byte_at : ℕ → ℕ → Request
-byte_at offset b = record { link = 1; frame = 24 ∷ 0 ∷ 0 ∷ 0 ∷ 118 ∷ 0 ∷ 0 ∷ 2 ∷ 0 ∷ 0 ∷ 0 ∷ offset ∷ 0 ∷ 0 ∷ 0 ∷ 0 ∷ 0 ∷ 0 ∷ 0 ∷ 1 ∷ 0 ∷ 0 ∷ 0 ∷ b ∷ [] }
 
 -- it prints 6
 pub factorial_of_three : told 10000 factorial (Quantum 0 49 ∷ Reply 0 (r.Write 1) ∷ Quantum 0 2 ∷ []) ≡ Some (Requested 0 (byte_at 0 54) ∷ Replied 0 (r.Write 1) ∷ Over 0 Ended ∷ [])

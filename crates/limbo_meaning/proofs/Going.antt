@@ -7,11 +7,12 @@ use Rattle.limbo_types.specs.Types.{Ty}
 use Rattle.limbo_typed.specs.Typed as typed
 use Rattle.limbo_typed.specs.Typed.{Expr, Exprs, Stmt, Stmts, Var, Function}
 use Rattle.limbo_typed.specs.Proper.{HasFunction, ProperExpr, ProperExprs, ProperReturn, ProperStmt, ProperStmts, ProperFunction}
+use Rattle.system_model.specs.World.{opening_world}
+use Rattle.system_model.specs.Limits.{frames_limit}
 use Rattle.limbo_meaning.specs.Trees.{Over, Block, Done, Then}
 use Rattle.limbo_meaning.specs.Program.{Routine, routine_of, routines_of, term_of, terms_of, return_of, before, all_before}
-use Rattle.limbo_meaning.specs.World.{opening_world}
 use Rattle.limbo_meaning.specs.Rules.{rules, naming}
-use Rattle.limbo_meaning.specs.Runs.{frames_limit, first_process}
+use Rattle.limbo_meaning.specs.Runs.{first_process}
 use Rattle.limbo_meaning.specs.Going.{AlwaysGoing}
 use Rattle.limbo_meaning.proofs.Kept.{Keeps, all_at, kept_matched}
 use Rattle.limbo_meaning.proofs.Sound.{Exists, SoundTerm, SoundTerms, SoundBlock, SoundRoutines, IsSound, step_sound, answer_sound}
@@ -79,7 +80,7 @@ always_going m proper init turns c run i branches p e =
     let sound = routines_sound m.functions proper in
     let keeps : Keeps program naming (IsSound rs) = record {
       step = λ w p h. step_sound rs frames_limit sound w p h;
-      wake = λ k v bs p h. absurd h;
+      wake = λ k v bs w p h. absurd h;
       answer = λ a w p h. answer_sound rs a w p h;
     } in
     let kept = kept_matched program naming (IsSound rs) keeps (begins opening_world (first_process run.first)) c turns run.run ((sound init run.first run.there, tt), tt) in

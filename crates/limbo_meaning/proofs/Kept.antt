@@ -3,7 +3,8 @@ use Rattle.std.proofs.Common.{◌≡◌, ℕ, zero, suc, List, [], ◌∷◌, �
 use Rattle.std.specs.Prelude.{slice_get}
 use Rattle.std.proofs.Math.ListN.{set}
 use Rattle.process_model.specs.Process.{Branch, Effect, Went, Parks, Polls, Spawns, Asks, Ends, Doing, Ready, Waiting, Asking, Gone, Rules, given, passing}
-use Rattle.process_model.specs.Source.{Naming, Config, Hears, goes_on, asks_again, is_over, Steps, goes, waits, meets, polls, passes, spawns, asks, takes, ends, Run, still, next, Turn, Matched, begun, turn, reply}
+use Rattle.process_model.specs.Naming.{Naming}
+use Rattle.process_model.specs.Source.{Config, Hears, goes_on, asks_again, is_over, Steps, goes, waits, meets, polls, passes, spawns, asks, ends, Run, still, next, Turn, Matched, begun, turn, down, reply}
 
 module _ {W P D M H : Type 0} (On : Doing P D → Type 0) where
   -- an effect leaves what is kept
@@ -25,7 +26,7 @@ module _ {W P D M H : Type 0} (On : Doing P D → Type 0) where
 module _ {W P D M A H : Type 0} (rules : Rules W P D M A H) (naming : Naming W P D) (On : Doing P D → Type 0) where
   pub record Keeps : Type 0 where
     pub step : (w : W) (p : P) → On (Ready p) → After On (rules.step w p)
-    pub wake : (k : ℕ) (v : Option D) (bs : List (Branch D)) (p : P) → On (Waiting bs p) → On (Ready (rules.wake k v p))
+    pub wake : (k : ℕ) (v : Option D) (bs : List (Branch D)) (w : W) (p : P) → On (Waiting bs p) → On (Ready (rules.wake k v w p).process)
     pub answer : (a : A) (w : W) (p : P) → On (Asking p) → AfterReply On (rules.answer a w p)
 
   abbrev pub All : List (Doing P D) → Type 0
@@ -59,23 +60,22 @@ module _ {W P D M A H : Type 0} (rules : Rules W P D M A H) (naming : Naming W P
     kept_heard c i a e (is_over p w how at does) h = all_set c.processes i Gone h (replied c i a p (Ends w how) h at does)
 
     -- two that wait go on, each by some branch
-    both_kept : (ds : List (Doing P D)) (i j k l : ℕ) (v u : Option D) (bs cs : List (Branch D)) (p q : P) → All ds → On (Waiting bs p) → On (Waiting cs q) → All (set (set ds i (Ready (rules.wake k v p))) j (Ready (rules.wake l u q)))
-    both_kept ds i j k l v u bs cs p q h hp hq = all_set (set ds i (Ready (rules.wake k v p))) j (Ready (rules.wake l u q)) (all_set ds i (Ready (rules.wake k v p)) h (keeps.wake k v bs p hp)) (keeps.wake l u cs q hq)
+    both_kept : (ds : List (Doing P D)) (i j k l : ℕ) (v u : Option D) (bs cs : List (Branch D)) (w w' : W) (p q : P) → All ds → On (Waiting bs p) → On (Waiting cs q) → All (set (set ds i (Ready (rules.wake k v w p).process)) j (Ready (rules.wake l u w' q).process))
+    both_kept ds i j k l v u bs cs w w' p q h hp hq = all_set (set ds i (Ready (rules.wake k v w p).process)) j (Ready (rules.wake l u w' q).process) (all_set ds i (Ready (rules.wake k v w p).process) h (keeps.wake k v bs w p hp)) (keeps.wake l u cs w' q hq)
 
     kept_step : (c e : Config W P D M A H) (i : ℕ) → Steps rules naming c i e → All c.processes → All e.processes
     kept_step c e i0 (goes i p w p' at does) h = all_set c.processes i (Ready p') h (stepped c i p (Went w p') h at does)
     kept_step c e i0 (waits i p w bs p' at does) h = all_set c.processes i (Waiting bs p') h (stepped c i p (Parks w bs p') h at does)
     kept_step c e i0 (meets i p bs k a j l b q at branch fit) h =
-        both_kept c.processes i j k l (given a (passing a b)) (given b (passing a b)) bs fit.branches p q h (all_at c.processes i (Waiting bs p) h at) (all_at c.processes j (Waiting fit.branches q) h fit.waits)
+        both_kept c.processes i j k l (given a (passing a b)) (given b (passing a b)) bs fit.branches c.world (rules.wake k (given a (passing a b)) c.world p).world p q h (all_at c.processes i (Waiting bs p) h at) (all_at c.processes j (Waiting fit.branches q) h fit.waits)
     kept_step c e i0 (polls i p w bs p' p'' k a j l b q at does branch fit) h =
         let offered = all_set c.processes i (Waiting bs p') h (stepped c i p (Polls w bs p' p'') h at does).0 in
-        both_kept (set c.processes i (Waiting bs p')) i j k l (given a (passing a b)) (given b (passing a b)) bs fit.branches p' q offered (stepped c i p (Polls w bs p' p'') h at does).0 (all_at (set c.processes i (Waiting bs p')) j (Waiting fit.branches q) offered fit.waits)
+        both_kept (set c.processes i (Waiting bs p')) i j k l (given a (passing a b)) (given b (passing a b)) bs fit.branches w (rules.wake k (given a (passing a b)) w p').world p' q offered (stepped c i p (Polls w bs p' p'') h at does).0 (all_at (set c.processes i (Waiting bs p')) j (Waiting fit.branches q) offered fit.waits)
     kept_step c e i0 (passes i p w bs p' p'' at does none) h =
-        all_set (set c.processes i (Waiting bs p')) i (Ready p'') (all_set c.processes i (Waiting bs p') h (stepped c i p (Polls w bs p' p'') h at does).0) (stepped c i p (Polls w bs p' p'') h at does).1
+        all_set c.processes i (Ready p'') h (stepped c i p (Polls w bs p' p'') h at does).1
     kept_step c e i0 (spawns i p w child p' at does) h =
         all_more (set c.processes i (Ready p')) (Ready child) (all_set c.processes i (Ready p') h (stepped c i p (Spawns w child p') h at does).0) (stepped c i p (Spawns w child p') h at does).1
     kept_step c e i0 (asks i p w m p' at does) h = all_set c.processes i (Asking p') h (stepped c i p (Asks w m p') h at does)
-    kept_step c e i0 (takes i a heard) h = kept_heard c i a e heard h
     kept_step c e i0 (ends i p w how at does) h = all_set c.processes i Gone h (stepped c i p (Ends w how) h at does)
 
     kept_run : (c : Config W P D M A H) (i : ℕ) (e : Config W P D M A H) (n : ℕ) → Run rules naming i c n e → All c.processes → All e.processes
@@ -85,4 +85,5 @@ module _ {W P D M A H : Type 0} (rules : Rules W P D M A H) (naming : Naming W P
     pub kept_matched : (c e : Config W P D M A H) (turns : List Turn) → Matched rules naming c turns e → All c.processes → All e.processes
     kept_matched c e turns begun h = h
     kept_matched c e turns (turn {d = d} i n before run) h = kept_run d i e n run (kept_matched c d _ before h)
+    kept_matched c e turns (down {d = d} l w before lost) h = kept_matched c d _ before h
     kept_matched c e turns (reply {d = d} i a before heard) h = kept_heard d i a e heard (kept_matched c d _ before h)

@@ -2,12 +2,13 @@
 use Rattle.std.proofs.Common.{◌≡◌, ℕ, ◌≤◌, List, arith}
 use Rattle.process_model.specs.Process.{Went, Parks, Polls, Spawns, Asks, Ends}
 use Rattle.process_model.specs.Law.{begins}
+use Rattle.system_model.specs.World.{opening_world}
+use Rattle.system_model.specs.Limits.{frames_limit}
 use Rattle.limbo_meaning.specs.Program.{Routine, routines_of}
-use Rattle.limbo_meaning.specs.World.{opening_world}
 use Rattle.limbo_meaning.specs.Process.{Process, Does, height}
 use Rattle.limbo_meaning.specs.Step.{step, answer}
 use Rattle.limbo_meaning.specs.Rules.{rules, naming}
-use Rattle.limbo_meaning.specs.Runs.{frames_limit, first_process}
+use Rattle.limbo_meaning.specs.Runs.{first_process}
 use Rattle.limbo_meaning.specs.Heights.{IsLow, RunsStayLow, Kind, kind_of}
 use Rattle.limbo_meaning.proofs.Frames.{Grows, Stays, step_grows, answer_stays}
 use Rattle.limbo_meaning.proofs.Kept.{After, AfterReply, Keeps, all_at, kept_matched}
@@ -34,7 +35,7 @@ answer_low limit p h (Ends v how) g = tt
 keeps_low : (limit : ℕ) (routines : List Routine) → Keeps (rules limit routines) naming (IsLow limit)
 keeps_low limit routines = record {
   step = λ w p h. step_low limit (kind_of p) p h (step limit routines w p) (step_grows limit routines w p);
-  wake = λ k v bs p h. h;
+  wake = λ k v bs w p h. h;
   answer = λ a w p h. answer_low limit p h (answer a w p) (answer_stays a w p);
 }
 

@@ -1,9 +1,10 @@
 -- What a replay tells is told of a run.
 use Rattle.process_model.proofs.Itself.{own_journals}
+use Rattle.system_model.specs.World.{opening_world}
+use Rattle.system_model.specs.Limits.{frames_limit}
 use Rattle.limbo_meaning.specs.Program.{routines_of}
-use Rattle.limbo_meaning.specs.World.{opening_world}
 use Rattle.limbo_meaning.specs.Rules.{rules}
-use Rattle.limbo_meaning.specs.Runs.{frames_limit, first_process}
+use Rattle.limbo_meaning.specs.Runs.{first_process}
 use Rattle.limbo_meaning.specs.Replays.{ReplaysAreRuns}
 
 pub replays_are_runs : ReplaysAreRuns

@@ -6,22 +6,26 @@ use Rattle.styx_msg.specs.declared.message.Rmsg.TheVariants as r
 use Rattle.process_model.specs.Process.{Requested, Replied, Over}
 use Rattle.process_model.specs.Machine.{State, Event, Quantum, Reply, replay}
 use Rattle.process_model.specs.Law.{begins_code}
-use Rattle.process_model.specs.Plain.{no_counts}
+use Rattle.process_model.specs.Plain.{no_names}
 use Rattle.limbo_typed.specs.Typed.{Module}
-use Rattle.limbo_meaning.specs.Values.{Value}
+use Rattle.system_model.specs.Values.{Value}
+use Rattle.system_model.specs.World.{World, opening_world}
+use Rattle.system_model.specs.Prints.{Request, Printing, Requests, ask_piece}
+use Rattle.system_model.specs.Ending.{Ending, Ended}
+use Rattle.system_model.specs.Trace.{Trace}
+use Rattle.system_model.specs.Limits.{frames_limit}
+use Rattle.system_model.proofs.Bytes.{byte_at}
 use Rattle.limbo_meaning.specs.Program.{Routine, routines_of}
-use Rattle.limbo_meaning.specs.World.{World, opening_world}
-use Rattle.limbo_meaning.specs.Prints.{Request, Printing, Requests, ask_piece}
-use Rattle.limbo_meaning.specs.Process.{Process, Ending, Ended}
+use Rattle.limbo_meaning.specs.Process.{Process}
 use Rattle.limbo_meaning.specs.Rules.{rules}
-use Rattle.limbo_meaning.specs.Runs.{Trace, frames_limit, first_process}
+use Rattle.limbo_meaning.specs.Runs.{first_process}
 use Rattle.limbo_meaning.specs.Replays.{HasRun}
 use Rattle.limbo_meaning.proofs.Replays.{replays_are_runs}
-use Rattle.limbo_meaning.proofs.Examples.{factorial, byte_at, traced, factorial_of_three}
+use Rattle.limbo_meaning.proofs.Examples.{factorial, traced, factorial_of_three}
 
 -- what is told of a replay from function 0 is told of a run
 run_of : (m : Module) (first : Routine) → slice_get (routines_of m) 0 ≡ Some first → (journal : List (Event Rmsg)) (trace : Trace) (s : Option (State World Process Value Request Rmsg Ending)) →
-    replay (rules frames_limit (routines_of m)) no_counts 2048 (begins_code opening_world (first_process first)) journal ≡ s → traced s ≡ Some trace → HasRun m 0 trace
+    replay (rules frames_limit (routines_of m)) no_names 2048 (begins_code opening_world (first_process first)) journal ≡ s → traced s ≡ Some trace → HasRun m 0 trace
 run_of m first there journal trace None e h = absurd cc
 run_of m first there journal trace (Some t) e h = let same : t.trace ≡ trace = cc in subst (HasRun m 0) same (replays_are_runs m 0 first there 2048 journal t e)
 

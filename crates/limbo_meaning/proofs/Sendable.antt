@@ -5,12 +5,12 @@ use Rattle.std.proofs.lemmas.List.{length-take}
 use Rattle.styx_msg.specs.declared.message.Rmsg.{Rmsg}
 use Rattle.styx_msg.specs.declared.message.Rmsg.TheVariants as r
 use Rattle.process_model.specs.Process.{Asks}
-use Rattle.limbo_meaning.specs.Values.{Value}
+use Rattle.system_model.specs.Values.{Value}
+use Rattle.system_model.specs.World.{World, free_tag, end_wait, wrote}
+use Rattle.system_model.specs.Prints.{Writing, Printing, Answers, Requests, NoReply, text_of, twrite, ask_piece, print, go_on, took, refused, hear}
 use Rattle.limbo_meaning.specs.Trees.{Stm, Over, Assign, Eval, If, While, Return, Leave, Print, Block, Done, Then, Again}
 use Rattle.limbo_meaning.specs.Program.{Routine}
 use Rattle.limbo_meaning.specs.Evaluation.{Progress, Finished, Stepped, Calls, Blocked, next, next_all}
-use Rattle.limbo_meaning.specs.World.{World, free_tag, end_wait, wrote}
-use Rattle.limbo_meaning.specs.Prints.{Writing, Printing, Answers, Requests, NoReply, text_of, twrite, ask_piece, print, go_on, took, refused, hear}
 use Rattle.limbo_meaning.specs.Process.{Frame, Process, Does, returns, calls, prints, hears, height}
 use Rattle.limbo_meaning.specs.Step.{evaluate, act, work, heard}
 use Rattle.limbo_meaning.specs.Requests.{IsSendable, RequestsAreSendable}

@@ -4,12 +4,12 @@ use Rattle.std.proofs.Common.{◌≡◌, ℕ, Bool, true, false, List, [], ◌�
 use Rattle.std.specs.Prelude.{slice_get}
 use Rattle.styx_msg.specs.declared.message.Rmsg.{Rmsg}
 use Rattle.process_model.specs.Process.{Doing, Ready, Waiting, Asking, Gone}
-use Rattle.limbo_meaning.specs.Values.{Value, zero_value, holds}
+use Rattle.system_model.specs.Values.{Value, zero_value, holds}
+use Rattle.system_model.specs.World.{World}
+use Rattle.system_model.specs.Prints.{Writing, Printing, Answers, Requests, NoReply, text_of, print, hear}
 use Rattle.limbo_meaning.specs.Trees.{Term, Evaluated, Awaiting, Constant, Variable, Apply, Call, Terms, NoTerms, MoreTerms, Stm, Over, Assign, Eval, If, While, Return, Leave, Print, Block, Done, Then, Again, join}
 use Rattle.limbo_meaning.specs.Program.{Routine}
 use Rattle.limbo_meaning.specs.Evaluation.{Progress, Finished, Stepped, Calls, Blocked, after, next, next_all, fill, fill_all, fill_stm, fill_block}
-use Rattle.limbo_meaning.specs.World.{World}
-use Rattle.limbo_meaning.specs.Prints.{Writing, Printing, Answers, Requests, NoReply, text_of, print, hear}
 use Rattle.limbo_meaning.specs.Process.{Frame, Process, Does, returns, calls, prints, hears, height}
 use Rattle.limbo_meaning.specs.Step.{chosen, evaluate, act, work, step, heard, answer}
 use Rattle.limbo_meaning.proofs.Kept.{After, AfterReply}

@@ -6,12 +6,13 @@ use Rattle.styx_msg.specs.declared.message.Rmsg.TheVariants as r
 use Rattle.process_model.specs.Process.{Went, Parks, Asks, Ends}
 use Rattle.process_model.specs.Plain.{no_names}
 use Rattle.limbo_typed.specs.Typed.{Add, Subtract, Multiply, Less, Equal, Chars, Decimal}
-use Rattle.limbo_meaning.specs.Values.{Value, Num, result_of}
+use Rattle.system_model.specs.Values.{Value, Num, result_of}
+use Rattle.system_model.specs.World.{World, opening_world, free_tag, begin_wait, wrote}
+use Rattle.system_model.specs.Prints.{text_of, twrite}
+use Rattle.system_model.specs.Ending.{Ended, Broken}
 use Rattle.limbo_meaning.specs.Trees.{Term, Evaluated, Awaiting, Constant, Variable, Apply, Call, NoTerms, MoreTerms, Stm, Over, Assign, Eval, If, While, Return, Leave, Print, Block, Done, Then, Again}
 use Rattle.limbo_meaning.specs.Program.{Routine}
-use Rattle.limbo_meaning.specs.World.{World, opening_world, free_tag, begin_wait, wrote}
-use Rattle.limbo_meaning.specs.Prints.{text_of, twrite}
-use Rattle.limbo_meaning.specs.Process.{Process, Ended, Broken, framed}
+use Rattle.limbo_meaning.specs.Process.{Process, framed}
 use Rattle.limbo_meaning.specs.Step.{step, answer}
 use Rattle.limbo_meaning.specs.Rules.{naming}
 

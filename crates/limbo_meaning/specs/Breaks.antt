@@ -2,9 +2,10 @@
 use Rattle.std.specs.Prelude.{ℕ, ◌≡◌, ◌≤◌, List, [], codes}
 use Rattle.styx_msg.specs.declared.message.Rmsg.{Rmsg}
 use Rattle.process_model.specs.Process.{Ends}
+use Rattle.system_model.specs.World.{World}
+use Rattle.system_model.specs.Ending.{Ending, Ended, Broken, Faulted}
 use Rattle.limbo_meaning.specs.Program.{Routine}
-use Rattle.limbo_meaning.specs.World.{World}
-use Rattle.limbo_meaning.specs.Process.{Process, Ending, Ended, Broken, Faulted, height}
+use Rattle.limbo_meaning.specs.Process.{Process, height}
 use Rattle.limbo_meaning.specs.Step.{step, answer}
 use Rattle.limbo_meaning.specs.Heights.{Calling, Returning, kind_of}
 

@@ -1,10 +1,12 @@
 -- A process that has ended names nothing.
 use Rattle.std.specs.Prelude.{ℕ, ◌≡◌, List, Some, slice_get}
 use Rattle.process_model.specs.Process.{Ends, Ready, Gone}
-use Rattle.process_model.specs.Source.{Steps, names}
+use Rattle.process_model.specs.Naming.{names}
+use Rattle.process_model.specs.Source.{Steps}
+use Rattle.system_model.specs.World.{World}
+use Rattle.system_model.specs.Ending.{Ending}
 use Rattle.limbo_meaning.specs.Program.{Routine}
-use Rattle.limbo_meaning.specs.World.{World}
-use Rattle.limbo_meaning.specs.Process.{Process, Ending}
+use Rattle.limbo_meaning.specs.Process.{Process}
 use Rattle.limbo_meaning.specs.Step.{step}
 use Rattle.limbo_meaning.specs.Rules.{rules, naming}
 use Rattle.limbo_meaning.specs.Runs.{Meaning}

@@ -1,6 +1,6 @@
 -- One step inside an expression: the leftmost part that is ready.
 use Rattle.std.specs.Prelude.{ℕ, List, [], ◌∷◌, slice_index_or}
-use Rattle.limbo_meaning.specs.Values.{Value, zero_value, result_of}
+use Rattle.system_model.specs.Values.{Value, zero_value, result_of}
 use Rattle.limbo_meaning.specs.Trees.{Term, Evaluated, Awaiting, Constant, Variable, Apply, Call, Terms, NoTerms, MoreTerms, Stm, Over, Assign, Eval, If, While, Return, Leave, Print, Block, Done, Then, Again}
 
 -- What a step comes to in a tree. The tree is evaluated already; the step makes it another tree; it calls a function with

@@ -4,7 +4,7 @@ use Rattle.process_model.specs.Process.{Branch, Waiting}
 use Rattle.process_model.specs.Source.{Turn}
 use Rattle.limbo_typed.specs.Typed.{Module}
 use Rattle.limbo_typed.specs.Proper.{IsProper}
-use Rattle.limbo_meaning.specs.Values.{Value}
+use Rattle.system_model.specs.Values.{Value}
 use Rattle.limbo_meaning.specs.Process.{Process}
 use Rattle.limbo_meaning.specs.Runs.{Meaning, MeaningRun}
 

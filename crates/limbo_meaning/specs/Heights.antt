@@ -5,15 +5,16 @@ use Rattle.styx_msg.specs.declared.message.Rmsg.{Rmsg}
 use Rattle.process_model.specs.Process.{Went, Asks, Doing, Ready, Waiting, Asking, Gone}
 use Rattle.process_model.specs.Source.{Turn}
 use Rattle.limbo_typed.specs.Typed.{Module}
-use Rattle.limbo_meaning.specs.Values.{Value}
+use Rattle.system_model.specs.Values.{Value}
+use Rattle.system_model.specs.World.{World}
+use Rattle.system_model.specs.Prints.{Request}
+use Rattle.system_model.specs.Limits.{frames_limit}
 use Rattle.limbo_meaning.specs.Trees.{Stm, Over, Assign, Eval, If, While, Return, Leave, Print, Block, Done, Then, Again}
 use Rattle.limbo_meaning.specs.Program.{Routine}
 use Rattle.limbo_meaning.specs.Evaluation.{Progress, Finished, Stepped, Calls, Blocked, next, next_all}
-use Rattle.limbo_meaning.specs.World.{World}
-use Rattle.limbo_meaning.specs.Prints.{Request}
 use Rattle.limbo_meaning.specs.Process.{Process, height}
 use Rattle.limbo_meaning.specs.Step.{step, answer}
-use Rattle.limbo_meaning.specs.Runs.{Meaning, MeaningRun, frames_limit}
+use Rattle.limbo_meaning.specs.Runs.{Meaning, MeaningRun}
 
 -- What a process does next: it calls, returns, or does something else.
 pub data Kind : Type 0 where

@@ -1,9 +1,6 @@
-pub mod Values
 pub mod Trees
 pub mod Program
 pub mod Evaluation
-pub mod World
-pub mod Prints
 pub mod Process
 pub mod Step
 pub mod Rules

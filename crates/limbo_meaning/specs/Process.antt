@@ -1,12 +1,13 @@
 -- One process: its frames, and what becomes of them at a call, at a return and at a print.
 use Rattle.std.specs.Prelude.{ℕ, suc, ◌-◌, List, [], ◌∷◌, ◌++◌, length, replicate, Option, Some, None, nat_lt, codes, if◌then◌else◌}
 use Rattle.process_model.specs.Process.{Effect, Went, Parks, Asks, Ends}
-use Rattle.limbo_meaning.specs.Values.{Value, zero_value}
+use Rattle.system_model.specs.Values.{Value, zero_value}
+use Rattle.system_model.specs.Ending.{Ending, Ended, Broken}
+use Rattle.system_model.specs.World.{World}
+use Rattle.system_model.specs.Prints.{Request, Writing, Printing, Answers, Requests, NoReply}
 use Rattle.limbo_meaning.specs.Trees.{Evaluated, Awaiting, Eval, Block, Then}
 use Rattle.limbo_meaning.specs.Program.{Routine}
 use Rattle.limbo_meaning.specs.Evaluation.{fill_block}
-use Rattle.limbo_meaning.specs.World.{World}
-use Rattle.limbo_meaning.specs.Prints.{Request, Writing, Printing, Answers, Requests, NoReply}
 
 -- A call of a function: its variables by their numbers, and what is left of its body.
 pub record Frame : Type 0 where
@@ -20,13 +21,6 @@ pub record Process : Type 0 where
   pub frame : Frame
   pub below : List Frame
   pub printing : Option Writing
-
--- How a process ends: it returned from its first function, or broke with this text. In a machine it may come to an instruction of
--- its code that is wrong, which has this place, and is wrong for the reason of this number; no program ends so.
-pub data Ending : Type 0 where
-  Ended : Ending
-  Broken : (text : List ℕ) → Ending
-  Faulted : (number pc : ℕ) → Ending
 
 -- What a step of a process comes to.
 abbrev pub Does : Type 0

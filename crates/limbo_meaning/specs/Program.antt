@@ -2,7 +2,7 @@
 use Rattle.std.specs.Prelude.{ℕ, List, map, length, Option, Some, None}
 use Rattle.limbo_typed.specs.Typed as typed
 use Rattle.limbo_typed.specs.Typed.{Expr, Exprs, Stmt, Stmts, Function, Module}
-use Rattle.limbo_meaning.specs.Values.{Num}
+use Rattle.system_model.specs.Values.{Num}
 use Rattle.limbo_meaning.specs.Trees.{Term, Constant, Variable, Apply, Call, Terms, NoTerms, MoreTerms, Over, Assign, Eval, If, While, Return, Leave, Print, Block, Done, Then}
 
 abbrev mutual

@@ -4,15 +4,18 @@ use Rattle.styx_msg.specs.declared.message.Rmsg.{Rmsg}
 use Rattle.process_model.specs.Source.{Turn}
 use Rattle.process_model.specs.Machine.{State, Event, replay}
 use Rattle.process_model.specs.Law.{begins_code}
-use Rattle.process_model.specs.Plain.{no_counts}
+use Rattle.process_model.specs.Plain.{no_names}
 use Rattle.limbo_typed.specs.Typed.{Module}
-use Rattle.limbo_meaning.specs.Values.{Value}
+use Rattle.system_model.specs.Values.{Value}
+use Rattle.system_model.specs.World.{World, opening_world}
+use Rattle.system_model.specs.Prints.{Request}
+use Rattle.system_model.specs.Ending.{Ending}
+use Rattle.system_model.specs.Trace.{Trace}
+use Rattle.system_model.specs.Limits.{frames_limit}
 use Rattle.limbo_meaning.specs.Program.{Routine, routines_of}
-use Rattle.limbo_meaning.specs.World.{World, opening_world}
-use Rattle.limbo_meaning.specs.Prints.{Request}
-use Rattle.limbo_meaning.specs.Process.{Process, Ending}
+use Rattle.limbo_meaning.specs.Process.{Process}
 use Rattle.limbo_meaning.specs.Rules.{rules}
-use Rattle.limbo_meaning.specs.Runs.{Meaning, Trace, MeaningRun, frames_limit, first_process}
+use Rattle.limbo_meaning.specs.Runs.{Meaning, MeaningRun, first_process}
 
 -- A module has a run of which this is told.
 pub record HasRun (m : Module) (init : ℕ) (trace : Trace) : Type 0 where
@@ -26,5 +29,5 @@ abbrev pub ReplaysAreRuns : Type 0
 ReplaysAreRuns =
     (m : Module) (init : ℕ) (first : Routine) → slice_get (routines_of m) init ≡ Some first →
     (longest : ℕ) (journal : List (Event Rmsg)) (t : State World Process Value Request Rmsg Ending) →
-    replay (rules frames_limit (routines_of m)) no_counts longest (begins_code opening_world (first_process first)) journal ≡ Some t →
+    replay (rules frames_limit (routines_of m)) no_names longest (begins_code opening_world (first_process first)) journal ≡ Some t →
     HasRun m init t.trace

@@ -2,9 +2,9 @@
 use Rattle.std.specs.Prelude.{ℕ, ◌≡◌, ◌≤◌, List, length}
 use Rattle.styx_msg.specs.declared.message.Rmsg.{Rmsg}
 use Rattle.process_model.specs.Process.{Asks}
+use Rattle.system_model.specs.World.{World}
+use Rattle.system_model.specs.Prints.{Request}
 use Rattle.limbo_meaning.specs.Program.{Routine}
-use Rattle.limbo_meaning.specs.World.{World}
-use Rattle.limbo_meaning.specs.Prints.{Request}
 use Rattle.limbo_meaning.specs.Process.{Process}
 use Rattle.limbo_meaning.specs.Step.{step, answer}
 

@@ -1,20 +1,17 @@
 -- A run of a module: its opening, and the steps and replies that follow.
 use Rattle.std.specs.Prelude.{ℕ, ◌≡◌, List, [], Some, None, slice_get}
 use Rattle.styx_msg.specs.declared.message.Rmsg.{Rmsg}
-use Rattle.process_model.specs.Process.{Entry}
 use Rattle.process_model.specs.Source.{Config, Turn, Matched}
 use Rattle.process_model.specs.Law.{begins}
 use Rattle.limbo_typed.specs.Typed.{Module}
-use Rattle.limbo_meaning.specs.Values.{Value}
+use Rattle.system_model.specs.Values.{Value}
+use Rattle.system_model.specs.Limits.{frames_limit}
+use Rattle.system_model.specs.World.{World, opening_world}
+use Rattle.system_model.specs.Prints.{Request}
+use Rattle.system_model.specs.Ending.{Ending}
 use Rattle.limbo_meaning.specs.Program.{Routine, routines_of}
-use Rattle.limbo_meaning.specs.World.{World, opening_world}
-use Rattle.limbo_meaning.specs.Prints.{Request}
-use Rattle.limbo_meaning.specs.Process.{Process, Ending, frame_of}
+use Rattle.limbo_meaning.specs.Process.{Process, frame_of}
 use Rattle.limbo_meaning.specs.Rules.{rules, naming}
-
--- How many frames a process may have.
-abbrev pub frames_limit : ℕ
-frames_limit = 10000
 
 -- The first process, number 1: one frame, of the function that begins, which takes no arguments.
 abbrev pub first_process : Routine → Process
@@ -22,9 +19,6 @@ first_process r = record { number = 1; frame = frame_of r []; below = []; printi
 
 abbrev pub Meaning : Type 0
 Meaning = Config World Process Value Request Rmsg Ending
-
-abbrev pub Trace : Type 0
-Trace = List (Entry Value Request Rmsg Ending)
 
 -- A run of a module that begins with its function `init`: from the opening world, with nothing told, by these turns, each so many
 -- steps of one process, with replies between them, to a configuration, whose trace is what was told.

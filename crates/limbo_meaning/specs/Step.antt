@@ -1,12 +1,12 @@
 -- One step of a process.
 use Rattle.std.specs.Prelude.{ℕ, Bool, true, false, List, Option, Some, None, slice_get, slice_set}
 use Rattle.styx_msg.specs.declared.message.Rmsg.{Rmsg}
-use Rattle.limbo_meaning.specs.Values.{zero_value, holds}
+use Rattle.system_model.specs.Values.{zero_value, holds}
+use Rattle.system_model.specs.World.{World}
+use Rattle.system_model.specs.Prints.{Writing, text_of, print, hear}
 use Rattle.limbo_meaning.specs.Trees.{Stm, Over, Assign, Eval, If, While, Return, Leave, Print, Block, Done, Then, Again, join}
 use Rattle.limbo_meaning.specs.Program.{Routine}
 use Rattle.limbo_meaning.specs.Evaluation.{Progress, Finished, Stepped, Calls, Blocked, next, next_all}
-use Rattle.limbo_meaning.specs.World.{World}
-use Rattle.limbo_meaning.specs.Prints.{Writing, text_of, print, hear}
 use Rattle.limbo_meaning.specs.Process.{Process, Does, stands_still, goes, returns, calls, prints, hears}
 
 abbrev pub chosen : Bool → Block → Block → Block

@@ -1,7 +1,7 @@
 -- Trees in evaluation: what is left to do of an expression, of a statement, and of a function's body.
 use Rattle.std.specs.Prelude.{ℕ, List}
 use Rattle.limbo_typed.specs.Typed.{Operator, Piece}
-use Rattle.limbo_meaning.specs.Values.{Value}
+use Rattle.system_model.specs.Values.{Value}
 
 -- What is left of an expression. A part that is evaluated is its value; a part that waits for the answer of a call, or of a
 -- request to the outside, is Awaiting.

@@ -3,9 +3,9 @@ use Rattle.std.proofs.Common.{◌≡◌, ℕ, zero, suc, ◌+◌, ◌<◌, ◌�
 use Rattle.std.specs.Prelude.{nat_lt, nat_eq}
 use Rattle.process_model.specs.Machine.{ready, turns, is_whole}
 use Rattle.process_model.specs.Machine as machine
-use Rattle.process_model.specs.Plain.{no_counts}
+use Rattle.process_model.specs.Plain.{no_names}
 use Rattle.dis_file.specs.declared.object.Object.{Object}
-use Rattle.limbo_meaning.specs.Runs.{Trace}
+use Rattle.system_model.specs.Trace.{Trace}
 use Rattle.dis_meaning.specs.Process.{Process}
 use Rattle.dis_meaning.specs.Opening.{◌>>=◌}
 use Rattle.dis_control_ops.specs.View.{view_process}
@@ -68,7 +68,7 @@ module _ (objects : List Object) where
       happens objects s (event.Quantum 1 count) ≡ Some t
   quantum_happens s t zero some few sound h whole = absurd (omega (arith, some))
   quantum_happens s t (suc n) some few sound h whole =
-      ap (λ f. unless_faulted f (machine.happens (machine_rules objects) no_counts longest s (machine.Quantum 0 (suc n)))) sound
+      ap (λ f. unless_faulted f (machine.happens (machine_rules objects) no_names longest s (machine.Quantum 0 (suc n)))) sound
       ∙ ap (λ b. if b then None else wholly (suc n) (turned objects (suc n) s)) (not_longer n few)
       ∙ ap (wholly (suc n)) h
       ∙ whole

@@ -1,8 +1,8 @@
 -- What a print's reply comes to lets its process go on, ask or end.
 use Rattle.std.proofs.Common.{◌≡◌, ℤ, refl}
 use Rattle.process_model.specs.Process.{Went, Parks, Polls, Spawns, Asks, Ends}
-use Rattle.limbo_meaning.specs.Prints as prints
-use Rattle.limbo_meaning.specs.Prints.{Answers, Requests, NoReply}
+use Rattle.system_model.specs.Prints as prints
+use Rattle.system_model.specs.Prints.{Answers, Requests, NoReply}
 use Rattle.dis_meaning.specs.Words.{Place, Access, Found, Wrong, ◌>>=◌}
 use Rattle.dis_meaning.specs.World.{World}
 use Rattle.dis_meaning.specs.Process.{Process, Does, or_fault, with_frames}

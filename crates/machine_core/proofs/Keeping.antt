@@ -3,7 +3,7 @@ use Rattle.std.proofs.Common.{◌≡◌, ◌≢◌, ℕ, zero, suc, ◌+◌, ◌
 use Rattle.std.specs.Option.{option_map}
 use Rattle.std.proofs.lemmas.List.{append-nil}
 use Rattle.dis_file.specs.declared.object.Object.{Object}
-use Rattle.limbo_meaning.specs.Runs.{Trace}
+use Rattle.system_model.specs.Trace.{Trace}
 use Rattle.machine_core.specs.declared.event.Event.{Event}
 use Rattle.machine_core.specs.declared.event.Event.TheVariants as event
 use Rattle.machine_core.specs.declared.outcome.Faulted.{Faulted}
@@ -15,7 +15,7 @@ use Rattle.machine_core.specs.declared.running.Turn.{Turn}
 use Rattle.machine_core.specs.declared.running.Turn.TheVariants as turn
 use Rattle.machine_core.specs.Journal.{State, Fault, fault_in, or_else, unless_faulted, longest, machine_rules, happens, state_of, quanta}
 use Rattle.process_model.specs.Machine as machine
-use Rattle.process_model.specs.Plain.{no_counts}
+use Rattle.process_model.specs.Plain.{no_names}
 use Rattle.styx_msg.specs.declared.message.Rmsg.{Rmsg}
 use Rattle.dis_meaning.specs.Opening.{◌>>=◌}
 use Rattle.machine_core.specs.Running.{state_with, told_by, stands_after, HadTurns, stands_heard, told_heard, hears, IsHeard, MeansReply}
@@ -156,7 +156,7 @@ nothing (Some f) = refl
 
 module _ (objects : List Object) (a : Rmsg) (r : Running) (link : ℕ) (frame : List ℕ) (means : MeansReply r link frame (Some a)) (told : Trace) where
   as_heard : (o : Option State) → hears objects a (state_with r told) ≡ o → happens objects (state_with r told) (event.Reply link frame) ≡ unless_faulted (fault_in told) o
-  as_heard o h = ap (λ m. unless_faulted (fault_in told) (m >>= machine.happens (machine_rules objects) no_counts longest (state_with r told))) (means told) ∙ ap (unless_faulted (fault_in told)) h
+  as_heard o h = ap (λ m. unless_faulted (fault_in told) (m >>= machine.happens (machine_rules objects) no_names longest (state_with r told))) (means told) ∙ ap (unless_faulted (fault_in told)) h
 
   -- A reply that isn't heard doesn't happen.
   pub refused_happens : hears objects a (state_with r told) ≡ None → happens objects (state_with r told) (event.Reply link frame) ≡ None

@@ -2,7 +2,7 @@
 use Rattle.std.proofs.Common.{◌≡◌, ℕ, ◌+◌, List, [], ◌++◌, Some, refl, sym, ap, ◌∙◌}
 use Rattle.std.proofs.lemmas.List.{append-nil}
 use Rattle.dis_file.specs.declared.object.Object.{Object}
-use Rattle.limbo_meaning.specs.Runs.{Trace}
+use Rattle.system_model.specs.Trace.{Trace}
 use Rattle.machine_core.specs.declared.running.Running.{Running}
 use Rattle.machine_core.specs.declared.running.Turn.{Turn}
 use Rattle.machine_core.specs.declared.running.Turn.TheVariants.{Went, Asked, Ended, Broken, Fault, NoMemory}

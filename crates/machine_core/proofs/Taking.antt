@@ -8,11 +8,11 @@ use Rattle.styx_msg.specs.declared.message.Rmsg.TheVariants as reply
 use Rattle.styx_msg.proofs.Frames as frames
 use Rattle.process_model.specs.Process.{Doing, Asking, Went, Parks, Polls, Spawns, Asks, Ends}
 use Rattle.process_model.specs.Machine as machine
-use Rattle.process_model.specs.Plain.{no_counts}
+use Rattle.process_model.specs.Plain.{no_names}
 use Rattle.dis_file.specs.declared.object.Object.{Object}
-use Rattle.limbo_meaning.specs.Values.{Value, int_of}
-use Rattle.limbo_meaning.specs.World as outside
-use Rattle.limbo_meaning.specs.Prints.{Writing, Answers, NoReply, hear, took, go_on, refused}
+use Rattle.system_model.specs.Values.{Value, int_of}
+use Rattle.system_model.specs.World as outside
+use Rattle.system_model.specs.Prints.{Writing, Answers, NoReply, hear, took, go_on, refused}
 use Rattle.dis_meaning.specs.Process.{Process, Printing, Does}
 use Rattle.dis_meaning.specs.Step.{heard}
 use Rattle.dis_meaning.specs.Opening.{◌>>=◌}
@@ -22,7 +22,7 @@ use Rattle.machine_core.specs.Taken.{IsReplyTo}
 use Rattle.machine_core.proofs.Replies.{reads_at}
 use Rattle.machine_core.proofs.Hearing.{Goes, hears_goes}
 
-taken_on : (s : State) (a : Rmsg) (e : Does) → Goes e → IsSome (elim (machine.answered s 0 a e) as (λ o. Option State) [ None ↦ None | Some t ↦ Some (machine.freeing no_counts 0 t) ])
+taken_on : (s : State) (a : Rmsg) (e : Does) → Goes e → IsSome (elim (machine.answered s 0 a e) as (λ o. Option State) [ None ↦ None | Some t ↦ Some (machine.cut no_names 0 t) ])
 taken_on s a (Went x p) g = refl
 taken_on s a (Asks x m p) g = refl
 taken_on s a (Ends x how) g = refl
@@ -72,14 +72,14 @@ module _ (objects : List Object) (s : State) (p : Process) (k : Printing) (a : R
       ∙ ap (λ o. o >>= λ i. Some (machine.Reply i a)) asks
 
   abbrev replied : Option (Doing Process Value) → Option State
-  replied d = machine.replied (machine_rules objects) no_counts s 0 a d
+  replied d = machine.replied (machine_rules objects) no_names s 0 a d
 
   does_go : Goes (heard a s.world p p.printing)
   does_go = subst (λ q. Goes (heard a s.world p q)) (sym waits) (hears_goes s.world p k.place k.at (hear a s.world.outside k.writing) (hear_some a s.world.outside k.writing is))
 
   pub taken : fault_in s.trace ≡ None → IsSome (happens objects s (event.Reply 1 bytes))
   taken sound =
-      let step = ap (λ m. unless_faulted (fault_in s.trace) (m >>= machine.happens (machine_rules objects) no_counts longest s)) means
+      let step = ap (λ m. unless_faulted (fault_in s.trace) (m >>= machine.happens (machine_rules objects) no_names longest s)) means
       ∙ ap (λ f. unless_faulted f (replied (slice_get s.processes 0))) sound
       ∙ ap (λ ds. replied (slice_get ds 0)) there in
       subst (λ o. IsSome o) (sym step) (taken_on s a (heard a s.world p p.printing) does_go)

@@ -2,10 +2,10 @@
 use Rattle.std.proofs.Common.{◌≡◌, ℕ, ◌-◌, Bool, true, false, List, [], ◌∷◌, ◌++◌, length, take, drop, Option, Some, None, refl, sym, ap, ◌∙◌, arith, append_assoc, length-append, if◌then◌else◌}
 use Rattle.std.specs.Prelude.{◌==◌}
 use Rattle.std.proofs.lemmas.List.{take-append-drop, drop_at}
-use Rattle.process_model.specs.Process.{Requested, Replied, Passed, Over, Released}
-use Rattle.limbo_meaning.specs.Prints.{Request}
-use Rattle.limbo_meaning.specs.Process.{Ending, Ended, Broken, Faulted}
-use Rattle.limbo_meaning.specs.Runs.{Trace}
+use Rattle.process_model.specs.Process.{Requested, Replied, Passed, Over, Released, Lost}
+use Rattle.system_model.specs.Prints.{Request}
+use Rattle.system_model.specs.Ending.{Ending, Ended, Broken, Faulted}
+use Rattle.system_model.specs.Trace.{Trace}
 use Rattle.sys_print.specs.declared.writing.Request as code_request
 use Rattle.sys_print.specs.Printing.{view_request}
 use Rattle.machine_core.specs.Journal.{Fault, fault_of, fault_in, or_else}
@@ -27,6 +27,7 @@ requests_more link (Replied i r ∷ a) b = requests_more link a b
 requests_more link (Passed c v i k j l ∷ a) b = requests_more link a b
 requests_more link (Over i how ∷ a) b = requests_more link a b
 requests_more link (Released i ns ∷ a) b = requests_more link a b
+requests_more link (Lost l ∷ a) b = requests_more link a b
 
 breach_more : (i : ℕ) (how : Ending) (xs ys : List Breach) → breach i how (xs ++ ys) ≡ breach i how xs ++ ys
 breach_more i Ended xs ys = refl
@@ -40,6 +41,7 @@ breaches_more (Replied i r ∷ a) b = breaches_more a b
 breaches_more (Passed c v i k j l ∷ a) b = breaches_more a b
 breaches_more (Over i how ∷ a) b = ap (breach i how) (breaches_more a b) ∙ breach_more i how (breaches a) (breaches b)
 breaches_more (Released i ns ∷ a) b = breaches_more a b
+breaches_more (Lost l ∷ a) b = breaches_more a b
 
 or_else_more : (x y z : Option Fault) → or_else x (or_else y z) ≡ or_else (or_else x y) z
 or_else_more (Some f) y z = refl
@@ -52,6 +54,7 @@ fault_more (Replied i r ∷ a) b = fault_more a b
 fault_more (Passed c v i k j l ∷ a) b = fault_more a b
 fault_more (Over i how ∷ a) b = ap (or_else (fault_of how)) (fault_more a b) ∙ or_else_more (fault_of how) (fault_in a) (fault_in b)
 fault_more (Released i ns ∷ a) b = fault_more a b
+fault_more (Lost l ∷ a) b = fault_more a b
 
 pub frames_more : (link : ℕ) (a b : List code_request.Request) → frames_on link (a ++ b) ≡ frames_on link a ++ frames_on link b
 frames_more link [] b = refl

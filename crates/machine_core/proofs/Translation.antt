@@ -2,7 +2,7 @@
 use Rattle.std.proofs.Common.{◌≡◌, List, [], ◌∷◌, Option, Some, None, refl, ap, ◌∙◌}
 use Rattle.styx_msg.specs.declared.message.Rmsg.{Rmsg}
 use Rattle.process_model.specs.Machine as model
-use Rattle.process_model.specs.Plain.{no_counts}
+use Rattle.process_model.specs.Plain.{no_names}
 use Rattle.dis_file.specs.declared.object.Object.{Object}
 use Rattle.dis_meaning.specs.Opening.{Opened, ◌>>=◌}
 use Rattle.machine_core.specs.declared.event.Event.{Event}
@@ -11,10 +11,10 @@ use Rattle.machine_core.specs.Translated.{translated, Translates}
 
 module _ (objects : List Object) where
   abbrev model_happens : State → model.Event Rmsg → Option State
-  model_happens s e = model.happens (machine_rules objects) no_counts longest s e
+  model_happens s e = model.happens (machine_rules objects) no_names longest s e
 
   abbrev model_replay : State → List (model.Event Rmsg) → Option State
-  model_replay s es = model.replay (machine_rules objects) no_counts longest s es
+  model_replay s es = model.replay (machine_rules objects) no_names longest s es
 
   -- What happened, by its translation.
   pub happened : (s t : State) (e : Event) (f : Option Fault) (o : Option (model.Event Rmsg)) → unless_faulted f (o >>= model_happens s) ≡ Some t → (m : model.Event Rmsg) × (o ≡ Some m) × (model_happens s m ≡ Some t)

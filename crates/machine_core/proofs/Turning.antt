@@ -2,13 +2,14 @@
 use Rattle.std.proofs.Common.{◌≡◌, ℕ, zero, suc, ◌+◌, List, [], ◌∷◌, ◌++◌, Option, Some, None, refl, ap, ◌∙◌, add-one}
 use Rattle.std.proofs.lemmas.List.{append-nil}
 use Rattle.process_model.specs.Process.{Doing, Ready, Asking, Gone, Went, Asks, Ends, Requested, Over}
-use Rattle.process_model.specs.Machine.{does, freeing, turns}
-use Rattle.process_model.specs.Plain.{no_counts}
+use Rattle.process_model.specs.Machine.{does, cut, turns}
+use Rattle.process_model.specs.Plain.{no_names}
 use Rattle.dis_file.specs.declared.object.Object.{Object}
-use Rattle.limbo_meaning.specs.Values.{Value}
-use Rattle.limbo_meaning.specs.Prints.{Request}
-use Rattle.limbo_meaning.specs.Process.{Ending}
-use Rattle.limbo_meaning.specs.Runs.{Trace, frames_limit}
+use Rattle.system_model.specs.Values.{Value}
+use Rattle.system_model.specs.Prints.{Request}
+use Rattle.system_model.specs.Ending.{Ending}
+use Rattle.system_model.specs.Trace.{Trace}
+use Rattle.system_model.specs.Limits.{frames_limit}
 use Rattle.dis_meaning.specs.World.{World}
 use Rattle.dis_meaning.specs.Process.{Process, Does}
 use Rattle.dis_meaning.specs.Step.{step}
@@ -21,7 +22,7 @@ one d x told = record { processes = d ∷ []; world = x; waiters = []; trace = t
 
 module _ (objects : List Object) (x y : World) (p q : Process) (told : Trace) where
   abbrev after : Does → Option State
-  after e = Some (freeing no_counts 0 (does (machine_rules objects) no_counts (one (Ready p) x told) 0 e))
+  after e = Some (cut no_names 0 (does (machine_rules objects) (one (Ready p) x told) 0 e))
 
   pub went : step frames_limit objects x p ≡ Went y q → obeyed objects (one (Ready p) x told) ≡ Some (one (Ready q) y (told ++ []))
   went h = ap after h
@@ -34,7 +35,7 @@ module _ (objects : List Object) (x y : World) (p q : Process) (told : Trace) wh
 
 module _ (objects : List Object) where
   abbrev pub turned : ℕ → State → Option State
-  turned n s = turns (machine_rules objects) no_counts 0 n s
+  turned n s = turns (machine_rules objects) no_names 0 n s
 
   abbrev and_then : ℕ → Option State → Option State
   and_then n o = elim o as (λ o. Option State) [ None ↦ None | Some t ↦ turned n t ]

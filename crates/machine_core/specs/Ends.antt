@@ -1,9 +1,9 @@
 -- How a run has ended.
 use Rattle.std.specs.Prelude.{ℕ, suc, Bool, true, false, List, [], ◌∷◌, Option, Some, None, nat_le, ◌&&◌, if◌then◌else◌}
-use Rattle.process_model.specs.Process.{Doing, Ready, Waiting, Asking, Gone, Requested, Replied, Passed, Over, Released}
-use Rattle.limbo_meaning.specs.Values.{Value}
-use Rattle.limbo_meaning.specs.Process.{Ending, Ended, Broken, Faulted}
-use Rattle.limbo_meaning.specs.Runs.{Trace}
+use Rattle.process_model.specs.Process.{Doing, Ready, Waiting, Asking, Gone, Requested, Replied, Passed, Over, Released, Lost}
+use Rattle.system_model.specs.Values.{Value}
+use Rattle.system_model.specs.Ending.{Ending, Ended, Broken, Faulted}
+use Rattle.system_model.specs.Trace.{Trace}
 use Rattle.dis_meaning.specs.Process.{Process}
 use Rattle.machine_core.specs.declared.end.End.{End}
 use Rattle.machine_core.specs.declared.end.End.TheVariants as end
@@ -38,6 +38,7 @@ breaches (Replied i a ∷ es) = breaches es
 breaches (Passed channel v i k j l ∷ es) = breaches es
 breaches (Over i how ∷ es) = breach i how (breaches es)
 breaches (Released i names ∷ es) = breaches es
+breaches (Lost l ∷ es) = breaches es
 
 -- Where no process is live: whether one broke.
 abbrev pub done : List Breach → End

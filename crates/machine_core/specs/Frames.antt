@@ -1,9 +1,9 @@
 -- The requests of a machine.
 use Rattle.std.specs.Prelude.{ℕ, List, [], ◌∷◌, Option, Some, None, ◌==◌, if◌then◌else◌}
-use Rattle.process_model.specs.Process.{Requested, Replied, Passed, Over, Released}
+use Rattle.process_model.specs.Process.{Requested, Replied, Passed, Over, Released, Lost}
 use Rattle.dis_file.specs.declared.object.Object.{Object}
-use Rattle.limbo_meaning.specs.Prints.{Request}
-use Rattle.limbo_meaning.specs.Runs.{Trace}
+use Rattle.system_model.specs.Prints.{Request}
+use Rattle.system_model.specs.Trace.{Trace}
 use Rattle.machine_core.specs.declared.event.Event.{Event}
 use Rattle.machine_core.specs.Journal.{State, state_after}
 
@@ -19,6 +19,7 @@ requests link (Replied i a ∷ es) = requests link es
 requests link (Passed channel v i k j l ∷ es) = requests link es
 requests link (Over i how ∷ es) = requests link es
 requests link (Released i names ∷ es) = requests link es
+requests link (Lost l ∷ es) = requests link es
 
 -- The frames of a journal's requests.
 abbrev pub requests_in : (link : ℕ) → Option State → List (List ℕ)

@@ -4,16 +4,17 @@ use Rattle.styx_msg.specs.declared.message.Rmsg.{Rmsg}
 use Rattle.byteorder.specs.Endian.{little_number}
 use Rattle.styx_msg.specs.Styx.{stated_size, stated_type}
 use Rattle.styx_msg.specs.Reading.{r_kind_of, r_body_at}
-use Rattle.process_model.specs.Process.{Doing, Ready, Waiting, Asking, Gone, Rules, Requested, Replied, Passed, Over, Released}
+use Rattle.process_model.specs.Process.{Doing, Ready, Waiting, Asking, Gone, Rules, Requested, Replied, Passed, Over, Released, Lost}
 use Rattle.process_model.specs.Machine as model
 use Rattle.process_model.specs.Machine.{Quantum, Reply, turns}
-use Rattle.process_model.specs.Plain.{no_counts}
+use Rattle.process_model.specs.Plain.{no_names}
 use Rattle.process_model.specs.Law.{begins_code}
 use Rattle.dis_file.specs.declared.object.Object.{Object}
-use Rattle.limbo_meaning.specs.Values.{Value}
-use Rattle.limbo_meaning.specs.Prints.{Request}
-use Rattle.limbo_meaning.specs.Process.{Ending, Ended, Broken, Faulted}
-use Rattle.limbo_meaning.specs.Runs.{Trace, frames_limit}
+use Rattle.system_model.specs.Values.{Value}
+use Rattle.system_model.specs.Prints.{Request}
+use Rattle.system_model.specs.Ending.{Ending, Ended, Broken, Faulted}
+use Rattle.system_model.specs.Trace.{Trace}
+use Rattle.system_model.specs.Limits.{frames_limit}
 use Rattle.dis_meaning.specs.World.{World}
 use Rattle.dis_meaning.specs.Process.{Process, Printing}
 use Rattle.dis_meaning.specs.Rules.{rules}
@@ -112,6 +113,7 @@ fault_in (Replied i a ∷ es) = fault_in es
 fault_in (Passed channel v i k j l ∷ es) = fault_in es
 fault_in (Over i how ∷ es) = or_else (fault_of how) (fault_in es)
 fault_in (Released i names ∷ es) = fault_in es
+fault_in (Lost l ∷ es) = fault_in es
 
 abbrev pub unless_faulted : {T : Type 0} → Option Fault → Option T → Option T
 unless_faulted (Some f) o = None
@@ -120,7 +122,7 @@ unless_faulted None o = o
 module _ (objects : List Object) where
   -- The state after an event, where it is allowed. After a fault nothing happens any more.
   abbrev pub happens : State → Event → Option State
-  happens s e = unless_faulted (fault_in s.trace) (meant s e >>= model.happens (machine_rules objects) no_counts longest s)
+  happens s e = unless_faulted (fault_in s.trace) (meant s e >>= model.happens (machine_rules objects) no_names longest s)
 
   -- The state that a journal leads to, where each of its events was allowed.
   abbrev pub replay : State → List Event → Option State
@@ -158,7 +160,7 @@ pub record IsSound (objects : List Object) (limit : ℕ) (journal : List Event) 
 -- state as they would in a longer one.
 abbrev pub cut_short : List Object → Option ℕ → State → Option State
 cut_short objects None s = Some s
-cut_short objects (Some count) s = turns (machine_rules objects) no_counts 0 count s
+cut_short objects (Some count) s = turns (machine_rules objects) no_names 0 count s
 
 abbrev pub state_of : List Object → List Event → (cut : Option ℕ) → Option State
 state_of objects journal cut = state_after objects journal >>= cut_short objects cut

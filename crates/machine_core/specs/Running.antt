@@ -5,11 +5,11 @@ use Rattle.process_model.specs.Process as model
 use Rattle.process_model.specs.Process.{Requested, Replied, Over}
 use Rattle.process_model.specs.Machine as event
 use Rattle.process_model.specs.Machine.{Reply, obey, ready, turns, replied}
-use Rattle.process_model.specs.Plain.{no_counts}
+use Rattle.process_model.specs.Plain.{no_names}
 use Rattle.dis_file.specs.declared.object.Object.{Object}
-use Rattle.limbo_meaning.specs.Values.{Value}
-use Rattle.limbo_meaning.specs.Process.{Ended, Broken, Faulted}
-use Rattle.limbo_meaning.specs.Runs.{Trace}
+use Rattle.system_model.specs.Values.{Value}
+use Rattle.system_model.specs.Ending.{Ended, Broken, Faulted}
+use Rattle.system_model.specs.Trace.{Trace}
 use Rattle.sys_print.specs.Printing.{view_request}
 use Rattle.dis_meaning.specs.Process.{Process}
 use Rattle.dis_control_ops.specs.declared.process.Asking.{Asking}
@@ -58,7 +58,7 @@ stands_after turn.NoMemory = doing.Ready
 module _ (objects : List Object) where
   -- One instruction.
   abbrev pub obeyed : State → Option State
-  obeyed s = obey (machine_rules objects) no_counts s 0 (ready (slice_get s.processes 0))
+  obeyed s = obey (machine_rules objects) no_names s 0 (ready (slice_get s.processes 0))
 
   -- The instruction was obeyed, or memory ran out, and nothing changed.
   abbrev pub IsTurn : Running → Running → Turn → Type 0
@@ -67,7 +67,7 @@ module _ (objects : List Object) where
 
   -- So many instructions were obeyed.
   abbrev pub HadTurns : Running → Running → (count : ℕ) → Turn → Type 0
-  HadTurns old new count t = (told : Trace) → turns (machine_rules objects) no_counts 0 count (state_with old told) ≡ Some (state_with new (told ++ told_by t))
+  HadTurns old new count t = (told : Trace) → turns (machine_rules objects) no_names 0 count (state_with old told) ≡ Some (state_with new (told ++ told_by t))
 
 -- ---- replies
 
@@ -86,7 +86,7 @@ told_heard a t = Replied 0 a ∷ told_by t
 
 module _ (objects : List Object) (a : Rmsg) where
   abbrev pub hears : State → Option State
-  hears s = replied (machine_rules objects) no_counts s 0 a (slice_get s.processes 0)
+  hears s = replied (machine_rules objects) no_names s 0 a (slice_get s.processes 0)
 
   -- The reply was heard, or memory ran out, and nothing changed.
   abbrev pub IsHeard : Running → Running → Turn → Type 0

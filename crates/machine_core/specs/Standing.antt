@@ -1,7 +1,7 @@
 -- A machine, as its journal has it.
 use Rattle.std.specs.Prelude.{◌≡◌, ℕ, Bool, true, false, Option, None, Some, Result, Ok, Err, List, [], ◌∷◌, ◌++◌}
 use Rattle.std.specs.Global.{Vec}
-use Rattle.limbo_meaning.specs.Runs.{Trace}
+use Rattle.system_model.specs.Trace.{Trace}
 use Rattle.dis_file.specs.declared.object.Object.{Object}
 use Rattle.sys_print.specs.Sent.{IsSent}
 use Rattle.dis_control_ops.specs.declared.process.Asking.{Asking}

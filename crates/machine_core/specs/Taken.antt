@@ -5,7 +5,7 @@ use Rattle.styx_msg.specs.declared.message.Rmsg.{Rmsg}
 use Rattle.styx_msg.specs.declared.message.Rmsg.TheVariants as reply
 use Rattle.process_model.specs.Process.{Asking}
 use Rattle.dis_file.specs.declared.object.Object.{Object}
-use Rattle.limbo_meaning.specs.Prints.{Writing}
+use Rattle.system_model.specs.Prints.{Writing}
 use Rattle.dis_meaning.specs.Process.{Process, Printing}
 use Rattle.machine_core.specs.declared.event.Event.TheVariants as event
 use Rattle.machine_core.specs.Journal.{State, fault_in, happens}

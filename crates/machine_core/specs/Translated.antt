@@ -2,7 +2,7 @@
 use Rattle.std.specs.Prelude.{◌≡◌, List, [], ◌∷◌, Some, None}
 use Rattle.styx_msg.specs.declared.message.Rmsg.{Rmsg}
 use Rattle.process_model.specs.Machine as model
-use Rattle.process_model.specs.Plain.{no_counts}
+use Rattle.process_model.specs.Plain.{no_names}
 use Rattle.process_model.specs.Law.{begins_code}
 use Rattle.dis_file.specs.declared.object.Object.{Object}
 use Rattle.dis_meaning.specs.Opening.{Opened}
@@ -22,7 +22,7 @@ module _ (objects : List Object) where
 pub record Translates (objects : List Object) (journal : List Event) (t : State) : Type 0 where
   pub opened : Opened
   pub opens : start_of objects ≡ Some opened
-  pub replays : model.replay (machine_rules objects) no_counts longest (begins_code opened.world opened.first) (translated objects (begins opened) journal) ≡ Some t
+  pub replays : model.replay (machine_rules objects) no_names longest (begins_code opened.world opened.first) (translated objects (begins opened) journal) ≡ Some t
 
 abbrev pub JournalsTranslate : Type 0
 JournalsTranslate = (objects : List Object) (journal : List Event) (t : State) → state_after objects journal ≡ Some t → Translates objects journal t

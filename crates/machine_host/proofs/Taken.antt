@@ -8,14 +8,14 @@ use Rattle.styx_msg.specs.Styx.{spelling, r_row, Fits, Begins}
 use Rattle.process_model.specs.Process.{Effect, Went, Parks, Polls, Spawns, Asks, Ends, Doing, Ready, Waiting, Asking, Gone}
 use Rattle.process_model.specs.Machine as model
 use Rattle.process_model.specs.Machine.{answered, replied}
-use Rattle.process_model.specs.Plain.{no_counts}
+use Rattle.process_model.specs.Plain.{no_names}
 use Rattle.dis_file.specs.declared.object.Object.{Object}
-use Rattle.limbo_meaning.specs.Values.{Value}
-use Rattle.limbo_meaning.specs.World as outside
-use Rattle.limbo_meaning.specs.World.{wrote, end_wait}
-use Rattle.limbo_meaning.specs.Prints.{Request, Writing, Answers, Requests, NoReply, hear, took, go_on, refused, ask_piece}
-use Rattle.limbo_meaning.specs.Prints as prints
-use Rattle.limbo_meaning.specs.Process.{Ending, Faulted}
+use Rattle.system_model.specs.Values.{Value}
+use Rattle.system_model.specs.World as outside
+use Rattle.system_model.specs.World.{wrote, end_wait}
+use Rattle.system_model.specs.Prints.{Request, Writing, Answers, Requests, NoReply, hear, took, go_on, refused, ask_piece}
+use Rattle.system_model.specs.Prints as prints
+use Rattle.system_model.specs.Ending.{Ending, Faulted}
 use Rattle.dis_meaning.specs.Words.{Access, Found, Wrong}
 use Rattle.dis_meaning.specs.Words as words
 use Rattle.dis_meaning.specs.World.{World}
@@ -46,7 +46,7 @@ goes_on w k total (b ∷ bs) e = let l = asks_less 8191 b bs in let n = ap lengt
 took_so : (w : outside.World) (k : Writing) (count : ℕ) → IsHeard k (took w k count)
 took_so w k count = go (nat_lt count k.asked)
   where
-    go : (b : Bool) → IsHeard k (if b then Answers w (Rattle.limbo_meaning.specs.Values.int_of (Rattle.std.specs.Prelude.pos (k.written + count))) else go_on w (k.written + count) k.left)
+    go : (b : Bool) → IsHeard k (if b then Answers w (Rattle.system_model.specs.Values.int_of (Rattle.std.specs.Prelude.pos (k.written + count))) else go_on w (k.written + count) k.left)
     go true = tt
     go false = goes_on w k (k.written + count) k.left refl
 
@@ -111,7 +111,7 @@ pub record Took (objects : List Object) (s : State) (left : ℕ) (frame : List �
 
 module _ (objects : List Object) where
   by_answer : (s : State) (p : Process) (k : Writing) (reply : Rmsg) (does : Does) → s.processes ≡ Asking p ∷ [] → IsTaken k does →
-      (t : State) × ((elim (answered s 0 reply does) as (λ _. Option State) [ None ↦ None | Some t ↦ Some (model.freeing no_counts 0 t) ]) ≡ Some t)
+      (t : State) × ((elim (answered s 0 reply does) as (λ _. Option State) [ None ↦ None | Some t ↦ Some (model.cut no_names 0 t) ]) ≡ Some t)
       × ((q : Process) (a : Printing) → slice_get t.processes 0 ≡ Some (Asking q) → q.printing ≡ Some a → length a.writing.left < length k.left)
   by_answer s p k reply (Went x q) one is = (_, refl, λ r a at asks. let w : Some (Ready q) ≡ Some (Asking r) = ap (λ ps. slice_get (Rattle.std.proofs.Math.ListN.set ps 0 (Ready q)) 0) (sym one) ∙ at in absurd cc)
   by_answer s p k reply (Asks x m q) one is = (
@@ -152,9 +152,9 @@ module _ (objects : List Object) where
       record {
         after = done.0;
         happens =
-            ap (λ f. unless_faulted f (meant s (event.Reply 1 frame) >>= model.happens (machine_rules objects) no_counts longest s)) sound
-            ∙ ap (λ o. o >>= model.happens (machine_rules objects) no_counts longest s) what
-            ∙ ap (λ ps. replied (machine_rules objects) no_counts s 0 is.reply (slice_get ps 0)) one
+            ap (λ f. unless_faulted f (meant s (event.Reply 1 frame) >>= model.happens (machine_rules objects) no_names longest s)) sound
+            ∙ ap (λ o. o >>= model.happens (machine_rules objects) no_names longest s) what
+            ∙ ap (λ ps. replied (machine_rules objects) no_names s 0 is.reply (slice_get ps 0)) one
             ∙ done.1;
         less = done.2;
       }

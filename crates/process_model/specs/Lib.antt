@@ -1,4 +1,5 @@
 pub mod Process
+pub mod Naming
 pub mod Source
 pub mod Choice
 pub mod Machine
@@ -8,4 +9,7 @@ pub mod Follows
 pub mod Law
 pub mod Laws
 pub mod Plain
-pub mod Composed
+pub mod Shared
+pub mod Passes
+pub mod Living
+pub mod Once

@@ -1,8 +1,8 @@
 -- The pieces of a print.
 use Rattle.std.proofs.Common.{◌≡◌, ℕ, ◌<◌, List, [], ◌∷◌, length, take, drop, min, refl, ap, ◌∙◌, arith, encode_utf8_all}
 use Rattle.std.proofs.lemmas.List.{take_min, drop_min}
-use Rattle.limbo_meaning.specs.World.{World, free_tag, begin_wait}
-use Rattle.limbo_meaning.specs.Prints.{Request, Requests, twrite, ask_piece, go_on, print}
+use Rattle.system_model.specs.World.{World, free_tag, begin_wait}
+use Rattle.system_model.specs.Prints.{Request, Requests, twrite, ask_piece, go_on, print}
 
 pub asks_piece : (w v : World) (m : Request) (tag written : ℕ) (bytes piece left : List ℕ) →
     tag ≡ free_tag w.links.console → piece ≡ take (min 8192 (length bytes)) bytes → left ≡ drop (min 8192 (length bytes)) bytes →

@@ -1,6 +1,6 @@
 -- The search for a free tag, one try on.
 use Rattle.std.proofs.Common.{◌≡◌, ℕ, suc, ◌+◌, ◌-◌, ◌<◌, true, if◌then◌else◌, List, sym, ap, ◌∙◌, arith, add-one}
-use Rattle.limbo_meaning.specs.World.{is_among, least_from}
+use Rattle.system_model.specs.World.{is_among, least_from}
 
 pub least_on : (tries tag : ℕ) (ws : List ℕ) → tag < tries → is_among tag ws ≡ true → least_from (tries - (tag + 1)) (tag + 1) ws ≡ least_from (tries - tag) tag ws
 least_on tries tag ws h found =

@@ -1,10 +1,10 @@
 -- The prints of the program, as the definitions have them.
-use Rattle.limbo_meaning.specs.Prints.{Request, Writing, Printing, Answers, Requests, NoReply}
+use Rattle.system_model.specs.Prints.{Request, Writing, Printing, Answers, Requests, NoReply}
+use Rattle.system_model.specs.Values.{Num}
 use Rattle.sys_print.specs.declared.writing.Request as code_request
 use Rattle.sys_print.specs.declared.writing.Writing as code_writing
 use Rattle.sys_print.specs.declared.prints.Printing as code_printing
 use Rattle.sys_print.specs.declared.prints.Printing.TheVariants as printing
-use Rattle.limbo_meaning.specs.Values.{Num}
 use Rattle.sys_print.specs.Worlds.{view_world}
 
 abbrev pub view_request : code_request.Request → Request

@@ -1,10 +1,10 @@
 //! What `sys->print` asks of the outside, and what the replies come to, as a program: the requests and answers that
-//! limbo_meaning defines.
+//! system_model defines.
 //!
 //! A print of a text is a row of Twrites to the console, one behind the reply to the other: `print` makes the first of them and `hear`
-//! goes on with a reply. The contract of each is the definition of its name in limbo_meaning's `Prints`; `specs/Worlds` and
+//! goes on with a reply. The contract of each is the definition of its name in system_model's `Prints`; `specs/Worlds` and
 //! `specs/Printing` join the data here to those of the definitions, and `specs/Sent` says that what
-//! is asked is a message. The slow program of the meaning and the machine stand on it.
+//! is asked is a message. The machine stands on it.
 #![tactic(auto)]
 
 mod outside;

@@ -1,5 +1,5 @@
 ghost use Rattle.std.specs.Prelude.{◌≡◌, IfOk};
-ghost use Rattle.limbo_meaning.specs.World as meaning;
+ghost use Rattle.system_model.specs.World as meaning;
 ghost use Rattle.sys_print.specs.Worlds.{view_link, view_world};
 
 use std::alloc::{AllocError, Global};
@@ -29,7 +29,7 @@ pub struct Links {
     pub console: Link,
 }
 
-/// What all processes share. The heap is empty so far.
+/// What all processes share of the outside.
 #[derive(Drop)]
 pub struct World {
     pub files: Files,

@@ -1,8 +1,8 @@
 ghost use Rattle.std.specs.Prelude.{◌≡◌, ◌+◌, ◌^◌, ◌<◌, ◌≤◌, length, pos, IfOk};
 ghost use Rattle.styx_msg.specs.declared.message.Rmsg.TheVariants.{Write};
 ghost use Rattle.styx_msg.specs.declared.fault.StyxFault.TheVariants.{NoMemory};
-ghost use Rattle.limbo_meaning.specs.Prints as meaning;
-ghost use Rattle.limbo_meaning.specs.Values.{Num, int_of};
+ghost use Rattle.system_model.specs.Prints as meaning;
+ghost use Rattle.system_model.specs.Values.{Num, int_of};
 ghost use Rattle.sys_print.specs.Worlds.{view_world};
 ghost use Rattle.sys_print.specs.Printing.{view_request, view_writing, view_printing};
 ghost use Rattle.sys_print.specs.Sent.{IsSent, Sent};

@@ -1,5 +1,5 @@
 use Rattle.std.proofs.Common.{◌≡◌, ◌-◌}
-use Rattle.limbo_meaning.specs.World.{least_from}
+use Rattle.system_model.specs.World.{least_from}
 use Rattle.sys_print.proofs.outside.free_tag.Given as goal
 
 abbrev pub invariant-loop-tag : goal.invariant-loop-tag

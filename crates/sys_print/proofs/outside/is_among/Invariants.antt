@@ -1,5 +1,5 @@
 use Rattle.std.proofs.Common.{◌≡◌, drop}
-use Rattle.limbo_meaning.specs.World.{is_among}
+use Rattle.system_model.specs.World.{is_among}
 use Rattle.sys_print.proofs.outside.is_among.Given as goal
 
 abbrev pub invariant-loop-m : goal.invariant-loop-m

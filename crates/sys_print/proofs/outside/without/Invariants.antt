@@ -1,5 +1,5 @@
 use Rattle.std.proofs.Common.{◌≡◌, ◌++◌, drop}
-use Rattle.limbo_meaning.specs.World.{without}
+use Rattle.system_model.specs.World.{without}
 use Rattle.sys_print.proofs.outside.without.Given as goal
 
 abbrev pub invariant-loop-m : goal.invariant-loop-m

@@ -1,6 +1,6 @@
 use Rattle.std.proofs.Common.{◌≡◌, ◌∙◌, sym, ap, take, drop}
-use Rattle.limbo_meaning.specs.World.{begin_wait}
-use Rattle.limbo_meaning.specs.Prints.{twrite}
+use Rattle.system_model.specs.World.{begin_wait}
+use Rattle.system_model.specs.Prints.{twrite}
 use Rattle.sys_print.specs.Worlds.{view_world}
 use Rattle.sys_print.specs.Printing.{view_request}
 use Rattle.sys_print.proofs.Pieces.{asks_piece}

@@ -1,7 +1,7 @@
 use Rattle.std.proofs.Common.{◌∙◌, ap, rules, FitsSigned}
 use Rattle.std.specs.Int.{int_wrap, w32}
 use Rattle.std.proofs.lemmas.Int.{to_z-of_z}
-use Rattle.limbo_meaning.specs.Values.{Num}
+use Rattle.system_model.specs.Values.{Num}
 use Rattle.sys_print.proofs.prints.int_of_count.Goals as goal
 
 pub returns : goal.returns

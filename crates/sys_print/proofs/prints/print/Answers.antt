@@ -1,5 +1,5 @@
 use Rattle.std.proofs.Common.{◌≡◌, ◌<◌, ◌∙◌, sym, ap, length, rules, tests}
-use Rattle.limbo_meaning.specs.Prints.{ask_piece, print}
+use Rattle.system_model.specs.Prints.{ask_piece, print}
 use Rattle.sys_print.specs.Worlds.{view_world}
 use Rattle.sys_print.proofs.Pieces.{prints_some}
 use Rattle.sys_print.proofs.prints.print.Goals as goal

@@ -1,6 +1,6 @@
 use Rattle.std.proofs.Common.{[], ◌∷◌, ◌++◌, Some, sym, ap, ◌∙◌}
 use Rattle.process_model.specs.Process.{Gone, Over}
-use Rattle.limbo_meaning.specs.Process.{Ended, Broken, Faulted}
+use Rattle.system_model.specs.Ending.{Ended, Broken, Faulted}
 use Rattle.sys_print.specs.Printing.{view_request}
 use Rattle.dis_control_ops.specs.View.{codes_of, view_process, view_world}
 use Rattle.dis_control_ops.specs.Words.{number_of}

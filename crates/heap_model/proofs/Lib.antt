@@ -1,0 +1,15 @@
+pub mod Heap
+pub mod Kept
+pub mod Alike
+pub mod Settle
+pub mod Worlds
+pub mod Changes
+pub mod Growing
+pub mod Building
+pub mod Made
+pub mod Quiet
+pub mod Joined
+pub mod Staying
+pub mod Values
+pub mod Makers
+pub mod Orders

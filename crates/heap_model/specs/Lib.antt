@@ -1,0 +1,9 @@
+pub mod Kept
+pub mod Heap
+pub mod Facts
+pub mod Alike
+pub mod Contents
+pub mod Worlds
+pub mod Quiet
+pub mod Joined
+pub mod Laws

@@ -1,3 +1,0 @@
-pub mod Wraps
-pub mod Folds
-pub mod Telling

@@ -1,5 +1,0 @@
-pub mod View
-pub mod Routines
-pub mod Processes
-pub mod Alone
-pub mod Stories

@@ -1,0 +1,6 @@
+pub mod Values
+pub mod World
+pub mod Prints
+pub mod Ending
+pub mod Trace
+pub mod Limits
