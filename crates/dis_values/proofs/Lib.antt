@@ -1,0 +1,5 @@
+pub mod Made
+pub mod Parts
+pub mod Sliced
+pub mod Consed
+pub mod Replaced

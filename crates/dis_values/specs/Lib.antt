@@ -1,0 +1,4 @@
+pub mod Making
+pub mod Texts
+pub mod Arrays
+pub mod Lists

@@ -1,0 +1,11 @@
+pub mod Sums
+pub mod Naming
+pub mod Steps
+pub mod Places
+pub mod Chain
+pub mod View
+pub mod Put
+pub mod Reuse
+pub mod Last
+pub mod Outside
+pub mod RefTo

@@ -1,0 +1,12 @@
+use Rattle.std.proofs.Common.{Ok, sym, ap, ◌∙◌}
+use Rattle.ref_heap.specs.Store.{Block}
+use Rattle.ref_heap.specs.Answers.{answer_for}
+use Rattle.ref_heap.proofs.View.{at_looked}
+use Rattle.ref_heap.specs.Kinds.{fd_number}
+use Rattle.ref_heap.proofs.heap.Heap.fd_of.Goals as goal
+
+pub returns-in-Some : goal.returns-in-Some
+returns-in-Some c = ap Ok c.fd_number.ensures ∙ sym (ap (answer_for (λ (b : Block). fd_number b.kind)) (at_looked c.self.inside.made c.self.inside.slots c.self.inside.lost.items c.args.self.now c.args.r.serial _ _ c.self.view_is c.look.ensures c.in-Some.is))
+
+pub returns-in-None : goal.returns-in-None
+returns-in-None c = sym (ap (answer_for (λ (b : Block). fd_number b.kind)) (at_looked c.self.inside.made c.self.inside.slots c.self.inside.lost.items c.args.self.now c.args.r.serial _ _ c.self.view_is c.look.ensures c.in-None.is))

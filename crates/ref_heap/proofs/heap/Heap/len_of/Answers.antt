@@ -1,0 +1,13 @@
+use Rattle.std.proofs.Common.{Ok, sym, ap, ◌∙◌}
+use Rattle.ref_heap.specs.Store.{Block}
+use Rattle.ref_heap.specs.Answers.{answer_for}
+use Rattle.ref_heap.proofs.View.{at_looked}
+use Rattle.std.proofs.Common.{length}
+use Rattle.ref_heap.specs.Store.{words_of}
+use Rattle.ref_heap.proofs.heap.Heap.len_of.Goals as goal
+
+pub returns-in-Some : goal.returns-in-Some
+returns-in-Some c = ap Ok c.len.ensures ∙ sym (ap (answer_for (λ (b : Block). length (words_of b))) (at_looked c.self.inside.made c.self.inside.slots c.self.inside.lost.items c.args.self.now c.args.r.serial _ _ c.self.view_is c.look.ensures c.in-Some.is))
+
+pub returns-in-None : goal.returns-in-None
+returns-in-None c = sym (ap (answer_for (λ (b : Block). length (words_of b))) (at_looked c.self.inside.made c.self.inside.slots c.self.inside.lost.items c.args.self.now c.args.r.serial _ _ c.self.view_is c.look.ensures c.in-None.is))

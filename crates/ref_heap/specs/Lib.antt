@@ -1,0 +1,9 @@
+pub mod Words
+pub mod Kinds
+pub mod Store
+pub mod Drops
+pub mod Answers
+pub mod Kept
+pub mod Slots
+pub mod Chain
+pub mod View
