@@ -1,0 +1,5 @@
+pub mod Fields
+pub mod Rows
+pub mod Data
+pub mod Whole
+pub mod Shortest

@@ -1,0 +1,5 @@
+pub mod Texts
+pub mod Loop
+pub mod Stands
+pub mod Long
+pub mod Whole
