@@ -1,4 +1,4 @@
-ghost use Rattle.std.specs.Prelude.{◌≡◌, ◌++◌, ◌∷◌, [], true, length, IfOk, IfErr, OnErr, IsUtf8, encode_utf8_all};
+ghost use Rattle.std.specs.Prelude.{◌≡◌, ◌↔◌, ◌++◌, ◌∷◌, [], true, IsTrue, length, IfOk, IfErr, OnErr, IsUtf8, encode_utf8_all};
 ghost use Rattle.std.specs.Str.{all_scalars};
 ghost use Rattle.std.specs.Fmt.{signed_decimal};
 ghost use Rattle.inf_text.specs.Utf8.{IsFirstBadPlace};
@@ -198,6 +198,17 @@ impl Clone for Text {
             chars: self.chars.clone()?,
         })
     }
+}
+
+/// Whether characters have this spelling.
+pub fn is_spelled(text: &[char], spelling: &str) -> bool
+    ensures { IsTrue result ↔ (text.now ≡ spelling.now) }
+{
+    let bytes = spelling.as_bytes();
+    if text.len() != bytes.len() {
+        return false;
+    }
+    text.iter().zip(bytes).all(|(c, b)| *c == char::from(*b))
 }
 
 /// The decimal spelling of a number: a minus sign where it is below 0, then its digits without leading zeros.

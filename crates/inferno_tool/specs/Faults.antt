@@ -9,8 +9,7 @@ use Rattle.limbo_tree.specs.Sources.{Source, IsTree, source_nesting}
 use Rattle.limbo_parser.specs.declared.tree.ParseFault.{ParseFault}
 use Rattle.limbo_parser.specs.declared.tree.ParseFault.TheVariants as parse
 use Rattle.limbo_typed.specs.Typed.{Module}
-use Rattle.limbo_names.specs.declared.fault.Cause.{Cause}
-use Rattle.limbo_names.specs.declared.fault.Cause.TheVariants as unmet
+use Rattle.limbo_names.specs.Numbers as conditions
 use Rattle.limbo_names.specs.Part.{is_built}
 use Rattle.limbo_check_stmt.specs.Checking.{check, declares_init}
 use Rattle.limbo_check_stmt.specs.Typing.{IsModule}
@@ -36,20 +35,12 @@ parse_number parse.NoMemory = 0
 parse_number (parse.Syntax token) = 30
 parse_number (parse.TooDeep token) = 31
 
--- the number of a condition of names and types that isn't met
-abbrev pub unmet_number : Cause → ℕ
-unmet_number unmet.Twice = 41
-unmet_number unmet.Unknown = 42
-unmet_number unmet.TypeClash = 50
-unmet_number unmet.NotPlace = 51
-unmet_number unmet.BadFormat = 54
-unmet_number unmet.NoReturn = 63
-
+-- the number of a refusal
 abbrev pub number_of : SourceFault → ℕ
 number_of (Lex fault) = lex_number fault
 number_of (Parse fault span) = parse_number fault
 number_of Unbuilt = 25
-number_of (Unmet cause span) = unmet_number cause
+number_of (Unmet cause span) = conditions.number_of cause
 number_of NoInit = 45
 number_of FrameTooLarge = 70
 number_of CodeTooLarge = 71
@@ -100,7 +91,7 @@ IsLexFault _ = Unit {0}
 
 -- What a refusal of the tree says of it. It is outside the built part. It is in it, but doesn't meet this condition of names and types,
 -- the first one that it doesn't meet. It has a checked module, but doesn't declare `init` as a first module has to. It does, but the
--- module has a frame that is too large, or code that is.
+-- module has a frame that is too large, or code that is, and then no such frame.
 abbrev pub IsTreeFault : Source → SourceFault → Type 0
 IsTreeFault tree (Lex fault) = ⊥
 IsTreeFault tree (Parse fault span) = ⊥
@@ -108,7 +99,9 @@ IsTreeFault tree Unbuilt = is_built tree ≡ false
 IsTreeFault tree (Unmet cause span) = (is_built tree ≡ true) × (check tree ≡ Err cause)
 IsTreeFault tree NoInit = (is_built tree ≡ true) × (declares_init tree ≡ false) × ((m : Module) × IsModule tree m)
 IsTreeFault tree FrameTooLarge = (is_built tree ≡ true) × (declares_init tree ≡ true) × ((m : Module) × IsModule tree m × sizes.FrameTooLarge m)
-IsTreeFault tree CodeTooLarge = (is_built tree ≡ true) × (declares_init tree ≡ true) × ((m : Module) × IsModule tree m × limits.CodeTooLarge m)
+IsTreeFault tree CodeTooLarge =
+    (is_built tree ≡ true) × (declares_init tree ≡ true)
+    × ((m : Module) × IsModule tree m × limits.CodeTooLarge m × (sizes.FrameTooLarge m → ⊥))
 
 -- the bytes have a tree, which has this fault
 pub record HasTreeFault (source : List ℕ) (fault : SourceFault) : Type 0 where

@@ -1,12 +1,13 @@
 ghost use Rattle.std.specs.Prelude.{◌≡◌};
 ghost use Rattle.inferno_tool.specs.Closing.{status_of};
 ghost use Rattle.inferno_tool.specs.Outcome.{lacks_memory};
-ghost use Rattle.inferno_tool.specs.Faults.{lex_number, parse_number, unmet_number, number_of, place_of};
+ghost use Rattle.inferno_tool.specs.Faults.{lex_number, parse_number, number_of, place_of};
+ghost use Rattle.limbo_names.specs.Numbers as conditions;
 
 use dis_file::Object;
 use inf_text::{Span, Text};
 use limbo_lexer::LexFault;
-use limbo_names::Cause as Unmet;
+use limbo_names::Unmet;
 use limbo_parser::ParseFault;
 use machine_core::{Broken, Journal};
 
@@ -57,7 +58,7 @@ fn parse_number(fault: ParseFault) -> u8
 
 /// The number of a condition of names and types that isn't met.
 fn unmet_number(cause: Unmet) -> u8
-    ensures { result ≡ unmet_number cause }
+    ensures { result ≡ conditions.number_of cause }
 {
     match cause {
         Unmet::Twice => 41,

@@ -300,7 +300,7 @@ fn refusals(rt: HostRuntime) -> Result<(), Fail> {
     let rows = [
         ("f() { x := 1; x := 2; }", "6:15: fault 41"),
         ("f() { y = 1; }", "6:7: fault 42"),
-        ("f(): int { return; }", "6:12: fault 50"),
+        ("f() { return 1; }", "6:7: fault 50"),
         ("f() { f = 1; }", "6:7: fault 51"),
         ("f() { sys->print(\"%d\"); }", "6:7: fault 54"),
         ("f(n: int): int { if (n) return 1; }", "6:1: fault 63"),

@@ -9,8 +9,8 @@ use Rattle.limbo_tree.specs.Exprs as tree
 use Rattle.limbo_typed.specs.Typed.{Operator, Expr, Exprs, Number, Variable, Binary, Call, Add, Subtract, Multiply, Less, Equal}
 use Rattle.limbo_typed.specs.View.{exprs_of}
 use Rattle.limbo_typed.specs.Proper.{type_of}
-use Rattle.limbo_names.specs.declared.fault.Cause.{Cause}
-use Rattle.limbo_names.specs.declared.fault.Cause.TheVariants.{Unknown, TypeClash}
+use Rattle.limbo_names.specs.declared.fault.Unmet.{Unmet}
+use Rattle.limbo_names.specs.declared.fault.Unmet.TheVariants.{Unknown, TypeClash}
 use Rattle.limbo_names.specs.Names.{◌>>=◌, choose, need, same_text}
 use Rattle.limbo_names.specs.Scopes.{Scope, Numbered, find_function, is_top, same_list}
 use Rattle.limbo_names.specs.Part.{is_small}
@@ -97,7 +97,7 @@ is_int_of : (x : Expr) → type_of x ≡ Int → is_int x ≡ true
 is_int_of x h = ap (λ t. same t Int) h ∙ itself Int
 
 -- what a row gives is in the table, and it gives nothing only where nothing is
-RowGiven : BinaryOp → Expr → Expr → Result Expr Cause → Type 0
+RowGiven : BinaryOp → Expr → Expr → Result Expr Unmet → Type 0
 RowGiven o x y (Ok w) = BinaryRow o x y w
 RowGiven o x y (Err c) = (c ≡ TypeClash) × ((w : Expr) → BinaryRow o x y w → ⊥)
 
@@ -130,7 +130,7 @@ row_given o x y = go (operator_of o) refl (is_int x) refl (is_int y) refl
     go (Some p) e true h false k = (refl, no_row_of o x y (rw (e, h, k) refl))
     go (Some p) e false h b k = (refl, no_row_of o x y (rw (e, h) refl))
 
-CallGiven : Numbered → List Expr → Result Expr Cause → Type 0
+CallGiven : Numbered → List Expr → Result Expr Unmet → Type 0
 CallGiven g xs (Ok w) = CallRow g xs w
 CallGiven g xs (Err c) = (c ≡ TypeClash) × ((w : Expr) → CallRow g xs w → ⊥)
 
@@ -148,11 +148,11 @@ call_given g xs = go (same_list (map type_of xs) g.of.args) refl
 
 -- ---- the whole
 
-unfoldable pub Judged : Scope → Env → tree.Expr → Result Expr Cause → Type 0
+unfoldable pub Judged : Scope → Env → tree.Expr → Result Expr Unmet → Type 0
 Judged s v e (Ok x) = Types s v e x
 Judged s v e (Err c) = Fails s v c e
 
-unfoldable pub JudgedAll : Scope → Env → List Expr → tree.Exprs → Result (List Expr) Cause → Type 0
+unfoldable pub JudgedAll : Scope → Env → List Expr → tree.Exprs → Result (List Expr) Unmet → Type 0
 JudgedAll s v before es (Ok ys) = (xs : List Expr) × (ys ≡ before ++ xs) × TypeAll s v es xs
 JudgedAll s v before es (Err c) = FailAll s v c es
 
@@ -180,40 +180,40 @@ name_judged s v n = elim (found_local n v) [
   | inr (l, e, h) ↦ rw e (value_judged s v n l h (same l.ty Int) refl)
 ]
 
-group_judged : (s : Scope) (v : Env) (e : tree.Expr) (r : Result Expr Cause) → Judged s v e r → Judged s v (tree.Group (tree.MoreExprs e tree.NoExprs)) r
+group_judged : (s : Scope) (v : Env) (e : tree.Expr) (r : Result Expr Unmet) → Judged s v e r → Judged s v (tree.Group (tree.MoreExprs e tree.NoExprs)) r
 unfolding Judged
 group_judged s v e (Ok x) j = rule.group e x j
 group_judged s v e (Err c) j = rule.in_group c e j
 
-right_judged : (s : Scope) (v : Env) (o : BinaryOp) (l r : tree.Expr) (x : Expr) → Types s v l x → (q : Result Expr Cause) → Judged s v r q → Judged s v (tree.Binary o l r) (q >>= λ y. binary_row o x y)
+right_judged : (s : Scope) (v : Env) (o : BinaryOp) (l r : tree.Expr) (x : Expr) → Types s v l x → (q : Result Expr Unmet) → Judged s v r q → Judged s v (tree.Binary o l r) (q >>= λ y. binary_row o x y)
 unfolding Judged RowGiven
 right_judged s v o l r x h (Err c) j = rule.in_right c o l r x h j
 right_judged s v o l r x h (Ok y) j = go (binary_row o x y) (row_given o x y)
   where
-    go : (w : Result Expr Cause) → RowGiven o x y w → Judged s v (tree.Binary o l r) w
+    go : (w : Result Expr Unmet) → RowGiven o x y w → Judged s v (tree.Binary o l r) w
     go (Ok w) g = rule.operation o l r x y w h j g
     go (Err c) g = subst (λ d. Fails s v d (tree.Binary o l r)) (sym g.0) (rule.no_row o l r x y h j g.1)
 
-left_judged : (s : Scope) (v : Env) (o : BinaryOp) (l r : tree.Expr) (p q : Result Expr Cause) → Judged s v l p → Judged s v r q → Judged s v (tree.Binary o l r) (p >>= λ x. q >>= λ y. binary_row o x y)
+left_judged : (s : Scope) (v : Env) (o : BinaryOp) (l r : tree.Expr) (p q : Result Expr Unmet) → Judged s v l p → Judged s v r q → Judged s v (tree.Binary o l r) (p >>= λ x. q >>= λ y. binary_row o x y)
 unfolding Judged
 left_judged s v o l r (Err c) q h j = rule.in_left c o l r h
 left_judged s v o l r (Ok x) q h j = right_judged s v o l r x h q j
 
-args_judged : (s : Scope) (v : Env) (f : tree.Expr) (es : tree.Exprs) (g : Numbered) → Calls s v f g → (q : Result (List Expr) Cause) → JudgedAll s v [] es q → Judged s v (tree.Call f es) (q >>= λ xs. call_row g xs)
+args_judged : (s : Scope) (v : Env) (f : tree.Expr) (es : tree.Exprs) (g : Numbered) → Calls s v f g → (q : Result (List Expr) Unmet) → JudgedAll s v [] es q → Judged s v (tree.Call f es) (q >>= λ xs. call_row g xs)
 unfolding Judged JudgedAll CallGiven
 args_judged s v f es g h (Err c) j = rule.in_args c f es g h j
 args_judged s v f es g h (Ok ys) (xs, e, j) = subst (λ zs. Judged s v (tree.Call f es) (call_row g zs)) (sym e) (go (call_row g xs) (call_given g xs))
   where
-    go : (w : Result Expr Cause) → CallGiven g xs w → Judged s v (tree.Call f es) w
+    go : (w : Result Expr Unmet) → CallGiven g xs w → Judged s v (tree.Call f es) w
     go (Ok w) k = rule.called f es g xs w h j k
     go (Err c) k = subst (λ d. Fails s v d (tree.Call f es)) (sym k.0) (rule.no_call f es g xs h j k.1)
 
-function_judged : (s : Scope) (v : Env) (n : List ℕ) (es : tree.Exprs) → IsUnseen v n → (q : Result (List Expr) Cause) → JudgedAll s v [] es q → (o : Option Numbered) → find_function n s.functions ≡ o → Judged s v (tree.Call (tree.Name n) es) (choose o (Err (missing s n)) Ok >>= λ g. q >>= λ xs. call_row g xs)
+function_judged : (s : Scope) (v : Env) (n : List ℕ) (es : tree.Exprs) → IsUnseen v n → (q : Result (List Expr) Unmet) → JudgedAll s v [] es q → (o : Option Numbered) → find_function n s.functions ≡ o → Judged s v (tree.Call (tree.Name n) es) (choose o (Err (missing s n)) Ok >>= λ g. q >>= λ xs. call_row g xs)
 unfolding Judged
 function_judged s v n es h q j None e = rule.no_function (missing s n) n es e (no_name s v n h)
 function_judged s v n es h q j (Some g) e = args_judged s v (tree.Name n) es g (rule.function n g h e) q j
 
-call_judged : (s : Scope) (v : Env) (f : tree.Expr) (es : tree.Exprs) (q : Result (List Expr) Cause) → JudgedAll s v [] es q → Judged s v (tree.Call f es) (called s v f >>= λ g. q >>= λ xs. call_row g xs)
+call_judged : (s : Scope) (v : Env) (f : tree.Expr) (es : tree.Exprs) (q : Result (List Expr) Unmet) → JudgedAll s v [] es q → Judged s v (tree.Call f es) (called s v f >>= λ g. q >>= λ xs. call_row g xs)
 unfolding Judged called
 call_judged s v (tree.Name n) es q j = elim (found_local n v) [
   | inl (h, e) ↦ rw e (function_judged s v n es h q j (find_function n s.functions) refl)
@@ -221,12 +221,12 @@ call_judged s v (tree.Name n) es q j = elim (found_local n v) [
 ]
 call_judged s v f es q j = rule.no_callee f es refl
 
-more_judged : (s : Scope) (v : Env) (before : List Expr) (e : tree.Expr) (es : tree.Exprs) (x : Expr) → Types s v e x → (q : Result (List Expr) Cause) → JudgedAll s v (before ++ x ∷ []) es q → JudgedAll s v before (tree.MoreExprs e es) q
+more_judged : (s : Scope) (v : Env) (before : List Expr) (e : tree.Expr) (es : tree.Exprs) (x : Expr) → Types s v e x → (q : Result (List Expr) Unmet) → JudgedAll s v (before ++ x ∷ []) es q → JudgedAll s v before (tree.MoreExprs e es) q
 unfolding JudgedAll
 more_judged s v before e es x h (Err c) j = rule.in_rest c e es x h j
 more_judged s v before e es x h (Ok ys) (xs, k, j) = (x ∷ xs, k ∙ append_assoc before (x ∷ []) xs, rule.more e es x xs h j)
 
-first_judged : (s : Scope) (v : Env) (before : List Expr) (e : tree.Expr) (es : tree.Exprs) (r : Result Expr Cause) → Judged s v e r → ((x : Expr) → JudgedAll s v (before ++ x ∷ []) es (type_all s v (before ++ x ∷ []) es)) → JudgedAll s v before (tree.MoreExprs e es) (r >>= λ x. type_all s v (before ++ x ∷ []) es)
+first_judged : (s : Scope) (v : Env) (before : List Expr) (e : tree.Expr) (es : tree.Exprs) (r : Result Expr Unmet) → Judged s v e r → ((x : Expr) → JudgedAll s v (before ++ x ∷ []) es (type_all s v (before ++ x ∷ []) es)) → JudgedAll s v before (tree.MoreExprs e es) (r >>= λ x. type_all s v (before ++ x ∷ []) es)
 unfolding Judged JudgedAll
 first_judged s v before e es (Err c) h j = rule.in_first c e es h
 first_judged s v before e es (Ok x) h j = more_judged s v before e es x h (type_all s v (before ++ x ∷ []) es) (j x)

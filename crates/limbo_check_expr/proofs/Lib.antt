@@ -1,3 +1,4 @@
 pub mod Views
 pub mod Judged
 pub mod Clauses
+pub mod Others

@@ -5,8 +5,8 @@ use Rattle.inf_text.specs.declared.span.Span.{Span}
 use Rattle.limbo_tree.specs.declared.expr.Expr as code_tree
 use Rattle.limbo_tree.specs.declared.expr.Expr.TheVariants as make
 use Rattle.limbo_tree.specs.View as trees
-use Rattle.limbo_expr_parser.proofs.View.{view_expr-Number, view_expr-Call}
-use Rattle.limbo_names.specs.declared.fault.Cause.TheVariants.{TypeClash}
+use Rattle.limbo_tree.proofs.Exprs.{view_expr-Number, view_expr-Call}
+use Rattle.limbo_names.specs.declared.fault.Unmet.TheVariants.{TypeClash}
 use Rattle.limbo_names.specs.declared.fault.CheckFault.{CheckFault}
 use Rattle.limbo_names.specs.Names.{◌>>=◌}
 use Rattle.limbo_names.specs.Scopes.{Scope, Numbered}

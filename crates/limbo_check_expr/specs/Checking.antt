@@ -9,8 +9,8 @@ use Rattle.limbo_tree.specs.Exprs as tree
 use Rattle.limbo_typed.specs.Typed.{Operator, Expr, Exprs, Number, Variable, Binary, Call, Add, Subtract, Multiply, Less, Equal}
 use Rattle.limbo_typed.specs.View.{exprs_of}
 use Rattle.limbo_typed.specs.Proper.{type_of}
-use Rattle.limbo_names.specs.declared.fault.Cause.{Cause}
-use Rattle.limbo_names.specs.declared.fault.Cause.TheVariants.{Unknown, TypeClash}
+use Rattle.limbo_names.specs.declared.fault.Unmet.{Unmet}
+use Rattle.limbo_names.specs.declared.fault.Unmet.TheVariants.{Unknown, TypeClash}
 use Rattle.limbo_names.specs.Names.{◌>>=◌, choose, need}
 use Rattle.limbo_names.specs.Scopes.{Scope, Numbered, find_function, is_top, same_list}
 use Rattle.limbo_names.specs.Part.{is_small}
@@ -20,19 +20,19 @@ abbrev pub is_int : Expr → Bool
 is_int x = same (type_of x) Int
 
 -- why a name that no variable has stands for no value
-abbrev pub missing : Scope → List ℕ → Cause
+abbrev pub missing : Scope → List ℕ → Unmet
 missing s n = if is_top s n then TypeClash else Unknown
 
-abbrev pub value_of : Local → Result Expr Cause
+abbrev pub value_of : Local → Result Expr Unmet
 value_of l = need (same l.ty Int) TypeClash >>= λ ok. Ok (Variable Int l.variable)
 
-abbrev pub named : Scope → Env → List ℕ → Result Expr Cause
+abbrev pub named : Scope → Env → List ℕ → Result Expr Unmet
 named s v n = choose (find_local n v) (Err (missing s n)) value_of
 
-abbrev pub function_named : Scope → List ℕ → Result Numbered Cause
+abbrev pub function_named : Scope → List ℕ → Result Numbered Unmet
 function_named s n = choose (find_function n s.functions) (Err (missing s n)) Ok
 
-unfoldable pub called : Scope → Env → tree.Expr → Result Numbered Cause
+unfoldable pub called : Scope → Env → tree.Expr → Result Numbered Unmet
 called s v (tree.Name n) = choose (find_local n v) (function_named s n) (λ l. Err TypeClash)
 called s v _ = Err TypeClash
 
@@ -44,18 +44,18 @@ operator_of binary.Less = Some Less
 operator_of binary.Equal = Some Equal
 operator_of _ = None
 
-unfoldable pub binary_row : BinaryOp → Expr → Expr → Result Expr Cause
+unfoldable pub binary_row : BinaryOp → Expr → Expr → Result Expr Unmet
 binary_row o x y =
     choose (operator_of o) (Err TypeClash) λ p. if is_int x && is_int y then Ok (Binary Int p x y) else Err TypeClash
 
-unfoldable pub call_row : Numbered → List Expr → Result Expr Cause
+unfoldable pub call_row : Numbered → List Expr → Result Expr Unmet
 call_row g xs = if same_list (map type_of xs) g.of.args then Ok (Call g.of.answer g.number (exprs_of xs)) else Err TypeClash
 
-abbrev pub number : ℤ → Bool → Result Expr Cause
+abbrev pub number : ℤ → Bool → Result Expr Unmet
 number n wide = need (is_small n wide) TypeClash >>= λ ok. Ok (Number Int n)
 
 unfoldable mutual
-  pub types : Scope → Env → tree.Expr → Result Expr Cause
+  pub types : Scope → Env → tree.Expr → Result Expr Unmet
   types s v (tree.Number n wide) = number n wide
   types s v (tree.Name n) = named s v n
   types s v (tree.Group es) = types_one s v es
@@ -70,20 +70,20 @@ unfoldable mutual
   types s v _ = Err TypeClash
 
   -- the one expression in parentheses
-  pub types_one : Scope → Env → tree.Exprs → Result Expr Cause
+  pub types_one : Scope → Env → tree.Exprs → Result Expr Unmet
   types_one s v tree.NoExprs = Err TypeClash
   types_one s v (tree.MoreExprs e tree.NoExprs) = types s v e
   types_one s v (tree.MoreExprs e (tree.MoreExprs f es)) = Err TypeClash
 
   -- the typed trees of some expressions, behind those so far
-  pub type_all : Scope → Env → List Expr → tree.Exprs → Result (List Expr) Cause
+  pub type_all : Scope → Env → List Expr → tree.Exprs → Result (List Expr) Unmet
   type_all s v xs tree.NoExprs = Ok xs
   type_all s v xs (tree.MoreExprs e es) = do
     x ← types s v e
     type_all s v (xs ++ x ∷ []) es
 
 -- an expression of type int
-unfoldable pub int_value : Scope → Env → tree.Expr → Result Expr Cause
+unfoldable pub int_value : Scope → Env → tree.Expr → Result Expr Unmet
 int_value s v e = do
   x ← types s v e
   need (is_int x) TypeClash >>= λ ok. Ok x

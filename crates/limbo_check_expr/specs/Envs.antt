@@ -2,8 +2,8 @@
 use Rattle.std.specs.Prelude.{ℕ, ◌≡◌, List, [], ◌∷◌, ◌++◌, length, map, take, drop, Bool, not, Option, None, Some, Result, Ok, if◌then◌else◌}
 use Rattle.limbo_types.specs.Types.{Ty}
 use Rattle.limbo_typed.specs.Typed.{Var}
-use Rattle.limbo_names.specs.declared.fault.Cause.{Cause}
-use Rattle.limbo_names.specs.declared.fault.Cause.TheVariants.{Twice}
+use Rattle.limbo_names.specs.declared.fault.Unmet.{Unmet}
+use Rattle.limbo_names.specs.declared.fault.Unmet.TheVariants.{Twice}
 use Rattle.limbo_names.specs.Names.{◌>>=◌, need, same_text, has_name}
 
 -- A name that is seen, and the number and the type of the variable that it is.
@@ -43,10 +43,10 @@ added n t v = record {
 }
 
 -- A declaration of a variable, whose name the innermost scope doesn't have yet.
-abbrev pub declared : List ℕ → Ty → Env → Result Env Cause
+abbrev pub declared : List ℕ → Ty → Env → Result Env Unmet
 declared n t v = need (not (has_local n (drop v.scope v.seen))) Twice >>= λ ok. Ok (added n t v)
 
-abbrev pub declared_number : List ℕ → Ty → Env → Result (ℕ × Env) Cause
+abbrev pub declared_number : List ℕ → Ty → Env → Result (ℕ × Env) Unmet
 declared_number n t v = declared n t v >>= λ w. Ok (length v.variables, w)
 
 -- A scope begins.

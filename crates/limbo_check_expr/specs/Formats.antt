@@ -4,8 +4,8 @@ use Rattle.limbo_types.specs.Types.{Ty, Int}
 use Rattle.limbo_tree.specs.Exprs as tree
 use Rattle.limbo_typed.specs.Typed.{Expr, Piece, Chars, Decimal}
 use Rattle.limbo_typed.specs.Proper.{holes, type_of}
-use Rattle.limbo_names.specs.declared.fault.Cause.{Cause}
-use Rattle.limbo_names.specs.declared.fault.Cause.TheVariants.{TypeClash, BadFormat}
+use Rattle.limbo_names.specs.declared.fault.Unmet.{Unmet}
+use Rattle.limbo_names.specs.declared.fault.Unmet.TheVariants.{TypeClash, BadFormat}
 use Rattle.limbo_names.specs.Names.{◌>>=◌, choose, need, has_name}
 use Rattle.limbo_names.specs.Scopes.{Scope}
 use Rattle.limbo_names.specs.Part.{is_print}
@@ -44,7 +44,7 @@ all_int [] = true
 all_int (x ∷ xs) = is_int x && all_int xs
 
 -- the arguments behind a format of these pieces: an int for each `%d`
-abbrev pub printed_args : Scope → Env → List Piece → tree.Exprs → Result Printed Cause
+abbrev pub printed_args : Scope → Env → List Piece → tree.Exprs → Result Printed Unmet
 printed_args s v ps es = do
   xs ← type_all s v [] es
   fit ← need (length xs == holes ps) BadFormat
@@ -52,13 +52,13 @@ printed_args s v ps es = do
   Ok (record { format = ps; args = xs })
 
 -- The format stands first.
-unfoldable pub printed : Scope → Env → tree.Exprs → Result Printed Cause
+unfoldable pub printed : Scope → Env → tree.Exprs → Result Printed Unmet
 printed s v tree.NoExprs = Err BadFormat
 printed s v (tree.MoreExprs e es) =
     choose (literal_of e) (Err BadFormat) λ text. choose (format_of text) (Err BadFormat) λ ps. printed_args s v ps es
 
 -- A variable of the type Sys, which no variable of the function hides.
-unfoldable pub sys_named : Scope → Env → List ℕ → Result (Unit {0}) Cause
+unfoldable pub sys_named : Scope → Env → List ℕ → Result (Unit {0}) Unmet
 sys_named s v n = choose (find_local n v) (need (has_name n s.variables) (missing s n)) (λ l. Err TypeClash)
 
 -- the module before the arrow
@@ -66,7 +66,7 @@ abbrev pub module_of : tree.Expr → Option (List ℕ)
 module_of (tree.Arrow (tree.Name m) n) = Some m
 module_of _ = None
 
-unfoldable pub print_of : Scope → Env → tree.Expr → tree.Exprs → Result Printed Cause
+unfoldable pub print_of : Scope → Env → tree.Expr → tree.Exprs → Result Printed Unmet
 print_of s v f es = choose (module_of f) (Err TypeClash) λ m. do
   there ← sys_named s v m
   printed s v es

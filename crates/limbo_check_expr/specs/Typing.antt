@@ -7,8 +7,8 @@ use Rattle.limbo_tree.specs.Exprs as tree
 use Rattle.limbo_typed.specs.Typed.{Expr, Exprs, Number, Variable, Binary, Call, Add, Subtract, Multiply, Less, Equal}
 use Rattle.limbo_typed.specs.View.{exprs_of}
 use Rattle.limbo_typed.specs.Proper.{type_of}
-use Rattle.limbo_names.specs.declared.fault.Cause.{Cause}
-use Rattle.limbo_names.specs.declared.fault.Cause.TheVariants.{Unknown, TypeClash}
+use Rattle.limbo_names.specs.declared.fault.Unmet.{Unmet}
+use Rattle.limbo_names.specs.declared.fault.Unmet.TheVariants.{Unknown, TypeClash}
 use Rattle.limbo_names.specs.Scopes.{Scope, Numbered, find_function, is_top}
 use Rattle.limbo_names.specs.Part.{is_small, is_named}
 use Rattle.limbo_names.specs.Names.{same_text}
@@ -52,7 +52,7 @@ mutual
     more : (e : tree.Expr) (es : tree.Exprs) (x : Expr) (xs : List Expr) → Types s v e x → TypeAll s v es xs → TypeAll s v (tree.MoreExprs e es) (x ∷ xs)
 
 -- A name has no value, or isn't a function: what a variable hides is only its own.
-pub data NoName (s : Scope) (v : Env) (n : List ℕ) : Cause → Type 0 where
+pub data NoName (s : Scope) (v : Env) (n : List ℕ) : Unmet → Type 0 where
   unknown : IsUnseen v n → is_top s n ≡ false → NoName s v n Unknown
   other : IsUnseen v n → is_top s n ≡ true → NoName s v n TypeClash
 
@@ -67,21 +67,21 @@ has_form _ = false
 
 -- Where a part of an expression fails a condition, from the left to the right.
 mutual
-  pub data Fails (s : Scope) (v : Env) : Cause → tree.Expr → Type 0 where
+  pub data Fails (s : Scope) (v : Env) : Unmet → tree.Expr → Type 0 where
     no_form : (e : tree.Expr) → has_form e ≡ false → Fails s v TypeClash e
     large : (n : ℤ) (wide : Bool) → is_small n wide ≡ false → Fails s v TypeClash (tree.Number n wide)
-    no_name : (c : Cause) (n : List ℕ) → NoName s v n c → Fails s v c (tree.Name n)
+    no_name : (c : Unmet) (n : List ℕ) → NoName s v n c → Fails s v c (tree.Name n)
     no_int : (n : List ℕ) (l : Local) → Sees n v.seen l → (l.ty ≡ Int → ⊥) → Fails s v TypeClash (tree.Name n)
-    in_group : (c : Cause) (e : tree.Expr) → Fails s v c e → Fails s v c (tree.Group (tree.MoreExprs e tree.NoExprs))
-    in_left : (c : Cause) (o : BinaryOp) (l r : tree.Expr) → Fails s v c l → Fails s v c (tree.Binary o l r)
-    in_right : (c : Cause) (o : BinaryOp) (l r : tree.Expr) (x : Expr) → Types s v l x → Fails s v c r → Fails s v c (tree.Binary o l r)
+    in_group : (c : Unmet) (e : tree.Expr) → Fails s v c e → Fails s v c (tree.Group (tree.MoreExprs e tree.NoExprs))
+    in_left : (c : Unmet) (o : BinaryOp) (l r : tree.Expr) → Fails s v c l → Fails s v c (tree.Binary o l r)
+    in_right : (c : Unmet) (o : BinaryOp) (l r : tree.Expr) (x : Expr) → Types s v l x → Fails s v c r → Fails s v c (tree.Binary o l r)
     no_row : (o : BinaryOp) (l r : tree.Expr) (x y : Expr) → Types s v l x → Types s v r y → ((w : Expr) → BinaryRow o x y w → ⊥) → Fails s v TypeClash (tree.Binary o l r)
     no_callee : (f : tree.Expr) (es : tree.Exprs) → is_named f ≡ false → Fails s v TypeClash (tree.Call f es)
     hidden : (n : List ℕ) (l : Local) (es : tree.Exprs) → Sees n v.seen l → Fails s v TypeClash (tree.Call (tree.Name n) es)
-    no_function : (c : Cause) (n : List ℕ) (es : tree.Exprs) → find_function n s.functions ≡ None → NoName s v n c → Fails s v c (tree.Call (tree.Name n) es)
-    in_args : (c : Cause) (f : tree.Expr) (es : tree.Exprs) (g : Numbered) → Calls s v f g → FailAll s v c es → Fails s v c (tree.Call f es)
+    no_function : (c : Unmet) (n : List ℕ) (es : tree.Exprs) → find_function n s.functions ≡ None → NoName s v n c → Fails s v c (tree.Call (tree.Name n) es)
+    in_args : (c : Unmet) (f : tree.Expr) (es : tree.Exprs) (g : Numbered) → Calls s v f g → FailAll s v c es → Fails s v c (tree.Call f es)
     no_call : (f : tree.Expr) (es : tree.Exprs) (g : Numbered) (xs : List Expr) → Calls s v f g → TypeAll s v es xs → ((w : Expr) → CallRow g xs w → ⊥) → Fails s v TypeClash (tree.Call f es)
 
-  pub data FailAll (s : Scope) (v : Env) : Cause → tree.Exprs → Type 0 where
-    in_first : (c : Cause) (e : tree.Expr) (es : tree.Exprs) → Fails s v c e → FailAll s v c (tree.MoreExprs e es)
-    in_rest : (c : Cause) (e : tree.Expr) (es : tree.Exprs) (x : Expr) → Types s v e x → FailAll s v c es → FailAll s v c (tree.MoreExprs e es)
+  pub data FailAll (s : Scope) (v : Env) : Unmet → tree.Exprs → Type 0 where
+    in_first : (c : Unmet) (e : tree.Expr) (es : tree.Exprs) → Fails s v c e → FailAll s v c (tree.MoreExprs e es)
+    in_rest : (c : Unmet) (e : tree.Expr) (es : tree.Exprs) (x : Expr) → Types s v e x → FailAll s v c es → FailAll s v c (tree.MoreExprs e es)

@@ -7,7 +7,7 @@ ghost use Rattle.limbo_check_expr.specs.Envs as envs;
 ghost use Rattle.limbo_check_expr.specs.View.{view_local, view_env};
 
 use inf_text::{Span, Text};
-use limbo_names::{Cause, CheckFault, copy_ty, same_text};
+use limbo_names::{CheckFault, Unmet, copy_ty, same_text};
 use limbo_typed::TVar;
 use limbo_types::Ty;
 use std::alloc::Global;
@@ -128,7 +128,7 @@ pub fn declare_local(
 {
     if is_taken(name, env) {
         return Err(CheckFault::Refused {
-            cause: Cause::Twice,
+            cause: Unmet::Twice,
             at,
         });
     }

@@ -8,7 +8,7 @@ ghost use Rattle.limbo_names.specs.View.{Gives, view_scope};
 ghost use Rattle.limbo_names.specs.Scopes.{Numbered};
 ghost use Rattle.inf_text.specs.declared.span.Span as spans;
 ghost use Rattle.limbo_typed.specs.Typed as typed;
-ghost use Rattle.limbo_names.specs.declared.fault.Cause as causes;
+ghost use Rattle.limbo_names.specs.declared.fault.Unmet as causes;
 ghost use Rattle.limbo_check_expr.specs.Typing.{Types, Fails};
 ghost use Rattle.limbo_check_expr.specs.Checking as checking;
 ghost use Rattle.limbo_check_expr.specs.View.{view_env, view_local};
@@ -18,7 +18,7 @@ use crate::place::span_of;
 use crate::rows::{binary_row, call_row, is_int, refused};
 use inf_text::{Span, Text};
 use limbo_names::{
-    Cause, CheckFault, Numbered, Scope, find_function, is_small, is_top, name_in, same_ty,
+    CheckFault, Numbered, Scope, Unmet, find_function, is_small, is_top, name_in, same_ty,
 };
 use limbo_tree::Expr;
 use limbo_typed::{TExpr, TNode};
@@ -26,13 +26,13 @@ use limbo_types::Ty;
 use std::alloc::Global;
 
 /// Why a name that no variable has stands for no value.
-pub fn missing(scope: &Scope, name: &Text) -> Cause
+pub fn missing(scope: &Scope, name: &Text) -> Unmet
     ensures { result ≡ checking.missing (view_scope scope.now) name.now }
 {
     if is_top(scope, name) {
-        Cause::TypeClash
+        Unmet::TypeClash
     } else {
-        Cause::Unknown
+        Unmet::Unknown
     }
 }
 
@@ -42,7 +42,7 @@ fn value_of(local: &Local, at: Span) -> Result<TExpr, CheckFault>
     ensures { Gives view_expr result (checking.value_of (view_local local.now)) }
 {
     if !same_ty(&local.ty, &Ty::Int) {
-        return Err(refused(Cause::TypeClash, at));
+        return Err(refused(Unmet::TypeClash, at));
     }
     Ok(TExpr {
         ty: Ty::Int,
@@ -67,10 +67,10 @@ fn called<'a>(scope: &'a Scope, env: &Env, function: &Expr) -> Result<Numbered<'
 {
     let at = span_of(function);
     let Some(name) = name_in(function) else {
-        return Err(refused(Cause::TypeClash, at));
+        return Err(refused(Unmet::TypeClash, at));
     };
     if find_local(name, env).is_some() {
-        return Err(refused(Cause::TypeClash, at));
+        return Err(refused(Unmet::TypeClash, at));
     }
     match find_function(name, &scope.functions) {
         Some(found) => Ok(found),
@@ -85,7 +85,7 @@ fn number(value: &i64, wide: bool, at: Span) -> Result<TExpr, CheckFault>
 {
     let value = *value;
     if !is_small(value, wide) {
-        return Err(refused(Cause::TypeClash, at));
+        return Err(refused(Unmet::TypeClash, at));
     }
     Ok(TExpr {
         ty: Ty::Int,
@@ -97,7 +97,7 @@ fn number(value: &i64, wide: bool, at: Span) -> Result<TExpr, CheckFault>
 ///
 /// # Errors
 /// 42 where a name isn't declared, 50 where the types don't fit; want of memory.
-#[tactic(auto, using(limbo_expr_parser::proofs::View::the_views, limbo_names::proofs::Steps::fails_bind), unfolding(crate::specs::Checking::types, crate::specs::Checking::types_one, crate::specs::Checking::type_all))]
+#[tactic(auto, using(limbo_tree::proofs::Exprs::the_views, limbo_names::proofs::Steps::fails_bind), unfolding(crate::specs::Checking::types, crate::specs::Checking::types_one, crate::specs::Checking::type_all))]
 #[cycle(types)]
 pub fn types(alloc: Global, scope: &Scope, env: &Env, e: &Expr) -> Result<TExpr, CheckFault>
     ensures { Gives view_expr result (checking.types (view_scope scope.now) (view_env env.now) (trees.view_expr e.now)) }
@@ -125,21 +125,7 @@ pub fn types(alloc: Global, scope: &Scope, env: &Env, e: &Expr) -> Result<TExpr,
             let xs = type_all(alloc, scope, env, args)?;
             call_row(alloc, g.number, g.of, xs, *span)
         }
-        Expr::Assign { .. }
-        | Expr::Load { .. }
-        | Expr::Unary { .. }
-        | Expr::Bytes { .. }
-        | Expr::Filled { .. }
-        | Expr::Sized { .. }
-        | Expr::Channel { .. }
-        | Expr::Listed { .. }
-        | Expr::Index { .. }
-        | Expr::Slice { .. }
-        | Expr::Dot { .. }
-        | Expr::Arrow { .. }
-        | Expr::Postfix { .. }
-        | Expr::Chars { .. }
-        | Expr::Nil { .. } => Err(refused(Cause::TypeClash, span_of(e))),
+        _ => Err(refused(Unmet::TypeClash, span_of(e))),
     }
 }
 
@@ -156,7 +142,7 @@ fn types_one(
     ensures { Gives view_expr result (checking.types_one (view_scope scope.now) (view_env env.now) (trees.exprs_of (map trees.view_expr es.now))) }
 {
     if es.len() != 1 {
-        return Err(refused(Cause::TypeClash, at));
+        return Err(refused(Unmet::TypeClash, at));
     }
     types(alloc, scope, env, &es[0])
 }
@@ -193,7 +179,7 @@ pub fn int_value(alloc: Global, scope: &Scope, env: &Env, e: &Expr) -> Result<TE
 {
     let x = types(alloc, scope, env, e)?;
     if !is_int(&x) {
-        return Err(refused(Cause::TypeClash, span_of(e)));
+        return Err(refused(Unmet::TypeClash, span_of(e)));
     }
     Ok(x)
 }
@@ -210,7 +196,7 @@ pub fn check_expr(alloc: Global, scope: &Scope, env: &Env, e: &Expr) -> Result<T
     ensures only { (y : typed.Expr) → Types (view_scope scope.now) (view_env env.now) (trees.view_expr e.now) y → Gives {Y = typed.Expr} view_expr result (Ok y) }
 
     // Each refusal comes only where a part fails that condition.
-    ensures refused { MatchResult result (λ _. Unit {0}) (λ f. (c : causes.Cause) (at : spans.Span) → f ≡ CheckFault.Refused c at → Fails (view_scope scope.now) (view_env env.now) c (trees.view_expr e.now)) }
+    ensures refused { MatchResult result (λ _. Unit {0}) (λ f. (c : causes.Unmet) (at : spans.Span) → f ≡ CheckFault.Refused c at → Fails (view_scope scope.now) (view_env env.now) c (trees.view_expr e.now)) }
 {
     types(alloc, scope, env, e)
 }

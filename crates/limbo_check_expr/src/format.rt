@@ -13,7 +13,7 @@ use crate::expr::{missing, type_all};
 use crate::place::span_of;
 use crate::rows::{is_int, refused};
 use inf_text::{Span, Text};
-use limbo_names::{Cause, CheckFault, Scope, has_name, name_in};
+use limbo_names::{CheckFault, Scope, Unmet, has_name, name_in};
 use limbo_tree::Expr;
 use limbo_typed::{Piece, TExpr};
 use std::alloc::{AllocError, Global};
@@ -98,60 +98,24 @@ fn all_int(xs: &[TExpr]) -> bool
 }
 
 // The literal that an expression is.
-#[tactic(auto, using(limbo_expr_parser::proofs::View::the_views))]
+#[tactic(auto, using(limbo_tree::proofs::Exprs::the_views, crate::proofs::Others::no_literal))]
 fn literal_of(e: &Expr) -> Option<&Text>
     ensures { MatchOption result (formats.literal_of (trees.view_expr e.now) ≡ None) (λ t. formats.literal_of (trees.view_expr e.now) ≡ Some t.now) }
 {
     match e {
         Expr::Chars { text, .. } => Some(text),
-        Expr::Assign { .. }
-        | Expr::Load { .. }
-        | Expr::Binary { .. }
-        | Expr::Unary { .. }
-        | Expr::Bytes { .. }
-        | Expr::Filled { .. }
-        | Expr::Sized { .. }
-        | Expr::Channel { .. }
-        | Expr::Listed { .. }
-        | Expr::Call { .. }
-        | Expr::Index { .. }
-        | Expr::Slice { .. }
-        | Expr::Dot { .. }
-        | Expr::Arrow { .. }
-        | Expr::Postfix { .. }
-        | Expr::Number { .. }
-        | Expr::Name { .. }
-        | Expr::Nil { .. }
-        | Expr::Group { .. } => None,
+        _ => None,
     }
 }
 
 // The module before the arrow.
-#[tactic(auto, using(limbo_expr_parser::proofs::View::the_views))]
+#[tactic(auto, using(limbo_tree::proofs::Exprs::the_views, crate::proofs::Others::no_module))]
 fn module_of(e: &Expr) -> Option<&Text>
     ensures { MatchOption result (formats.module_of (trees.view_expr e.now) ≡ None) (λ t. formats.module_of (trees.view_expr e.now) ≡ Some t.now) }
 {
     match e {
         Expr::Arrow { base, .. } => name_in(base),
-        Expr::Assign { .. }
-        | Expr::Load { .. }
-        | Expr::Binary { .. }
-        | Expr::Unary { .. }
-        | Expr::Bytes { .. }
-        | Expr::Filled { .. }
-        | Expr::Sized { .. }
-        | Expr::Channel { .. }
-        | Expr::Listed { .. }
-        | Expr::Call { .. }
-        | Expr::Index { .. }
-        | Expr::Slice { .. }
-        | Expr::Dot { .. }
-        | Expr::Postfix { .. }
-        | Expr::Number { .. }
-        | Expr::Chars { .. }
-        | Expr::Name { .. }
-        | Expr::Nil { .. }
-        | Expr::Group { .. } => None,
+        _ => None,
     }
 }
 
@@ -161,7 +125,7 @@ fn sys_named(scope: &Scope, env: &Env, name: &Text, at: Span) -> Result<(), Chec
     ensures { Gives (λ _. tt) result (formats.sys_named (view_scope scope.now) (view_env env.now) name.now) }
 {
     if find_local(name, env).is_some() {
-        return Err(refused(Cause::TypeClash, at));
+        return Err(refused(Unmet::TypeClash, at));
     }
     if !has_name(name, &scope.variables) {
         return Err(refused(missing(scope, name), at));
@@ -183,10 +147,10 @@ fn printed_args(
 {
     let args = type_all(alloc, scope, env, args)?;
     if args.len() != count_holes(&format) {
-        return Err(refused(Cause::BadFormat, at));
+        return Err(refused(Unmet::BadFormat, at));
     }
     if !all_int(&args) {
-        return Err(refused(Cause::TypeClash, at));
+        return Err(refused(Unmet::TypeClash, at));
     }
     Ok(Printed { format, args })
 }
@@ -203,13 +167,13 @@ fn print_args(
     ensures { Gives view_printed result (formats.printed (view_scope scope.now) (view_env env.now) (trees.exprs_of (map trees.view_expr args.now))) }
 {
     if args.is_empty() {
-        return Err(refused(Cause::BadFormat, at));
+        return Err(refused(Unmet::BadFormat, at));
     }
     let Some(text) = literal_of(&args[0]) else {
-        return Err(refused(Cause::BadFormat, span_of(&args[0])));
+        return Err(refused(Unmet::BadFormat, span_of(&args[0])));
     };
     let Some(format) = format_of(alloc, text)? else {
-        return Err(refused(Cause::BadFormat, span_of(&args[0])));
+        return Err(refused(Unmet::BadFormat, span_of(&args[0])));
     };
     printed_args(alloc, scope, env, format, &args[1..], at)
 }
@@ -230,7 +194,7 @@ pub fn print_of(
 {
     let at = span_of(function);
     let Some(name) = module_of(function) else {
-        return Err(refused(Cause::TypeClash, at));
+        return Err(refused(Unmet::TypeClash, at));
     };
     sys_named(scope, env, name, at)?;
     print_args(alloc, scope, env, args, at)

@@ -10,14 +10,14 @@ ghost use Rattle.limbo_names.specs.Scopes.{Numbered, same_list};
 ghost use Rattle.limbo_check_expr.specs.Checking as checking;
 
 use inf_text::Span;
-use limbo_names::{Cause, CheckFault, copy_ty, same_ty};
+use limbo_names::{CheckFault, Unmet, copy_ty, same_ty};
 use limbo_tree::BinaryOp;
 use limbo_typed::{BinaryOp as Operator, TExpr, TNode};
 use limbo_types::{FnTy, Ty};
 use std::alloc::Global;
 
 /// A refusal at a place.
-pub fn refused(cause: Cause, at: Span) -> CheckFault
+pub fn refused(cause: Unmet, at: Span) -> CheckFault
     ensures { result ≡ CheckFault.Refused cause at }
 {
     CheckFault::Refused { cause, at }
@@ -73,10 +73,10 @@ pub fn binary_row(
     ensures { Gives view_expr result (checking.binary_row op (view_expr left) (view_expr right)) }
 {
     let Some(op) = operator_of(op) else {
-        return Err(refused(Cause::TypeClash, at));
+        return Err(refused(Unmet::TypeClash, at));
     };
     if !is_int(&left) || !is_int(&right) {
-        return Err(refused(Cause::TypeClash, at));
+        return Err(refused(Unmet::TypeClash, at));
     }
     let left = Box::new(alloc, left)?;
     let right = Box::new(alloc, right)?;
@@ -126,7 +126,7 @@ pub fn call_row(
     ensures { Gives view_expr result (checking.call_row (record { number = number; of = view_fn of.now }) (map view_expr args.items)) }
 {
     if !args_fit(&args, &of.args) {
-        return Err(refused(Cause::TypeClash, at));
+        return Err(refused(Unmet::TypeClash, at));
     }
     let Ok(function) = u32::try_from(number) else {
         return Err(CheckFault::NoMemory);

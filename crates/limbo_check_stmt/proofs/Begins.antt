@@ -6,7 +6,7 @@ use Rattle.limbo_tree.specs.Decls as decls
 use Rattle.limbo_tree.specs.Decls.{Member, Members, NoMembers, MoreMembers, FnMember, Decl}
 use Rattle.limbo_tree.specs.Sources.{Source, Top, Declared, Defined}
 use Rattle.limbo_typed.specs.Typed.{Function, Module}
-use Rattle.limbo_names.specs.declared.fault.Cause.TheVariants.{Unknown}
+use Rattle.limbo_names.specs.declared.fault.Unmet.TheVariants.{Unknown}
 use Rattle.limbo_names.specs.Names.{need, same_text, has_name, all_in}
 use Rattle.limbo_names.specs.Scopes.{Signature, Scope, same_fn, init_type, any_init, has_init}
 use Rattle.limbo_names.specs.Declaring.{names_of_member, member_names, functions_of_decl, functions_of_top, declared_names, defined_by, defined_names, includes, owner_of, names_once, are_sys, all_defined, fn_of, signed, member_of, members_of, decl_signatures, declared_by, declared_of, defined_of, declare}

@@ -6,11 +6,11 @@ use Rattle.limbo_tree.specs.declared.stmt.Block.{out-Block}
 use Rattle.limbo_tree.specs.declared.stmt.Handler as code_handler
 use Rattle.limbo_tree.specs.View.{stmts_of, view_stmt, view_block}
 use Rattle.limbo_typed.specs.Typed.{Stmt}
-use Rattle.limbo_names.specs.declared.fault.Cause.{Cause}
-use Rattle.limbo_names.specs.declared.fault.Cause.TheVariants.{TypeClash}
+use Rattle.limbo_names.specs.declared.fault.Unmet.{Unmet}
+use Rattle.limbo_names.specs.declared.fault.Unmet.TheVariants.{TypeClash}
 use Rattle.limbo_names.specs.Names.{◌>>=◌}
 use Rattle.limbo_names.specs.Scopes.{Scope}
-use Rattle.limbo_names.proofs.Blocks.{block_plain, block_handled}
+use Rattle.limbo_tree.proofs.Stmts.{block_plain, block_handled}
 use Rattle.limbo_check_expr.specs.declared.env.Local as code_local
 use Rattle.limbo_check_expr.specs.declared.env.Env as code_env
 use Rattle.limbo_check_expr.specs.View.{view_local, view_env}
@@ -34,10 +34,10 @@ seen_length : (ls : List code_local.Local) → length ls ≡ length (map view_lo
 seen_length [] = refl
 seen_length (l ∷ ls) = ap suc (seen_length ls)
 
-paired : List Stmt → Env → Result (List Stmt × Env) Cause
+paired : List Stmt → Env → Result (List Stmt × Env) Unmet
 paired xs e = Ok (xs, e)
 
 -- the scope that is left is the one that was entered
-pub left_so : (v : code_env.Env) (z e : Env) (xs : List Stmt) (outer seen : ℕ) (r : Result (List Stmt × Env) Cause) → r ≡ Ok (xs, leave (view_env v) z) → e ≡ left outer seen z → outer ≡ v.scope → seen ≡ length v.seen.items → r ≡ Ok (xs, e)
+pub left_so : (v : code_env.Env) (z e : Env) (xs : List Stmt) (outer seen : ℕ) (r : Result (List Stmt × Env) Unmet) → r ≡ Ok (xs, leave (view_env v) z) → e ≡ left outer seen z → outer ≡ v.scope → seen ≡ length v.seen.items → r ≡ Ok (xs, e)
 unfolding paired
 left_so v z e xs outer seen r h f g k = h ∙ ap (paired xs) (sym (f ∙ ap (λ o. left o seen z) g ∙ ap (λ n. left v.scope n z) (k ∙ seen_length v.seen.items)))

@@ -12,8 +12,8 @@ use Rattle.limbo_tree.specs.Stmts as stmts
 use Rattle.limbo_typed.specs.Typed.{Expr, Piece, Stmt, Empty, Block, Assign, Eval, Return, Print}
 use Rattle.limbo_typed.specs.View.{exprs_of, stmts_of}
 use Rattle.limbo_typed.specs.Proper.{type_of, holes, AllInt}
-use Rattle.limbo_names.specs.declared.fault.Cause.{Cause}
-use Rattle.limbo_names.specs.declared.fault.Cause.TheVariants.{Twice, TypeClash, BadFormat}
+use Rattle.limbo_names.specs.declared.fault.Unmet.{Unmet}
+use Rattle.limbo_names.specs.declared.fault.Unmet.TheVariants.{Twice, TypeClash, BadFormat, NoReturn}
 use Rattle.limbo_names.specs.Names.{◌>>=◌, choose, need, has_name}
 use Rattle.limbo_names.proofs.Texts.{text_only}
 use Rattle.limbo_names.specs.Scopes.{Scope, Numbered}
@@ -257,7 +257,7 @@ unfolding printed
 formats_given s v _ _ _ (rule.format text es ps xs f t c i) = rw (f, exprs.given_all s v [] es xs t, nat_same (length xs) (holes ps) c, ints_all xs i) refl
 
 -- A name that no variable of the function has, and one condition more.
-pub unseen_judged : (n : List ℕ) (v : Env) (b : Bool) (c : Cause) (u : Unit {0}) → choose (find_local n v) (need b c) (λ l. Err TypeClash) ≡ Ok u → IsUnseen v n × (b ≡ true)
+pub unseen_judged : (n : List ℕ) (v : Env) (b : Bool) (c : Unmet) (u : Unit {0}) → choose (find_local n v) (need b c) (λ l. Err TypeClash) ≡ Ok u → IsUnseen v n × (b ≡ true)
 unseen_judged n v b c u h = elim (exprs.found_local n v) [
   | inl (k, e) ↦ (k, need_ok b c u (subst (λ o. choose o (need b c) (λ l. Err TypeClash) ≡ Ok u) e h))
   | inr (l, e, k) ↦ let bad : Err TypeClash ≡ Ok u = subst (λ o. choose o (need b c) (λ l. Err TypeClash) ≡ Ok u) e h in absurd cc
@@ -303,8 +303,8 @@ action_given s v _ _ (rule.evaluated e x h) = action_evaluated s v e x h ∙ val
 returned_judged : (s : Scope) (a : Ty) (v : Env) (o : Option tree.Expr) (x : Option Expr) → returned s a v o ≡ Ok x → Returns s a v o x
 unfolding returned
 returned_judged s a v None x h =
-    let p = bind_ok (need (same a Nothing) TypeClash) (λ ok. Ok None) x h in
-    subst (λ z. Returns s a v None z) (ok_is None x p.2) (rule.without (only a Nothing (need_ok (same a Nothing) TypeClash p.0 p.1)))
+    let p = bind_ok (need (same a Nothing) NoReturn) (λ ok. Ok None) x h in
+    subst (λ z. Returns s a v None z) (ok_is None x p.2) (rule.without (only a Nothing (need_ok (same a Nothing) NoReturn p.0 p.1)))
 returned_judged s a v (Some e) x h =
     let p = bind_ok (int_value s v e) _ x h in
     let q = bind_ok (need (same a Int) TypeClash) _ x p.2 in
@@ -321,10 +321,10 @@ returned_given s a v _ _ (rule.value e x h i) = rw (int_given s v e x i, same_ty
 AllBehind : Scope → Ty → Env → List Stmt → stmts.Stmts → List Stmt × Env → Type 0
 AllBehind s a v before ss y = (xs : List Stmt) × (y.0 ≡ before ++ xs) × CheckAll s a v ss xs y.1
 
-nested_judged : (s : Scope) (a : Ty) (v : Env) (b : stmts.Block) (p : List Stmt × Env) (y : Stmt × Env) → ◌≡◌ {A = Result (Stmt × Env) Cause} (Ok (Block (stmts_of p.0), p.1)) (Ok y) → ChecksBlock s a v b p.0 p.1 → Checks s a v (stmts.Nested b) y.0 y.1
+nested_judged : (s : Scope) (a : Ty) (v : Env) (b : stmts.Block) (p : List Stmt × Env) (y : Stmt × Env) → ◌≡◌ {A = Result (Stmt × Env) Unmet} (Ok (Block (stmts_of p.0), p.1)) (Ok y) → ChecksBlock s a v b p.0 p.1 → Checks s a v (stmts.Nested b) y.0 y.1
 nested_judged s a v b p y h k = subst (λ z. Checks s a v (stmts.Nested b) z.0 z.1) (ok_is (Block (stmts_of p.0), p.1) y h) (rule.nested v p.1 b p.0 k)
 
-plain_judged : (s : Scope) (a : Ty) (v : Env) (ss : stmts.Stmts) (p y : List Stmt × Env) → ◌≡◌ {A = Result (List Stmt × Env) Cause} (Ok (p.0, leave v p.1)) (Ok y) → AllBehind s a (enter v) [] ss p → ChecksBlock s a v (stmts.Plain ss) y.0 y.1
+plain_judged : (s : Scope) (a : Ty) (v : Env) (ss : stmts.Stmts) (p y : List Stmt × Env) → ◌≡◌ {A = Result (List Stmt × Env) Unmet} (Ok (p.0, leave v p.1)) (Ok y) → AllBehind s a (enter v) [] ss p → ChecksBlock s a v (stmts.Plain ss) y.0 y.1
 unfolding AllBehind
 plain_judged s a v ss p y h (xs, e, k) =
     subst (λ z. ChecksBlock s a v (stmts.Plain ss) z.0 z.1) (ok_is (p.0, leave v p.1) y h)

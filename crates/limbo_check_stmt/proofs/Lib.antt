@@ -7,3 +7,5 @@ pub mod Judged
 pub mod JudgedSource
 pub mod Clauses
 pub mod Begins
+pub mod Others
+pub mod Wraps

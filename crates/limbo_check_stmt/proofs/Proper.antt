@@ -10,8 +10,8 @@ use Rattle.limbo_tree.specs.Exprs as tree
 use Rattle.limbo_typed.specs.Typed.{Expr, Var, Function, Stmt, Assign}
 use Rattle.limbo_typed.specs.View.{exprs_of, stmts_of}
 use Rattle.limbo_typed.specs.Proper.{type_of, types_of, HasVariable, IsWord, AllWords, ProperExpr, ProperExprs, ProperStmt, ProperStmts}
-use Rattle.limbo_names.specs.declared.fault.Cause.{Cause}
-use Rattle.limbo_names.specs.declared.fault.Cause.TheVariants.{Twice, TypeClash}
+use Rattle.limbo_names.specs.declared.fault.Unmet.{Unmet}
+use Rattle.limbo_names.specs.declared.fault.Unmet.TheVariants.{Twice, TypeClash}
 use Rattle.limbo_names.specs.Names.{◌>>=◌, need}
 use Rattle.limbo_names.specs.Scopes.{Scope, Numbered, find_function}
 use Rattle.limbo_names.specs.Part.{is_small}
@@ -81,11 +81,11 @@ mutual
 
 -- ---- what the steps of a check say
 
-pub bind_ok : {A B : Type 0} (r : Result A Cause) (k : A → Result B Cause) (y : B) → (r >>= k) ≡ Ok y → (x : A) × (r ≡ Ok x) × (k x ≡ Ok y)
+pub bind_ok : {A B : Type 0} (r : Result A Unmet) (k : A → Result B Unmet) (y : B) → (r >>= k) ≡ Ok y → (x : A) × (r ≡ Ok x) × (k x ≡ Ok y)
 bind_ok (Ok x) k y h = (x, refl, h)
 bind_ok (Err c) k y h = absurd cc
 
-pub need_ok : (b : Bool) (c : Cause) (u : Unit {0}) → need b c ≡ Ok u → b ≡ true
+pub need_ok : (b : Bool) (c : Unmet) (u : Unit {0}) → need b c ≡ Ok u → b ≡ true
 need_ok true c u h = refl
 need_ok false c u h = absurd cc
 

@@ -7,7 +7,7 @@ use Rattle.limbo_tree.specs.Decls.{Param, FnType}
 use Rattle.limbo_tree.specs.Stmts as stmts
 use Rattle.limbo_typed.specs.Typed.{Var, Function}
 use Rattle.limbo_typed.specs.Proper.{IsWord, AllWords}
-use Rattle.limbo_names.specs.declared.fault.Cause.TheVariants.{Twice, Unknown}
+use Rattle.limbo_names.specs.declared.fault.Unmet.TheVariants.{Twice, Unknown}
 use Rattle.limbo_names.specs.Names.{need, same_text, are_distinct}
 use Rattle.limbo_names.specs.Scopes.{context}
 use Rattle.limbo_names.specs.Part.{is_none, is_int, is_words, is_context, is_answer, is_int_fn, is_init_fn, are_ints, are_init_params, are_stmts, behind, is_definition}

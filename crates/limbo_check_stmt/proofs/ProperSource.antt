@@ -10,7 +10,7 @@ use Rattle.limbo_typed.specs.Typed.{Stmt, Function, Module}
 use Rattle.limbo_typed.specs.declared.module.TypedModule as code_module
 use Rattle.limbo_typed.specs.View.{stmts_of, view_module}
 use Rattle.limbo_typed.specs.Proper.{AllWords, ProperFunction, IsProper}
-use Rattle.limbo_names.specs.declared.fault.Cause.TheVariants.{Unknown, TypeClash}
+use Rattle.limbo_names.specs.declared.fault.Unmet.TheVariants.{Unknown, TypeClash}
 use Rattle.limbo_names.specs.declared.fault.CheckFault.{CheckFault}
 use Rattle.limbo_names.specs.Names.{need, same_text}
 use Rattle.limbo_names.specs.Scopes.{Signature, Scope, Numbered, find_from}

@@ -10,8 +10,8 @@ use Rattle.limbo_typed.specs.Typed as typed
 use Rattle.limbo_typed.specs.Typed.{Expr, Exprs, Number, Function, Piece, Stmt, Stmts, Empty, Block, Assign, Eval, If, While, Return, Print}
 use Rattle.limbo_typed.specs.View.{exprs_of, stmts_of}
 use Rattle.limbo_typed.specs.Proper.{type_of, types_of, holes, AllInt, HasVariable, ProperExpr, ProperExprs, ProperStmt}
-use Rattle.limbo_names.specs.declared.fault.Cause.{Cause}
-use Rattle.limbo_names.specs.declared.fault.Cause.TheVariants.{TypeClash, BadFormat}
+use Rattle.limbo_names.specs.declared.fault.Unmet.{Unmet}
+use Rattle.limbo_names.specs.declared.fault.Unmet.TheVariants.{TypeClash, BadFormat, NoReturn}
 use Rattle.limbo_names.specs.Names.{◌>>=◌, choose, need}
 use Rattle.limbo_names.specs.Scopes.{Scope}
 use Rattle.limbo_names.specs.Part as part
@@ -26,18 +26,18 @@ use Rattle.limbo_check_stmt.proofs.Proper.{small_fits, SameFunctions, AllSeen, s
 
 -- ---- what the steps of a check say
 
-pub ok_is : {A : Type 0} (x y : A) → ◌≡◌ {A = Result A Cause} (Ok x) (Ok y) → x ≡ y
+pub ok_is : {A : Type 0} (x y : A) → ◌≡◌ {A = Result A Unmet} (Ok x) (Ok y) → x ≡ y
 ok_is x y h = cc
 
 pub both : (a b : Bool) → (a && b) ≡ true → (a ≡ true) × (b ≡ true)
 both true b h = (refl, h)
 both false b h = absurd cc
 
-pub if_ok : {A : Type 0} (b : Bool) (r : Result A Cause) (c : Cause) (y : A) → cond b r (Err c) ≡ Ok y → (b ≡ true) × (r ≡ Ok y)
+pub if_ok : {A : Type 0} (b : Bool) (r : Result A Unmet) (c : Unmet) (y : A) → cond b r (Err c) ≡ Ok y → (b ≡ true) × (r ≡ Ok y)
 if_ok true r c y h = (refl, h)
 if_ok false r c y h = absurd cc
 
-pub choose_ok : {A B : Type 0} (o : Option A) (c : Cause) (k : A → Result B Cause) (y : B) → choose o (Err c) k ≡ Ok y → (a : A) × (o ≡ Some a) × (k a ≡ Ok y)
+pub choose_ok : {A B : Type 0} (o : Option A) (c : Unmet) (k : A → Result B Unmet) (y : B) → choose o (Err c) k ≡ Ok y → (a : A) × (o ≡ Some a) × (k a ≡ Ok y)
 choose_ok (Some a) c k y h = (a, refl, h)
 choose_ok None c k y h = absurd cc
 
@@ -212,7 +212,7 @@ module _ (fs : List Function) (s : Scope) (same_functions : SameFunctions fs s) 
 
   -- ---- statements
 
-  unchanged : (a : Ty) (v : Env) (r : Result Stmt Cause) (y : Stmt × Env) → (r >>= λ x. Ok (x, v)) ≡ Ok y → ((x : Stmt) → r ≡ Ok x → Stays a v x) → GoodOne fs a v y.0 y.1
+  unchanged : (a : Ty) (v : Env) (r : Result Stmt Unmet) (y : Stmt × Env) → (r >>= λ x. Ok (x, v)) ≡ Ok y → ((x : Stmt) → r ≡ Ok x → Stays a v x) → GoodOne fs a v y.0 y.1
   unchanged a v r y h k =
       let p = bind_ok r (λ x. Ok (x, v)) y h in
       subst (λ z. GoodOne fs a v z.0 z.1) (ok_is (p.0, v) y p.2) (stays a v p.0 (k p.0 p.1))
@@ -220,8 +220,8 @@ module _ (fs : List Function) (s : Scope) (same_functions : SameFunctions fs s) 
   returned_good : (a : Ty) (v : Env) (o : Option tree.Expr) (x : Option Expr) → returned s a v o ≡ Ok x → Stays a v (Return x)
   unfolding returned
   returned_good a v None x h =
-      let p = bind_ok (need (same a Nothing) TypeClash) (λ ok. Ok None) x h in
-      subst (λ z. Stays a v (Return z)) (ok_is None x p.2) (λ ws g. only a Nothing (need_ok (same a Nothing) TypeClash p.0 p.1))
+      let p = bind_ok (need (same a Nothing) NoReturn) (λ ok. Ok None) x h in
+      subst (λ z. Stays a v (Return z)) (ok_is None x p.2) (λ ws g. only a Nothing (need_ok (same a Nothing) NoReturn p.0 p.1))
   returned_good a v (Some e) x h =
       let p = bind_ok (int_value s v e) _ x h in
       let q = bind_ok (need (same a Int) TypeClash) _ x p.2 in

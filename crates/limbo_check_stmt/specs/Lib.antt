@@ -1,2 +1,3 @@
+pub mod Constants
 pub mod Checking
 pub mod Typing

@@ -10,7 +10,7 @@ ghost use Rattle.limbo_check_stmt.specs.Checking as checking;
 use inf_text::{Span, Text};
 use limbo_check_expr::{Env, Local, find_local, int_value, print_of, refused, span_of, types};
 use limbo_names::{
-    Cause, CheckFault, Scope, has_name, is_plain, is_print, is_top, name_in, same_ty,
+    CheckFault, Scope, Unmet, has_name, is_plain, is_print, is_top, name_in, same_ty,
 };
 use limbo_tree::Expr;
 use limbo_typed::TStmt;
@@ -18,16 +18,16 @@ use limbo_types::Ty;
 use std::alloc::Global;
 
 /// Why a name that no variable of the function has is no place for an int.
-pub fn no_place(scope: &Scope, name: &Text) -> Cause
+pub fn no_place(scope: &Scope, name: &Text) -> Unmet
     ensures { result ≡ checking.no_place (view_scope scope.now) name.now }
 {
     if has_name(name, &scope.variables) {
-        return Cause::TypeClash;
+        return Unmet::TypeClash;
     }
     if is_top(scope, name) {
-        Cause::NotPlace
+        Unmet::NotPlace
     } else {
-        Cause::Unknown
+        Unmet::Unknown
     }
 }
 
@@ -37,7 +37,7 @@ fn place_of(local: &Local, at: Span) -> Result<u32, CheckFault>
     ensures { Gives (λ n. n) result (checking.place_of (view_local local.now)) }
 {
     if !same_ty(&local.ty, &Ty::Int) {
-        return Err(refused(Cause::TypeClash, at));
+        return Err(refused(Unmet::TypeClash, at));
     }
     Ok(local.variable)
 }
@@ -49,7 +49,7 @@ fn place(scope: &Scope, env: &Env, e: &Expr) -> Result<u32, CheckFault>
 {
     let at = span_of(e);
     let Some(name) = name_in(e) else {
-        return Err(refused(Cause::NotPlace, at));
+        return Err(refused(Unmet::NotPlace, at));
     };
     match find_local(name, env) {
         Some(local) => place_of(local, at),
@@ -104,7 +104,7 @@ fn print(
 ///
 /// # Errors
 /// 51 where what is assigned to is no place, and as for expressions and prints; want of memory.
-#[tactic(auto, using(limbo_expr_parser::proofs::View::the_views), unfolding(crate::specs::Checking::action))]
+#[tactic(auto, using(limbo_tree::proofs::Exprs::the_views, crate::proofs::Others::other_action), unfolding(crate::specs::Checking::action))]
 pub fn action(alloc: Global, scope: &Scope, env: &Env, e: &Expr) -> Result<TStmt, CheckFault>
     ensures { Gives view_stmt result (checking.action (view_scope scope.now) (view_env env.now) (trees.view_expr e.now)) }
 {
@@ -116,7 +116,7 @@ pub fn action(alloc: Global, scope: &Scope, env: &Env, e: &Expr) -> Result<TStmt
             span,
         } => {
             if !is_plain(*op) {
-                return Err(refused(Cause::TypeClash, *span));
+                return Err(refused(Unmet::TypeClash, *span));
             }
             assigned(alloc, scope, env, left, right)
         }
@@ -127,23 +127,6 @@ pub fn action(alloc: Global, scope: &Scope, env: &Env, e: &Expr) -> Result<TStmt
                 evaluated(alloc, scope, env, e)
             }
         }
-        Expr::Load { .. }
-        | Expr::Binary { .. }
-        | Expr::Unary { .. }
-        | Expr::Bytes { .. }
-        | Expr::Filled { .. }
-        | Expr::Sized { .. }
-        | Expr::Channel { .. }
-        | Expr::Listed { .. }
-        | Expr::Index { .. }
-        | Expr::Slice { .. }
-        | Expr::Dot { .. }
-        | Expr::Arrow { .. }
-        | Expr::Postfix { .. }
-        | Expr::Number { .. }
-        | Expr::Chars { .. }
-        | Expr::Name { .. }
-        | Expr::Nil { .. }
-        | Expr::Group { .. } => evaluated(alloc, scope, env, e),
+        _ => evaluated(alloc, scope, env, e),
     }
 }

@@ -9,7 +9,7 @@ ghost use Rattle.limbo_check_stmt.specs.Checking as checking;
 
 use inf_text::Span;
 use limbo_check_expr::{Env, declare_local, int_value, refused};
-use limbo_names::{Cause, CheckFault, Scope, is_int};
+use limbo_names::{CheckFault, Scope, Unmet, is_int};
 use limbo_tree::{Decl, Expr, Name};
 use limbo_typed::{TExpr, TNode, TStmt};
 use limbo_types::Ty;
@@ -78,7 +78,7 @@ fn begun_single(
     ensures { Gives (λ s. (view_stmt s, view_env env.new)) result (checking.begun_single (view_scope scope.now) (view_env env.old) (trees.names_of «names».now) (trees.view_expr value.now)) }
 {
     if names.len() != 1 {
-        return Err(refused(Cause::TypeClash, at));
+        return Err(refused(Unmet::TypeClash, at));
     }
     begun(alloc, scope, env, &names[0], value)
 }
@@ -90,10 +90,10 @@ fn typed_var(
     scope: &Scope,
     env: &mut Env,
     names: &[Name],
-    value: &Option<Expr>,
+    value: &Option<Box<Expr>>,
     at: Span,
 ) -> Result<TStmt, CheckFault>
-    ensures { Gives (λ s. (view_stmt s, view_env env.new)) result (checking.typed_var (view_scope scope.now) (view_env env.old) (trees.names_of «names».now) (option_map trees.view_expr value.now)) }
+    ensures { Gives (λ s. (view_stmt s, view_env env.new)) result (checking.typed_var (view_scope scope.now) (view_env env.old) (trees.names_of «names».now) (trees.view_boxed value.now)) }
 {
     match value {
         None => {
@@ -120,7 +120,7 @@ pub fn local(alloc: Global, scope: &Scope, env: &mut Env, d: &Decl) -> Result<TS
             span,
         } => {
             if !is_int(of) {
-                return Err(refused(Cause::TypeClash, *span));
+                return Err(refused(Unmet::TypeClash, *span));
             }
             typed_var(alloc, scope, env, names, value, *span)
         }
@@ -130,6 +130,6 @@ pub fn local(alloc: Global, scope: &Scope, env: &mut Env, d: &Decl) -> Result<TS
         | Decl::Import { span, .. }
         | Decl::Exception { span, .. }
         | Decl::Module { span, .. }
-        | Decl::Adt { span, .. } => Err(refused(Cause::TypeClash, *span)),
+        | Decl::Adt { span, .. } => Err(refused(Unmet::TypeClash, *span)),
     }
 }

@@ -3,19 +3,18 @@
 ghost use Rattle.std.specs.Prelude.{◌≡◌, map};
 ghost use Rattle.limbo_typed.specs.View.{view_expr, view_stmt, stmts_of};
 ghost use Rattle.limbo_check_stmt.specs.Checking as checking;
+ghost use Rattle.limbo_check_stmt.specs.Constants as constants;
 
-use limbo_typed::{TExpr, TNode, TStmt};
+use crate::constant::constant;
+use limbo_typed::{TExpr, TStmt};
 
-// Whether a condition is a number other than 0.
-#[tactic(auto, using(limbo_typed::proofs::View::the_views))]
+// Whether a condition is constant and not 0.
 fn is_endless(e: &TExpr) -> bool
-    ensures { result ≡ checking.is_endless (view_expr e.now) }
+    ensures { result ≡ constants.is_endless (view_expr e.now) }
 {
-    match &e.node {
-        TNode::Number(n) => *n < 0 || 0 < *n,
-        TNode::Variable(_) => false,
-        TNode::Binary { .. } => false,
-        TNode::Call { .. } => false,
+    match constant(e) {
+        Some(n) => n < 0 || 0 < n,
+        None => false,
     }
 }
 

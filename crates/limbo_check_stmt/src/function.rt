@@ -17,7 +17,7 @@ use crate::stmt::stmt_all;
 use inf_text::{Span, Text};
 use limbo_check_expr::{Env, add, add_unnamed, enter, find_local, refused};
 use limbo_names::{
-    Cause, CheckFault, Scope, Signature, behind, first_loaded, fn_of, has_name, named, same_fn,
+    CheckFault, Scope, Signature, Unmet, behind, first_loaded, fn_of, has_name, named, same_fn,
     same_text, same_ty, ty_of,
 };
 use limbo_tree::{Block, Function, Name, Param, Stmt};
@@ -93,26 +93,26 @@ fn may_load(
         return Ok(());
     };
     if find_local(name, env).is_some() {
-        return Err(refused(Cause::TypeClash, at));
+        return Err(refused(Unmet::TypeClash, at));
     }
     if !has_name(name, &scope.variables) {
         return Err(refused(no_place(scope, name), at));
     }
     let sys = named(alloc, "Sys")?;
     if find_local(&sys, env).is_some() {
-        return Err(refused(Cause::TypeClash, at));
+        return Err(refused(Unmet::TypeClash, at));
     }
     Ok(())
 }
 
 // The statements of a body that handles no exceptions.
-#[tactic(auto, using(limbo_names::proofs::Blocks::the_blocks))]
+#[tactic(auto, using(limbo_tree::proofs::Stmts::the_blocks))]
 fn body_of(b: &Block) -> Result<&[Stmt], CheckFault>
     ensures { Gives (λ ss. trees.stmts_of (map trees.view_stmt ss.now)) result (checking.body_of (view_block b.now)) }
 {
     match &b.handler {
         None => Ok(b.statements.as_slice()),
-        Some(_) => Err(refused(Cause::TypeClash, b.span)),
+        Some(_) => Err(refused(Unmet::TypeClash, b.span)),
     }
 }
 
@@ -122,7 +122,7 @@ fn complete(answer: &Ty, body: &[TStmt], at: Span) -> Result<(), CheckFault>
     ensures { Gives (λ _. tt) result (checking.complete (view_ty answer.now) (map view_stmt body.now)) }
 {
     if !same_ty(answer, &Ty::Nothing) && !any_ends(body) {
-        return Err(refused(Cause::NoReturn, at));
+        return Err(refused(Unmet::NoReturn, at));
     }
     Ok(())
 }
@@ -167,7 +167,7 @@ pub fn function(alloc: Global, scope: &Scope, f: &Function) -> Result<TFn, Check
 {
     let of = fn_of(alloc, scope.draw, &f.of)?;
     if !agrees(&f.name.text, &of, &scope.declared) {
-        return Err(refused(Cause::TypeClash, f.name.span));
+        return Err(refused(Unmet::TypeClash, f.name.span));
     }
     let mut env = start(alloc, scope.draw, &f.of.params)?;
     let body = body(alloc, scope, &of, &mut env, &f.body)?;

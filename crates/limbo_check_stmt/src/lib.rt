@@ -11,18 +11,17 @@
 //! and function say. Of the sources of the part, what it gives is proper (`limbo_typed/specs/Proper.antt`): the numbers in it exist, and
 //! the types fit.
 //!
-//! Read `declare` (variables), `action` (expressions that are statements), `stmt`, `ending` (how paths end), `function`, `module`.
+//! Read `declare` (variables), `action` (expressions that are statements), `stmt`, `constant` and `ending` (how paths end), `function`, `module`.
 #![tactic(auto)]
 
 mod action;
+mod constant;
 mod declare;
 mod ending;
 mod function;
 mod laws;
 mod module;
 mod stmt;
-#[cfg(test)]
-mod tests;
 
 pub use laws::one_module;
 pub use module::{check_module, declares_init};

@@ -12,7 +12,7 @@ use crate::action::action;
 use crate::declare::local;
 use inf_text::Span;
 use limbo_check_expr::{Env, enter, int_value, leave, refused, span_of};
-use limbo_names::{Cause, CheckFault, Scope, same_ty};
+use limbo_names::{CheckFault, Scope, Unmet, same_ty};
 use limbo_tree::{Block, Expr, Stmt};
 use limbo_typed::{TExpr, TStmt};
 use limbo_types::{FnTy, Ty};
@@ -23,13 +23,13 @@ fn condition(
     alloc: Global,
     scope: &Scope,
     env: &Env,
-    e: &Option<Expr>,
+    e: &Option<Box<Expr>>,
     at: Span,
 ) -> Result<TExpr, CheckFault>
-    ensures { Gives view_expr result (checking.condition (view_scope scope.now) (view_env env.now) (option_map trees.view_expr e.now)) }
+    ensures { Gives view_expr result (checking.condition (view_scope scope.now) (view_env env.now) (trees.view_boxed e.now)) }
 {
     match e {
-        None => Err(refused(Cause::TypeClash, at)),
+        None => Err(refused(Unmet::TypeClash, at)),
         Some(e) => int_value(alloc, scope, env, e),
     }
 }
@@ -41,22 +41,22 @@ fn returned(
     scope: &Scope,
     answer: &Ty,
     env: &Env,
-    e: &Option<Expr>,
+    e: &Option<Box<Expr>>,
     at: Span,
 ) -> Result<Option<TExpr>, CheckFault>
-    ensures { Gives (λ x. option_map view_expr x) result (checking.returned (view_scope scope.now) (view_ty answer.now) (view_env env.now) (option_map trees.view_expr e.now)) }
+    ensures { Gives (λ x. option_map view_expr x) result (checking.returned (view_scope scope.now) (view_ty answer.now) (view_env env.now) (trees.view_boxed e.now)) }
 {
     match e {
         None => {
             if !same_ty(answer, &Ty::Nothing) {
-                return Err(refused(Cause::TypeClash, at));
+                return Err(refused(Unmet::NoReturn, at));
             }
             Ok(None)
         }
         Some(e) => {
             let x = int_value(alloc, scope, env, e)?;
             if !same_ty(answer, &Ty::Int) {
-                return Err(refused(Cause::TypeClash, at));
+                return Err(refused(Unmet::TypeClash, at));
             }
             Ok(Some(x))
         }
@@ -70,10 +70,10 @@ fn returning(
     scope: &Scope,
     answer: &Ty,
     env: &Env,
-    e: &Option<Expr>,
+    e: &Option<Box<Expr>>,
     at: Span,
 ) -> Result<TStmt, CheckFault>
-    ensures { Gives view_stmt result (checking.returning (view_scope scope.now) (view_ty answer.now) (view_env env.now) (option_map trees.view_expr e.now)) }
+    ensures { Gives view_stmt result (checking.returning (view_scope scope.now) (view_ty answer.now) (view_env env.now) (trees.view_boxed e.now)) }
 {
     let value = returned(alloc, scope, answer, env, e, at)?;
     Ok(TStmt::Return(value))
@@ -127,16 +127,39 @@ fn while_loop(alloc: Global, condition: TExpr, body: TStmt) -> Result<TStmt, All
 
 // A refusal of what has no type.
 fn unfit(at: Span) -> CheckFault
-    ensures { result ≡ CheckFault.Refused Cause.TypeClash at }
+    ensures { result ≡ CheckFault.Refused Unmet.TypeClash at }
 {
-    refused(Cause::TypeClash, at)
+    refused(Unmet::TypeClash, at)
+}
+
+// Where a statement stands.
+fn place_of(s: &Stmt) -> Span {
+    match s {
+        Stmt::Empty { span }
+        | Stmt::Block { span, .. }
+        | Stmt::Declare { span, .. }
+        | Stmt::Eval { span, .. }
+        | Stmt::If { span, .. }
+        | Stmt::While { span, .. }
+        | Stmt::Do { span, .. }
+        | Stmt::For { span, .. }
+        | Stmt::Case { span, .. }
+        | Stmt::Alt { span, .. }
+        | Stmt::Pick { span, .. }
+        | Stmt::Break { span, .. }
+        | Stmt::Continue { span, .. }
+        | Stmt::Return { span, .. }
+        | Stmt::Exit { span }
+        | Stmt::Spawn { span, .. }
+        | Stmt::Raise { span, .. } => *span,
+    }
 }
 
 /// The typed tree of a statement.
 ///
 /// # Errors
 /// As for its parts, 41 for a second declaration and 50 for types that don't fit among them; want of memory.
-#[tactic(auto, using(limbo_parser::proofs::View::the_stmt_views, limbo_names::proofs::Steps::fails_bind, limbo_typed::proofs::View::the_views), unfolding(crate::specs::Checking::stmt, crate::specs::Checking::block, crate::specs::Checking::stmt_all))]
+#[tactic(auto, using(limbo_tree::proofs::Stmts::the_stmt_views, limbo_names::proofs::Steps::fails_bind, limbo_typed::proofs::View::the_views, crate::proofs::Others::no_rule), unfolding(crate::specs::Checking::stmt, crate::specs::Checking::block, crate::specs::Checking::stmt_all))]
 #[cycle(statements)]
 pub fn stmt(
     alloc: Global,
@@ -190,16 +213,7 @@ pub fn stmt(
             Ok(made)
         }
         Stmt::Return { value, span } => returning(alloc, scope, &of.answer, env, value, *span),
-        Stmt::Do { span, .. }
-        | Stmt::For { span, .. }
-        | Stmt::Case { span, .. }
-        | Stmt::Alt { span, .. }
-        | Stmt::Pick { span, .. }
-        | Stmt::Break { span, .. }
-        | Stmt::Continue { span, .. }
-        | Stmt::Exit { span }
-        | Stmt::Spawn { span, .. }
-        | Stmt::Raise { span, .. } => Err(unfit(*span)),
+        _ => Err(unfit(place_of(s))),
     }
 }
 
@@ -207,7 +221,7 @@ pub fn stmt(
 ///
 /// # Errors
 /// As for statements.
-#[tactic(auto, using(limbo_names::proofs::Blocks::the_blocks, limbo_names::proofs::Steps::fails_bind), unfolding(crate::specs::Checking::stmt, crate::specs::Checking::block, crate::specs::Checking::stmt_all))]
+#[tactic(auto, using(limbo_tree::proofs::Stmts::the_blocks, limbo_names::proofs::Steps::fails_bind), unfolding(crate::specs::Checking::stmt, crate::specs::Checking::block, crate::specs::Checking::stmt_all))]
 #[cycle(statements)]
 fn block(
     alloc: Global,

@@ -5,4 +5,3 @@ pub mod Sound
 pub mod Complete
 pub mod Budget
 pub mod Laws
-pub mod View

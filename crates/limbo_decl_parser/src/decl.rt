@@ -1,24 +1,32 @@
 //! Declarations.
 
-ghost use Rattle.std.specs.Prelude.{◌<◌, IfOk, length, map, option_map};
-ghost use Rattle.limbo_tree.specs.View.{names_of, view_type, view_types, view_expr, view_members, view_decl};
+ghost use Rattle.std.specs.Prelude.{◌≡◌, ◌<◌, IfOk, IfErr, length, map, option_map};
+ghost use Rattle.limbo_reading.specs.declared.fault.ReadError.TheVariants.{NoMemory};
+ghost use Rattle.limbo_tree.specs.View.{names_of, view_type, view_types, view_expr, view_members, view_decl, view_boxed};
 ghost use Rattle.limbo_reading.specs.Reading as reading;
 ghost use Rattle.limbo_reading.specs.Reading.{kinds, Gives};
 ghost use Rattle.limbo_reading.specs.Lists as lists;
 ghost use Rattle.limbo_lexer.specs.declared.token.Mark.TheVariants as mark;
 ghost use Rattle.limbo_expr_parser.specs.Types.{ty_at as ty_of_at};
-ghost use Rattle.limbo_expr_parser.specs.Boxes.{view_boxed};
 ghost use Rattle.limbo_decl_parser.specs.Decls as decls;
 
 use crate::members::{adt_at, ended_expr, ended_type, members_at, only_name};
 use inf_text::Span;
-use limbo_expr_parser::{expr_at, type_at, unboxed};
+use limbo_expr_parser::{expr_at, push_type, type_at};
 use limbo_lexer::{Key, Mark, Token};
 use limbo_reading::{
     ReadError, after_key, after_mark, expect_mark, expect_name, expect_names, place, syntax,
 };
 use limbo_tree::{Decl, Expr, Member, Name, TypeTree};
 use std::alloc::Global;
+
+/// The tree in a box of its own.
+fn boxed_decl(alloc: Global, tree: Decl) -> Result<Box<Decl>, ReadError>
+    ensures same { IfOk result (λ b. b.value ≡ tree) }
+    ensures memory { IfErr result (λ e. e ≡ NoMemory) }
+{
+    Ok(Box::new(alloc, tree)?)
+}
 
 /// `["=" expr]`
 #[tactic(auto, unfolding(crate::specs::Decls::value_at))]
@@ -48,10 +56,10 @@ fn several_types(
 {
     let (first, _, mut rest) = type_at(alloc, budget, tokens)?;
     let mut types = Vec::new(alloc);
-    types.push(first)?;
+    push_type(&mut types, first)?;
     'types: while let Some(behind) = after_mark(Mark::Comma, rest) {
         let (of, _, after) = type_at(alloc, budget, behind)?;
-        types.push(of)?;
+        push_type(&mut types, of)?;
         rest = after;
     }
     Ok((types, rest))
@@ -99,9 +107,9 @@ fn var_decl(
     names: Vec<Name>,
     span: Span,
     tokens: &[Token],
-) -> Result<(Decl, &[Token]), ReadError>
+) -> Result<(Box<Decl>, &[Token]), ReadError>
     requires { budget < 1000 }
-    ensures { Gives (λ x. (view_decl x.0, kinds x.1.now)) result (decls.var_decl budget (names_of names.items) (kinds tokens.now)) }
+    ensures { Gives (λ x. (view_decl x.0.value, kinds x.1.now)) result (decls.var_decl budget (names_of names.items) (kinds tokens.now)) }
 {
     let (of, _, rest) = type_at(alloc, budget, tokens)?;
     let (value, rest) = value_at(alloc, budget, rest)?;
@@ -109,10 +117,10 @@ fn var_decl(
     let tree = Decl::Var {
         names,
         of,
-        value: unboxed(value),
+        value,
         span,
     };
-    Ok((tree, rest))
+    Ok((boxed_decl(alloc, tree)?, rest))
 }
 
 /// A declaration that is an adt, from its `adt` on.
@@ -122,9 +130,9 @@ fn adt_decl(
     names: Vec<Name>,
     span: Span,
     tokens: &[Token],
-) -> Result<(Decl, &[Token]), ReadError>
+) -> Result<(Box<Decl>, &[Token]), ReadError>
     requires { budget < 1000 }
-    ensures { Gives (λ x. (view_decl x.0, kinds x.1.now)) result (decls.adt_decl budget (names_of names.items) (kinds tokens.now)) }
+    ensures { Gives (λ x. (view_decl x.0.value, kinds x.1.now)) result (decls.adt_decl budget (names_of names.items) (kinds tokens.now)) }
 {
     let Some(name) = only_name(names) else {
         return Err(syntax(tokens));
@@ -136,7 +144,7 @@ fn adt_decl(
         pick,
         span,
     };
-    Ok((tree, rest))
+    Ok((boxed_decl(alloc, tree)?, rest))
 }
 
 /// What stands behind the `:` of a declaration that has a body in braces, or a type.
@@ -147,9 +155,9 @@ fn decl_of_type(
     names: Vec<Name>,
     span: Span,
     tokens: &[Token],
-) -> Result<(Decl, &[Token]), ReadError>
+) -> Result<(Box<Decl>, &[Token]), ReadError>
     requires { budget < 1000 }
-    ensures { Gives (λ x. (view_decl x.0, kinds x.1.now)) result (decls.decl_of_type budget (names_of names.items) (kinds tokens.now)) }
+    ensures { Gives (λ x. (view_decl x.0.value, kinds x.1.now)) result (decls.decl_of_type budget (names_of names.items) (kinds tokens.now)) }
 {
     if let Some(rest) = after_key(Key::Module, tokens) {
         let Some(name) = only_name(names) else {
@@ -161,7 +169,7 @@ fn decl_of_type(
             members,
             span,
         };
-        return Ok((tree, rest));
+        return Ok((boxed_decl(alloc, tree)?, rest));
     }
     if let Some(_) = after_key(Key::Adt, tokens) {
         return adt_decl(alloc, budget, names, span, tokens);
@@ -200,54 +208,57 @@ fn decl_behind(
     names: Vec<Name>,
     span: Span,
     tokens: &[Token],
-) -> Result<(Decl, &[Token]), ReadError>
+) -> Result<(Box<Decl>, &[Token]), ReadError>
     requires { budget < 1000 }
-    ensures { Gives (λ x. (view_decl x.0, kinds x.1.now)) result (decls.decl_behind budget (names_of names.items) (kinds tokens.now)) }
+    ensures { Gives (λ x. (view_decl x.0.value, kinds x.1.now)) result (decls.decl_behind budget (names_of names.items) (kinds tokens.now)) }
 {
     if let Some(rest) = after_key(Key::Con, tokens) {
         let (value, rest) = ended_expr(alloc, budget, rest)?;
-        return Ok((Decl::Con { names, value, span }, rest));
+        let tree = boxed_decl(alloc, Decl::Con { names, value, span })?;
+        return Ok((tree, rest));
     }
     if let Some(rest) = after_key(Key::TypeWord, tokens) {
         let (of, rest) = ended_type(alloc, budget, rest)?;
-        return Ok((Decl::Type { names, of, span }, rest));
+        let tree = boxed_decl(alloc, Decl::Type { names, of, span })?;
+        return Ok((tree, rest));
     }
     if let Some(rest) = after_key(Key::Import, tokens) {
         let (module, rest) = ended_name(rest)?;
-        return Ok((
-            Decl::Import {
-                names,
-                module,
-                span,
-            },
-            rest,
-        ));
+        let tree = Decl::Import {
+            names,
+            module,
+            span,
+        };
+        return Ok((boxed_decl(alloc, tree)?, rest));
     }
     if let Some(rest) = after_key(Key::Exception, tokens) {
         let (values, rest) = ended_values(alloc, budget, rest)?;
-        return Ok((
-            Decl::Exception {
-                names,
-                values,
-                span,
-            },
-            rest,
-        ));
+        let tree = Decl::Exception {
+            names,
+            values,
+            span,
+        };
+        return Ok((boxed_decl(alloc, tree)?, rest));
     }
     decl_of_type(alloc, budget, names, span, tokens)
 }
 
 /// A declaration, with its last `;`.
 #[tactic(auto, unfolding(crate::specs::Decls::decl_at))]
-fn decl_here(alloc: Global, budget: u32, tokens: &[Token]) -> Result<(Decl, &[Token]), ReadError>
+fn decl_here(
+    alloc: Global,
+    budget: u32,
+    tokens: &[Token],
+) -> Result<(Box<Decl>, &[Token]), ReadError>
     requires { budget < 1000 }
-    ensures { Gives (λ x. (view_decl x.0, kinds x.1.now)) result (decls.decl_at budget (kinds tokens.now)) }
+    ensures { Gives (λ x. (view_decl x.0.value, kinds x.1.now)) result (decls.decl_at budget (kinds tokens.now)) }
 {
     let (names, rest) = expect_names(alloc, tokens)?;
     let span = place(tokens);
     if let Some(rest) = after_mark(Mark::Define, rest) {
         let (value, rest) = ended_expr(alloc, budget, rest)?;
-        return Ok((Decl::Define { names, value, span }, rest));
+        let tree = boxed_decl(alloc, Decl::Define { names, value, span })?;
+        return Ok((tree, rest));
     }
     let rest = expect_mark(Mark::Colon, rest)?;
     decl_behind(alloc, budget, names, span, rest)
@@ -257,9 +268,13 @@ fn decl_here(alloc: Global, budget: u32, tokens: &[Token]) -> Result<(Decl, &[To
 ///
 /// # Errors
 /// `Syntax` or `TooDeep` at the first token that no declaration goes on with; `NoMemory`.
-pub fn decl_at(alloc: Global, budget: u32, tokens: &[Token]) -> Result<(Decl, &[Token]), ReadError>
+pub fn decl_at(
+    alloc: Global,
+    budget: u32,
+    tokens: &[Token],
+) -> Result<(Box<Decl>, &[Token]), ReadError>
     requires { budget < 1000 }
-    ensures same { Gives (λ x. (view_decl x.0, kinds x.1.now)) result (decls.decl_at budget (kinds tokens.now)) }
+    ensures same { Gives (λ x. (view_decl x.0.value, kinds x.1.now)) result (decls.decl_at budget (kinds tokens.now)) }
     ensures shorter { IfOk result (λ x. length (kinds x.1.now) < length (kinds tokens.now)) }
 {
     decl_here(alloc, budget, tokens)

@@ -1,6 +1,7 @@
 //! Members of modules and adts, and the variants of a pick adt.
 
-ghost use Rattle.std.specs.Prelude.{◌≡◌, ◌<◌, None, Some, MatchOption, map, option_map};
+ghost use Rattle.std.specs.Prelude.{◌≡◌, ◌<◌, ◌++◌, [], ◌∷◌, IfOk, IfErr, None, Some, MatchOption, map, option_map};
+ghost use Rattle.limbo_reading.specs.declared.fault.ReadError.TheVariants.{NoMemory};
 ghost use Rattle.limbo_tree.specs.View.{names_of, view_type, view_expr, view_fn, view_field, view_variant, view_member};
 ghost use Rattle.limbo_reading.specs.Reading.{kinds, Gives};
 ghost use Rattle.limbo_expr_parser.specs.Types.{ty_at as ty_of_at};
@@ -23,9 +24,9 @@ pub fn ended_type(
     alloc: Global,
     budget: u32,
     tokens: &[Token],
-) -> Result<(TypeTree, &[Token]), ReadError>
+) -> Result<(Box<TypeTree>, &[Token]), ReadError>
     requires { budget < 1000 }
-    ensures { Gives (λ x. (view_type x.0, kinds x.1.now)) result (decls.ended (ty_of_at budget) (kinds tokens.now)) }
+    ensures { Gives (λ x. (view_type x.0.value, kinds x.1.now)) result (decls.ended (ty_of_at budget) (kinds tokens.now)) }
 {
     let (of, _, rest) = type_at(alloc, budget, tokens)?;
     let rest = expect_mark(Mark::Semicolon, rest)?;
@@ -37,23 +38,27 @@ pub fn ended_expr(
     alloc: Global,
     budget: u32,
     tokens: &[Token],
-) -> Result<(Expr, &[Token]), ReadError>
+) -> Result<(Box<Expr>, &[Token]), ReadError>
     requires { budget < 1000 }
-    ensures { Gives (λ x. (view_expr x.0, kinds x.1.now)) result (decls.ended (decls.expr_at budget) (kinds tokens.now)) }
+    ensures { Gives (λ x. (view_expr x.0.value, kinds x.1.now)) result (decls.ended (decls.expr_at budget) (kinds tokens.now)) }
 {
     let (value, _, rest) = expr_at(alloc, budget, tokens)?;
     let rest = expect_mark(Mark::Semicolon, rest)?;
-    Ok((Box::into_inner(value), rest))
+    Ok((value, rest))
 }
 
 /// What stands behind a function's name, and the `;` behind it.
-fn ended_fn(alloc: Global, budget: u32, tokens: &[Token]) -> Result<(FnType, &[Token]), ReadError>
+fn ended_fn(
+    alloc: Global,
+    budget: u32,
+    tokens: &[Token],
+) -> Result<(Box<FnType>, &[Token]), ReadError>
     requires { budget < 1000 }
-    ensures { Gives (λ x. (view_fn x.0, kinds x.1.now)) result (decls.ended (decls.fn_at budget) (kinds tokens.now)) }
+    ensures { Gives (λ x. (view_fn x.0.value, kinds x.1.now)) result (decls.ended (decls.fn_at budget) (kinds tokens.now)) }
 {
     let (of, rest) = fn_at(alloc, budget, tokens)?;
     let rest = expect_mark(Mark::Semicolon, rest)?;
-    Ok((of, rest))
+    Ok((Box::new(alloc, of)?, rest))
 }
 
 /// The name, where it is the only one.
@@ -188,6 +193,22 @@ fn pick_at(
     Ok((Some(variants), rest))
 }
 
+/// The tree in a box of its own.
+fn boxed_member(alloc: Global, tree: Member) -> Result<Box<Member>, ReadError>
+    ensures same { IfOk result (λ b. b.value ≡ tree) }
+    ensures memory { IfErr result (λ e. e ≡ NoMemory) }
+{
+    Ok(Box::new(alloc, tree)?)
+}
+
+/// Adds a member to some.
+fn push_member(members: &mut Vec<Member>, member: Box<Member>) -> Result<(), ReadError>
+    ensures items { IfOk result (λ _. members.new.items ≡ members.old.items ++ member.value ∷ []) }
+    ensures memory { IfErr result (λ e. e ≡ NoMemory) }
+{
+    Ok(members.push(Box::into_inner(member))?)
+}
+
 /// Whether members end here: at `}` or at `pick`.
 fn ends_members(tokens: &[Token]) -> bool
     ensures { result ≡ decls.ends_members (kinds tokens.now) }
@@ -212,7 +233,7 @@ pub fn members_at(
     let mut rest = tokens;
     'members: while !ends_members(rest) {
         let (member, after) = member_at(alloc, budget, rest)?;
-        members.push(member)?;
+        push_member(&mut members, member)?;
         rest = after;
     }
     Ok((members, rest))
@@ -221,9 +242,13 @@ pub fn members_at(
 /// A member, with its last `;`.
 #[tactic(auto, unfolding(crate::specs::Decls::member_at, crate::specs::Decls::member_of_at))]
 #[cycle(members)]
-fn member_at(alloc: Global, budget: u32, tokens: &[Token]) -> Result<(Member, &[Token]), ReadError>
+fn member_at(
+    alloc: Global,
+    budget: u32,
+    tokens: &[Token],
+) -> Result<(Box<Member>, &[Token]), ReadError>
     requires { budget < 1000 }
-    ensures { Gives (λ x. (view_member x.0, kinds x.1.now)) result (decls.member_at budget (kinds tokens.now)) }
+    ensures { Gives (λ x. (view_member x.0.value, kinds x.1.now)) result (decls.member_at budget (kinds tokens.now)) }
 {
     let (names, rest) = expect_names(alloc, tokens)?;
     let rest = expect_mark(Mark::Colon, rest)?;
@@ -231,7 +256,7 @@ fn member_at(alloc: Global, budget: u32, tokens: &[Token]) -> Result<(Member, &[
 }
 
 /// What stands behind the `:` of a member.
-#[tactic(auto, using(crate::proofs::View::the_members), unfolding(crate::specs::Decls::member_behind))]
+#[tactic(auto, using(limbo_tree::proofs::Members::the_members), unfolding(crate::specs::Decls::member_behind))]
 #[cycle(members)]
 fn member_behind(
     alloc: Global,
@@ -239,31 +264,35 @@ fn member_behind(
     names: Vec<Name>,
     span: Span,
     tokens: &[Token],
-) -> Result<(Member, &[Token]), ReadError>
+) -> Result<(Box<Member>, &[Token]), ReadError>
     requires { budget < 1000 }
-    ensures { Gives (λ x. (view_member x.0, kinds x.1.now)) result (decls.member_behind (decls.adt_at budget) budget (names_of names.items) (kinds tokens.now)) }
+    ensures { Gives (λ x. (view_member x.0.value, kinds x.1.now)) result (decls.member_behind (decls.adt_at budget) budget (names_of names.items) (kinds tokens.now)) }
 {
     if let Some(rest) = after_key(Key::Fn, tokens) {
         let (of, rest) = ended_fn(alloc, budget, rest)?;
-        return Ok((Member::Function { names, of, span }, rest));
+        let tree = boxed_member(alloc, Member::Function { names, of, span })?;
+        return Ok((tree, rest));
     }
     if let Some(rest) = after_key(Key::Con, tokens) {
         let (value, rest) = ended_expr(alloc, budget, rest)?;
-        return Ok((Member::Con { names, value, span }, rest));
+        let tree = boxed_member(alloc, Member::Con { names, value, span })?;
+        return Ok((tree, rest));
     }
     if let Some(rest) = after_key(Key::TypeWord, tokens) {
         let (of, rest) = ended_type(alloc, budget, rest)?;
-        return Ok((Member::Type { names, of, span }, rest));
+        let tree = boxed_member(alloc, Member::Type { names, of, span })?;
+        return Ok((tree, rest));
     }
     if let Some(_) = after_key(Key::Adt, tokens) {
         return adt_member(alloc, budget, names, span, tokens);
     }
     let (of, rest) = ended_type(alloc, budget, tokens)?;
-    Ok((Member::Var { names, of, span }, rest))
+    let tree = boxed_member(alloc, Member::Var { names, of, span })?;
+    Ok((tree, rest))
 }
 
 /// A member that is an adt, from its `adt` on.
-#[tactic(auto, using(crate::proofs::View::the_members))]
+#[tactic(auto, using(limbo_tree::proofs::Members::the_members))]
 #[cycle(members)]
 fn adt_member(
     alloc: Global,
@@ -271,9 +300,9 @@ fn adt_member(
     names: Vec<Name>,
     span: Span,
     tokens: &[Token],
-) -> Result<(Member, &[Token]), ReadError>
+) -> Result<(Box<Member>, &[Token]), ReadError>
     requires { budget < 1000 }
-    ensures { Gives (λ x. (view_member x.0, kinds x.1.now)) result (decls.adt_member (decls.adt_at budget) (names_of names.items) (kinds tokens.now)) }
+    ensures { Gives (λ x. (view_member x.0.value, kinds x.1.now)) result (decls.adt_member (decls.adt_at budget) (names_of names.items) (kinds tokens.now)) }
 {
     let Some(name) = only_name(names) else {
         return Err(syntax(tokens));
@@ -285,7 +314,7 @@ fn adt_member(
         pick,
         span,
     };
-    Ok((tree, rest))
+    Ok((boxed_member(alloc, tree)?, rest))
 }
 
 /// The members and variants of an adt, from its `adt` on, and what stands behind its last `;`.

@@ -1,7 +1,7 @@
 //! Parameters, and what stands behind a function's name.
 
 ghost use Rattle.std.specs.Prelude.{◌≡◌, ◌<◌, IfOk, Ok, length, map, option_map};
-ghost use Rattle.limbo_tree.specs.View.{name_of, view_type, view_param, view_raises, view_fn};
+ghost use Rattle.limbo_tree.specs.View.{name_of, view_param, view_raises, view_fn, view_boxed_type};
 ghost use Rattle.limbo_reading.specs.Reading as reading;
 ghost use Rattle.limbo_reading.specs.Reading.{kinds, Gives};
 ghost use Rattle.limbo_reading.specs.Lists as lists;
@@ -121,9 +121,9 @@ fn answer_at(
     alloc: Global,
     budget: u32,
     tokens: &[Token],
-) -> Result<(Option<TypeTree>, &[Token]), ReadError>
+) -> Result<(Option<Box<TypeTree>>, &[Token]), ReadError>
     requires { budget < 1000 }
-    ensures { Gives (λ x. (option_map view_type x.0, kinds x.1.now)) result (decls.answer_at budget (kinds tokens.now)) }
+    ensures { Gives (λ x. (view_boxed_type x.0, kinds x.1.now)) result (decls.answer_at budget (kinds tokens.now)) }
 {
     let Some(rest) = after_mark(Mark::Colon, tokens) else {
         return Ok((None, tokens));

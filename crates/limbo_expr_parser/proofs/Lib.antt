@@ -7,6 +7,6 @@ pub mod Sound
 pub mod Deep
 pub mod Places
 pub mod Laws
-pub mod View
 pub mod TypeSteps
 pub mod ExprSteps
+pub mod Unaries

@@ -2,5 +2,3 @@ pub mod Front
 pub mod Strength
 pub mod Types
 pub mod Exprs
-pub mod Views
-pub mod Boxes

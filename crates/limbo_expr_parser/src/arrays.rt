@@ -4,11 +4,11 @@ ghost use Rattle.std.specs.Prelude.{◌≡◌, ◌≤◌, ◌<◌, ◌+◌, None
 ghost use Rattle.limbo_tree.specs.Exprs.{nesting, part_nesting, init_nesting, inits_nesting};
 ghost use Rattle.limbo_tree.specs.View.{view_expr, view_init, inits_of};
 ghost use Rattle.limbo_reading.specs.Reading.{kinds, Gives};
-ghost use Rattle.limbo_expr_parser.specs.Views.{view_part};
+ghost use Rattle.limbo_tree.specs.View.{view_part};
 ghost use Rattle.limbo_expr_parser.specs.Exprs.{readers};
 ghost use Rattle.limbo_expr_parser.specs.Exprs as reading;
 
-use crate::boxes::{boxed, init_with_index, next_init, rest_init};
+use crate::boxes::boxed;
 use crate::expr::{chain_at, expr_in};
 use crate::lists::part_before;
 use crate::types::type_at;
@@ -19,7 +19,7 @@ use limbo_tree::{Expr, Init};
 use std::alloc::Global;
 
 /// What stands behind `array`.
-#[tactic(auto, using(crate::proofs::View::the_views), unfolding(crate::specs::Exprs::array_at))]
+#[tactic(auto, using(limbo_tree::proofs::Exprs::the_views), unfolding(crate::specs::Exprs::array_at))]
 #[cycle(exprs)]
 pub fn array_at(
     alloc: Global,
@@ -48,7 +48,7 @@ pub fn array_at(
 }
 
 // The elements of an array, behind their `{`.
-#[tactic(auto, using(crate::proofs::View::the_views), unfolding(crate::specs::Exprs::filled_at))]
+#[tactic(auto, using(limbo_tree::proofs::Exprs::the_views), unfolding(crate::specs::Exprs::filled_at))]
 #[cycle(exprs)]
 fn filled_at(
     alloc: Global,
@@ -78,7 +78,7 @@ fn filled_at(
 }
 
 // The type of an array's elements.
-#[tactic(auto, using(crate::proofs::View::the_views), unfolding(crate::specs::Exprs::sized_at))]
+#[tactic(auto, using(limbo_tree::proofs::Exprs::the_views), unfolding(crate::specs::Exprs::sized_at))]
 fn sized_at(
     alloc: Global,
     inner: u32,
@@ -103,7 +103,7 @@ fn sized_at(
 }
 
 /// What stands behind `chan`.
-#[tactic(auto, using(crate::proofs::View::the_views), unfolding(crate::specs::Exprs::channel_at))]
+#[tactic(auto, using(limbo_tree::proofs::Exprs::the_views), unfolding(crate::specs::Exprs::channel_at))]
 pub fn channel_at(
     alloc: Global,
     inner: u32,
@@ -140,10 +140,10 @@ fn inits_at(
 {
     let (first, mut size, mut rest) = init_at(alloc, budget, tokens)?;
     let mut items = Vec::new(alloc);
-    items.push(Box::into_inner(first))?;
+    items.push(first)?;
     'all: while let Some(behind) = after_comma_inside(rest) {
         let (item, item_size, after) = init_at(alloc, budget, behind)?;
-        items.push(Box::into_inner(item))?;
+        items.push(item)?;
         size = size.max(item_size);
         rest = after;
     }
@@ -151,31 +151,24 @@ fn inits_at(
 }
 
 // An item between the braces of an array.
-#[tactic(auto, unfolding(crate::specs::Exprs::init_at))]
+#[tactic(auto, using(limbo_tree::proofs::Exprs::the_init_views), unfolding(crate::specs::Exprs::init_at))]
 #[cycle(exprs)]
-fn init_at(
-    alloc: Global,
-    budget: u32,
-    tokens: &[Token],
-) -> Result<(Box<Init>, u32, &[Token]), ReadError>
+fn init_at(alloc: Global, budget: u32, tokens: &[Token]) -> Result<(Init, u32, &[Token]), ReadError>
     requires { budget < 1000 }
-    ensures same { Gives (λ x. (view_init x.0.value, kinds x.2.now)) result (reading.init_at (readers budget) (kinds tokens.now)) }
-    ensures size { IfOk result (λ x. x.1 ≡ init_nesting (view_init x.0.value)) }
+    ensures same { Gives (λ x. (view_init x.0, kinds x.2.now)) result (reading.init_at (readers budget) (kinds tokens.now)) }
+    ensures size { IfOk result (λ x. x.1 ≡ init_nesting (view_init x.0)) }
     ensures within { IfOk result (λ x. x.1 ≤ budget) }
 {
     if let Some(behind) = after_rest(tokens) {
         let (value, size, rest) = expr_in(alloc, budget, behind)?;
-        let item = rest_init(alloc, value)?;
-        return Ok((item, size, rest));
+        return Ok((Init::Rest { value }, size, rest));
     }
     let (index, index_size, rest) = expr_in(alloc, budget, tokens)?;
     let Some(behind) = after_mark(Mark::FatArrow, rest) else {
-        let item = next_init(alloc, index)?;
-        return Ok((item, index_size, rest));
+        return Ok((Init::Next { value: index }, index_size, rest));
     };
     let (value, value_size, rest) = expr_in(alloc, budget, behind)?;
-    let item = init_with_index(alloc, index, value)?;
-    Ok((item, index_size.max(value_size), rest))
+    Ok((Init::At { index, value }, index_size.max(value_size), rest))
 }
 
 // What stands behind `* =>`.

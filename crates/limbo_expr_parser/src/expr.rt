@@ -69,36 +69,18 @@ fn assign_after<'a>(tree: &Expr, tokens: &'a [Token]) -> Option<(AssignOp, &'a [
 }
 
 // Whether the tree is a unary.
-#[tactic(auto, using(crate::proofs::View::the_views))]
+#[tactic(auto, using(limbo_tree::proofs::Exprs::the_views))]
 fn is_unary(tree: &Expr) -> bool
     ensures { result ≡ is_unary (view_expr tree.now) }
 {
     match tree {
-        Expr::Assign { .. } => false,
-        Expr::Load { .. } => false,
-        Expr::Binary { .. } => false,
-        Expr::Unary { .. } => true,
-        Expr::Bytes { .. } => true,
-        Expr::Filled { .. } => true,
-        Expr::Sized { .. } => true,
-        Expr::Channel { .. } => true,
-        Expr::Listed { .. } => true,
-        Expr::Call { .. } => true,
-        Expr::Index { .. } => true,
-        Expr::Slice { .. } => true,
-        Expr::Dot { .. } => true,
-        Expr::Arrow { .. } => true,
-        Expr::Postfix { .. } => true,
-        Expr::Number { .. } => true,
-        Expr::Chars { .. } => true,
-        Expr::Name { .. } => true,
-        Expr::Nil { .. } => true,
-        Expr::Group { .. } => true,
+        Expr::Assign { .. } | Expr::Load { .. } | Expr::Binary { .. } => false,
+        _ => true,
     }
 }
 
 /// An expression of nesting up to the budget, its nesting, and what stands behind it.
-#[tactic(auto, using(crate::proofs::View::the_views, crate::proofs::ExprSteps::the_budget), unfolding(crate::specs::Exprs::expr, crate::specs::Exprs::assigned))]
+#[tactic(auto, using(limbo_tree::proofs::Exprs::the_views, crate::proofs::ExprSteps::the_budget), unfolding(crate::specs::Exprs::expr, crate::specs::Exprs::assigned))]
 #[cycle(exprs)]
 pub fn expr_in(
     alloc: Global,
@@ -156,7 +138,7 @@ pub fn chain_at(
 }
 
 // The same, whose parts nest up to the budget.
-#[tactic(auto, using(crate::proofs::View::the_views))]
+#[tactic(auto, using(limbo_tree::proofs::Exprs::the_views))]
 #[cycle(exprs)]
 fn chain_above(
     alloc: Global,
@@ -208,7 +190,7 @@ fn after_load(level: u32, tokens: &[Token]) -> Option<&[Token]>
 }
 
 // A load, behind its keyword.
-#[tactic(auto, using(crate::proofs::View::the_views), unfolding(crate::specs::Exprs::load_at))]
+#[tactic(auto, using(limbo_tree::proofs::Exprs::the_views), unfolding(crate::specs::Exprs::load_at))]
 #[cycle(exprs)]
 fn load_at(
     alloc: Global,
@@ -228,7 +210,7 @@ fn load_at(
 }
 
 // A unary, whose parts nest up to the budget.
-#[tactic(auto, using(crate::proofs::View::the_views), unfolding(crate::specs::Exprs::unary))]
+#[tactic(auto, using(limbo_tree::proofs::Exprs::the_views), unfolding(crate::specs::Exprs::unary))]
 #[cycle(exprs)]
 fn unary_above(
     alloc: Global,

@@ -16,6 +16,6 @@ mod operators;
 mod postfix;
 mod types;
 
-pub use boxes::unboxed;
+pub use boxes::push_type;
 pub use expr::{expr_at, unary_at};
 pub use types::type_at;

@@ -4,11 +4,11 @@ ghost use Rattle.std.specs.Prelude.{◌≡◌, ◌≤◌, ◌<◌, ◌+◌, IfOk
 ghost use Rattle.limbo_tree.specs.Exprs.{nesting, exprs_nesting, part_nesting};
 ghost use Rattle.limbo_tree.specs.View.{view_expr, exprs_of};
 ghost use Rattle.limbo_reading.specs.Reading.{kinds, Gives};
-ghost use Rattle.limbo_expr_parser.specs.Views.{view_part};
+ghost use Rattle.limbo_tree.specs.View.{view_part};
 ghost use Rattle.limbo_expr_parser.specs.Exprs.{readers};
 ghost use Rattle.limbo_expr_parser.specs.Exprs as reading;
 
-use crate::boxes::boxed;
+use crate::boxes::{boxed, push_expr};
 use crate::expr::expr_in;
 use inf_text::Span;
 use limbo_lexer::{Key, Mark, Token};
@@ -30,10 +30,10 @@ pub fn list_at(
 {
     let (first, mut size, mut rest) = expr_in(alloc, budget, tokens)?;
     let mut items = Vec::new(alloc);
-    items.push(Box::into_inner(first))?;
+    push_expr(&mut items, first)?;
     'all: while let Some(behind) = after_mark(Mark::Comma, rest) {
         let (item, item_size, after) = expr_in(alloc, budget, behind)?;
-        items.push(Box::into_inner(item))?;
+        push_expr(&mut items, item)?;
         size = size.max(item_size);
         rest = after;
     }
@@ -85,7 +85,7 @@ pub fn part_before(
 }
 
 /// What stands behind `list`.
-#[tactic(auto, using(crate::proofs::View::the_views), unfolding(crate::specs::Exprs::listed_at))]
+#[tactic(auto, using(limbo_tree::proofs::Exprs::the_views), unfolding(crate::specs::Exprs::listed_at))]
 #[cycle(exprs)]
 pub fn listed_at(
     alloc: Global,

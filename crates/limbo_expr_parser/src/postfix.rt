@@ -64,7 +64,7 @@ fn is_ended(tokens: &[Token]) -> bool
 }
 
 // A primary.
-#[tactic(auto, using(crate::proofs::View::the_views), unfolding(crate::specs::Exprs::primary))]
+#[tactic(auto, using(limbo_tree::proofs::Exprs::the_views), unfolding(crate::specs::Exprs::primary))]
 #[cycle(exprs)]
 fn primary_at(
     alloc: Global,
@@ -103,7 +103,7 @@ fn leaf_at(alloc: Global, tokens: &[Token]) -> Result<(Box<Expr>, u32, &[Token])
 }
 
 // The tree that a token is by itself.
-#[tactic(auto, using(crate::proofs::View::the_views))]
+#[tactic(auto, using(limbo_tree::proofs::Exprs::the_views))]
 fn leaf_of(kind: &Kind, span: Span) -> Result<Option<Expr>, ReadError>
     ensures same { IfOk result (λ o. MatchOption o (reading.leaf_of kind.now ≡ None) (λ e. reading.leaf_of kind.now ≡ Some (view_expr e))) }
     ensures one { IfOk result (λ o. IfSome o (λ e. nesting (view_expr e) ≡ 1)) }
@@ -129,7 +129,7 @@ fn leaf_of(kind: &Kind, span: Span) -> Result<Option<Expr>, ReadError>
 }
 
 // One of those that may stand behind the base.
-#[tactic(auto, using(crate::proofs::View::the_views), unfolding(crate::specs::Exprs::one_behind))]
+#[tactic(auto, using(limbo_tree::proofs::Exprs::the_views), unfolding(crate::specs::Exprs::one_behind))]
 #[cycle(exprs)]
 fn one_behind(
     alloc: Global,
@@ -166,7 +166,7 @@ fn one_behind(
 }
 
 // What stands behind the `[` of an index or a slice.
-#[tactic(auto, using(crate::proofs::View::the_views), unfolding(crate::specs::Exprs::index_at))]
+#[tactic(auto, using(limbo_tree::proofs::Exprs::the_views), unfolding(crate::specs::Exprs::index_at))]
 #[cycle(exprs)]
 fn index_at(
     alloc: Global,
@@ -218,7 +218,7 @@ fn index_at(
 }
 
 // The name of a part, or a step, behind the base.
-#[tactic(auto, using(crate::proofs::View::the_views), unfolding(crate::specs::Exprs::part_behind))]
+#[tactic(auto, using(limbo_tree::proofs::Exprs::the_views), unfolding(crate::specs::Exprs::part_behind))]
 fn part_behind(
     alloc: Global,
     base: Box<Expr>,

@@ -8,6 +8,7 @@ ghost use Rattle.limbo_expr_parser.specs.Front.{front};
 ghost use Rattle.limbo_expr_parser.specs.Types.{ty_at, simple_of};
 ghost use Rattle.limbo_expr_parser.specs.Types as reading;
 
+use crate::boxes::{boxed_type, push_type};
 use inf_text::Span;
 use limbo_lexer::{Key, Kind, Mark, Token};
 use limbo_reading::{
@@ -25,10 +26,10 @@ pub fn type_at(
     alloc: Global,
     budget: u32,
     tokens: &[Token],
-) -> Result<(TypeTree, u32, &[Token]), ReadError>
+) -> Result<(Box<TypeTree>, u32, &[Token]), ReadError>
     requires { budget < 1000 }
-    ensures same { Gives (λ x. (view_type x.0, kinds x.2.now)) result (ty_at budget (kinds tokens.now)) }
-    ensures size { IfOk result (λ x. x.1 ≡ ty_nesting (view_type x.0)) }
+    ensures same { Gives (λ x. (view_type x.0.value, kinds x.2.now)) result (ty_at budget (kinds tokens.now)) }
+    ensures size { IfOk result (λ x. x.1 ≡ ty_nesting (view_type x.0.value)) }
     ensures within { IfOk result (λ x. x.1 ≤ budget) }
     ensures shorter { IfOk result (λ x. length (kinds x.2.now) < length (kinds tokens.now)) }
 {
@@ -36,16 +37,16 @@ pub fn type_at(
 }
 
 // A type, whose budget may be used up.
-#[tactic(auto, using(crate::proofs::View::the_type_views, crate::proofs::TypeSteps::the_type_budget), unfolding(crate::specs::Types::ty_above))]
+#[tactic(auto, using(limbo_tree::proofs::Exprs::the_type_views, crate::proofs::TypeSteps::the_type_budget), unfolding(crate::specs::Types::ty_above))]
 #[cycle(types)]
 fn type_in(
     alloc: Global,
     budget: u32,
     tokens: &[Token],
-) -> Result<(TypeTree, u32, &[Token]), ReadError>
+) -> Result<(Box<TypeTree>, u32, &[Token]), ReadError>
     requires { budget < 1000 }
-    ensures same { Gives (λ x. (view_type x.0, kinds x.2.now)) result (ty_at budget (kinds tokens.now)) }
-    ensures size { IfOk result (λ x. x.1 ≡ ty_nesting (view_type x.0)) }
+    ensures same { Gives (λ x. (view_type x.0.value, kinds x.2.now)) result (ty_at budget (kinds tokens.now)) }
+    ensures size { IfOk result (λ x. x.1 ≡ ty_nesting (view_type x.0.value)) }
     ensures within { IfOk result (λ x. x.1 ≤ budget) }
 {
     if budget == 0 {
@@ -55,38 +56,41 @@ fn type_in(
 }
 
 // A type whose parts nest up to the budget.
-#[tactic(auto, using(crate::proofs::View::the_type_views), unfolding(crate::specs::Types::ty_above))]
+#[tactic(auto, using(limbo_tree::proofs::Exprs::the_type_views), unfolding(crate::specs::Types::ty_above))]
 #[cycle(types)]
 fn type_above(
     alloc: Global,
     inner: u32,
     tokens: &[Token],
-) -> Result<(TypeTree, u32, &[Token]), ReadError>
+) -> Result<(Box<TypeTree>, u32, &[Token]), ReadError>
     requires { inner < 999 }
-    ensures same { Gives (λ x. (view_type x.0, kinds x.2.now)) result (reading.ty_above (ty_at inner) (kinds tokens.now)) }
-    ensures size { IfOk result (λ x. x.1 ≡ ty_nesting (view_type x.0)) }
+    ensures same { Gives (λ x. (view_type x.0.value, kinds x.2.now)) result (reading.ty_above (ty_at inner) (kinds tokens.now)) }
+    ensures size { IfOk result (λ x. x.1 ≡ ty_nesting (view_type x.0.value)) }
     ensures within { IfOk result (λ x. x.1 ≤ inner + 1) }
 {
     let span = place(tokens);
     if let Some((simple, rest)) = simple_at(tokens) {
-        return Ok((simple, 1, rest));
+        return Ok((boxed_type(alloc, simple)?, 1, rest));
     }
     if let Some(behind) = after_key(Key::Array, tokens) {
         let (element, size, rest) = element_at(alloc, inner, behind)?;
-        return Ok((TypeTree::Array { element, span }, 1 + size, rest));
+        let tree = boxed_type(alloc, TypeTree::Array { element, span })?;
+        return Ok((tree, 1 + size, rest));
     }
     if let Some(behind) = after_key(Key::List, tokens) {
         let (element, size, rest) = element_at(alloc, inner, behind)?;
-        return Ok((TypeTree::List { element, span }, 1 + size, rest));
+        let tree = boxed_type(alloc, TypeTree::List { element, span })?;
+        return Ok((tree, 1 + size, rest));
     }
     if let Some(behind) = after_key(Key::Chan, tokens) {
         let (element, size, rest) = element_at(alloc, inner, behind)?;
-        return Ok((TypeTree::Chan { element, span }, 1 + size, rest));
+        let tree = boxed_type(alloc, TypeTree::Chan { element, span })?;
+        return Ok((tree, 1 + size, rest));
     }
     if let Some(behind) = after_mark(Mark::OpenParen, tokens) {
         return tuple_at(alloc, inner, span, behind);
     }
-    named_at(tokens)
+    named_at(alloc, tokens)
 }
 
 // `of` type
@@ -103,22 +107,21 @@ fn element_at(
     ensures within { IfOk result (λ x. x.1 ≤ budget) }
 {
     let behind = expect_key(Key::Of, tokens)?;
-    let (element, size, rest) = type_in(alloc, budget, behind)?;
-    Ok((Box::new(alloc, element)?, size, rest))
+    type_in(alloc, budget, behind)
 }
 
 // What stands behind the `(` of a tuple, which stands at the span.
-#[tactic(auto, using(crate::proofs::View::the_type_views), unfolding(crate::specs::Types::tuple_at))]
+#[tactic(auto, using(limbo_tree::proofs::Exprs::the_type_views), unfolding(crate::specs::Types::tuple_at))]
 #[cycle(types)]
 fn tuple_at(
     alloc: Global,
     inner: u32,
     span: Span,
     tokens: &[Token],
-) -> Result<(TypeTree, u32, &[Token]), ReadError>
+) -> Result<(Box<TypeTree>, u32, &[Token]), ReadError>
     requires { inner < 999 }
-    ensures same { Gives (λ x. (view_type x.0, kinds x.2.now)) result (reading.tuple_at (ty_at inner) (kinds tokens.now)) }
-    ensures size { IfOk result (λ x. x.1 ≡ ty_nesting (view_type x.0)) }
+    ensures same { Gives (λ x. (view_type x.0.value, kinds x.2.now)) result (reading.tuple_at (ty_at inner) (kinds tokens.now)) }
+    ensures size { IfOk result (λ x. x.1 ≡ ty_nesting (view_type x.0.value)) }
     ensures within { IfOk result (λ x. x.1 ≤ inner + 1) }
 {
     let (parts, size, rest) = types_at(alloc, inner, tokens)?;
@@ -126,7 +129,8 @@ fn tuple_at(
         return Err(syntax(rest));
     }
     let rest = expect_mark(Mark::CloseParen, rest)?;
-    Ok((TypeTree::Tuple { parts, span }, 1 + size, rest))
+    let tree = boxed_type(alloc, TypeTree::Tuple { parts, span })?;
+    Ok((tree, 1 + size, rest))
 }
 
 // type `{"," type}`
@@ -143,10 +147,10 @@ fn types_at(
 {
     let (first, mut size, mut rest) = type_in(alloc, budget, tokens)?;
     let mut parts = Vec::new(alloc);
-    parts.push(first)?;
+    push_type(&mut parts, first)?;
     'all: while let Some(behind) = after_mark(Mark::Comma, rest) {
         let (part, part_size, after) = type_in(alloc, budget, behind)?;
-        parts.push(part)?;
+        push_type(&mut parts, part)?;
         size = size.max(part_size);
         rest = after;
     }
@@ -154,19 +158,21 @@ fn types_at(
 }
 
 // `["ref"]` and the name of a type
-#[tactic(auto, using(crate::proofs::View::the_type_views), unfolding(crate::specs::Types::named_at))]
-fn named_at(tokens: &[Token]) -> Result<(TypeTree, u32, &[Token]), ReadError>
-    ensures same { Gives (λ x. (view_type x.0, kinds x.2.now)) result (reading.named_at (kinds tokens.now)) }
-    ensures size { IfOk result (λ x. x.1 ≡ ty_nesting (view_type x.0)) }
+#[tactic(auto, using(limbo_tree::proofs::Exprs::the_type_views), unfolding(crate::specs::Types::named_at))]
+fn named_at(alloc: Global, tokens: &[Token]) -> Result<(Box<TypeTree>, u32, &[Token]), ReadError>
+    ensures same { Gives (λ x. (view_type x.0.value, kinds x.2.now)) result (reading.named_at (kinds tokens.now)) }
+    ensures size { IfOk result (λ x. x.1 ≡ ty_nesting (view_type x.0.value)) }
     ensures within { IfOk result (λ x. x.1 ≤ 1) }
 {
     let span = place(tokens);
     if let Some(behind) = after_key(Key::Ref, tokens) {
         let (of, rest) = qual_at(behind)?;
-        return Ok((TypeTree::Ref { of, span }, 1, rest));
+        let tree = boxed_type(alloc, TypeTree::Ref { of, span })?;
+        return Ok((tree, 1, rest));
     }
     let (name, rest) = qual_at(tokens)?;
-    Ok((TypeTree::Named { name, span }, 1, rest))
+    let tree = boxed_type(alloc, TypeTree::Named { name, span })?;
+    Ok((tree, 1, rest))
 }
 
 // A qualified name.
@@ -213,7 +219,7 @@ fn simple_at(tokens: &[Token]) -> Option<(TypeTree, &[Token])>
 }
 
 // The type that a keyword is.
-#[tactic(auto, using(crate::proofs::View::the_type_views))]
+#[tactic(auto, using(limbo_tree::proofs::Exprs::the_type_views))]
 fn simple_of(kind: &Kind, span: Span) -> Option<TypeTree>
     ensures same { MatchOption result (simple_of kind.now ≡ None) (λ t. simple_of kind.now ≡ Some (view_type t)) }
     ensures one { IfSome result (λ t. ty_nesting (view_type t) ≡ 1) }

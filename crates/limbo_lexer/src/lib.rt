@@ -11,8 +11,6 @@ mod laws;
 mod lexer;
 mod numbers;
 mod place;
-#[cfg(test)]
-mod tests;
 mod token;
 mod words;
 

@@ -1,20 +1,10 @@
 //! The tables of words and signs.
 
-ghost use Rattle.std.specs.Prelude.{◌≡◌, ◌↔◌, IsTrue, map, Option};
+ghost use Rattle.std.specs.Prelude.{◌≡◌, map, Option};
 ghost use Rattle.limbo_lexer.specs.Words.{keywords, listed, marks};
 
 use crate::token::{Key, Mark};
-
-/// Whether characters have this spelling.
-fn is_spelled(text: &[char], spelling: &str) -> bool
-    ensures { IsTrue result ↔ (text.now ≡ spelling.now) }
-{
-    let bytes = spelling.as_bytes();
-    if text.len() != bytes.len() {
-        return false;
-    }
-    text.iter().zip(bytes).all(|(c, b)| *c == char::from(*b))
-}
+use inf_text::is_spelled;
 
 /// The value in the first row of a table with this spelling.
 fn listed<T: Copy>(table: &[(&str, T)], text: &[char]) -> Option<T>

@@ -1,35 +1,14 @@
--- A block by its statements and what handles their exceptions; lists of one.
-use Rattle.std.proofs.Common.{◌≡◌, ℕ, suc, Bool, true, false, nat_eq, List, [], ◌∷◌, length, map, option_map, Option, None, Some, Vec, Global, refl, sym, ap, ◌∙◌, rules, tests}
-use Rattle.inf_text.specs.declared.span.Span.{Span}
-use Rattle.limbo_tree.specs.declared.stmt.Stmt as code_stmt
+-- Blocks that are handled are in no part; lists of one.
+use Rattle.std.proofs.Common.{◌≡◌, ℕ, Bool, false, nat_eq, List, [], ◌∷◌, length, map, Option, None, Some, refl, sym, ap, ◌∙◌, rules, tests}
 use Rattle.limbo_tree.specs.declared.stmt.Block as code_block
-use Rattle.limbo_tree.specs.declared.stmt.Block.{fold-roll-Block, out-Block, roll-Block, roll-out-Block}
+use Rattle.limbo_tree.specs.declared.stmt.Block.{out-Block}
 use Rattle.limbo_tree.specs.declared.stmt.Handler as code_handler
-use Rattle.limbo_tree.specs.declared.stmt.Handler.{fold-Handler}
 use Rattle.limbo_tree.specs.Stmts as stmts
-use Rattle.limbo_tree.specs.View.{Arm, Handler, stmts_of, exprs_of, view_expr, view_stmt, view_block, view_case_arm, view_alt_arm, view_pick_arm, view_handler_arm, block_of, stmt_step, alt_arm_step, block_step, case_arm_step, handler_step, handler_arm_step, pick_arm_step}
+use Rattle.limbo_tree.specs.View.{exprs_of, view_expr, view_block, view_stmt, stmts_of}
+use Rattle.limbo_tree.proofs.Stmts.{view_handler, block_handled}
 use Rattle.limbo_tree.specs.declared.expr.Expr as code_expr
 use Rattle.limbo_names.specs.Part.{is_single, is_one, is_block, block_prints, block_loads, is_definition}
 use Rattle.limbo_tree.specs.Decls.{FnType}
-
-pub view_handler : code_handler.Handler → Handler
-view_handler = fold-Handler stmts.Stmt Arm stmts.Block Arm Handler Arm Arm stmt_step alt_arm_step block_step case_arm_step handler_step handler_arm_step pick_arm_step
-
-block_parts : (b : code_block.Block) → view_block b ≡ block_of (stmts_of (map view_stmt (out-Block b).statements.items)) (option_map view_handler (out-Block b).handler)
-unfolding view_block view_stmt view_handler
-block_parts b = go (out-Block b).statements (out-Block b).handler (out-Block b).span (sym (roll-out-Block b))
-  where
-    go : (ss : Vec code_stmt.Stmt Global) (h : Option code_handler.Handler) (s : Span) → b ≡ roll-Block (record { statements = ss; handler = h; span = s }) → view_block b ≡ block_of (stmts_of (map view_stmt ss.items)) (option_map view_handler h)
-    go ss None s at = ap view_block at ∙ fold-roll-Block _ _ _ _ _ _ _ stmt_step alt_arm_step block_step case_arm_step handler_step handler_arm_step pick_arm_step (record { statements = ss; handler = None; span = s })
-    go ss (Some h) s at = ap view_block at ∙ fold-roll-Block _ _ _ _ _ _ _ stmt_step alt_arm_step block_step case_arm_step handler_step handler_arm_step pick_arm_step (record { statements = ss; handler = Some h; span = s })
-
-pub block_plain : (b : code_block.Block) → (out-Block b).handler ≡ None → view_block b ≡ stmts.Plain (stmts_of (map view_stmt (out-Block b).statements.items))
-block_plain b h = block_parts b ∙ ap (λ o. block_of (stmts_of (map view_stmt (out-Block b).statements.items)) (option_map view_handler o)) h
-
-pub block_handled : (b : code_block.Block) (h : code_handler.Handler) → (out-Block b).handler ≡ Some h → view_block b ≡ stmts.Handled (stmts_of (map view_stmt (out-Block b).statements.items)) (view_handler h).name (view_handler h).arms
-block_handled b h e = block_parts b ∙ ap (λ o. block_of (stmts_of (map view_stmt (out-Block b).statements.items)) (option_map view_handler o)) e
-
-pub ruleset the_blocks = (block_plain, block_handled)
 
 pub single_length : {A B : Type 0} (f : A → B) (xs : List A) → nat_eq (length xs) 1 ≡ is_single (map f xs)
 single_length f [] = refl

@@ -5,8 +5,8 @@ use Rattle.limbo_types.specs.Types.{FnTy}
 use Rattle.limbo_tree.specs.Types.{Ty, Qual, Byte, Int, Big, String, ArrayOf, ListOf, ChanOf, RefTo, Named, Tuple}
 use Rattle.limbo_tree.specs.Decls.{Param, FnType, Member, Members, NoMembers, MoreMembers, VarMember, FnMember, ConMember, TypeMember, AdtMember, Decl, Con, TypeName, Var, Define, Import, Exception, Module, Adt}
 use Rattle.limbo_tree.specs.Sources.{Source, Top, Include, Declared, Defined}
-use Rattle.limbo_names.specs.declared.fault.Cause.{Cause}
-use Rattle.limbo_names.specs.declared.fault.Cause.TheVariants.{Twice, Unknown}
+use Rattle.limbo_names.specs.declared.fault.Unmet.{Unmet}
+use Rattle.limbo_names.specs.declared.fault.Unmet.TheVariants.{Twice, Unknown}
 use Rattle.limbo_names.specs.Names.{◌>>=◌, choose, need, same_text, has_name, are_distinct, all_in}
 use Rattle.limbo_names.specs.Scopes.{Signature, Scope, context}
 use Rattle.limbo_names.specs.Part.{is_sys, is_int, is_words, is_context}
@@ -103,14 +103,14 @@ includes path (t ∷ tops) = is_include path t || includes path tops
 -- ---- types of functions
 
 -- int, string in a list, and `ref Draw->Context` where draw.m is included. Nothing else names a type so far.
-abbrev pub ty_of : Bool → Ty → Result ty.Ty Cause
+abbrev pub ty_of : Bool → Ty → Result ty.Ty Unmet
 ty_of draw t =
     if is_int t then Ok ty.Int
     else if is_words t then Ok (ty.ListOf ty.Chars)
     else if draw && is_context t then Ok context
     else Err Unknown
 
-abbrev pub answer_of : Bool → Option Ty → Result ty.Ty Cause
+abbrev pub answer_of : Bool → Option Ty → Result ty.Ty Unmet
 answer_of draw None = Ok ty.Nothing
 answer_of draw (Some t) = ty_of draw t
 
@@ -119,7 +119,7 @@ copies t [] = []
 copies t (n ∷ ns) = t ∷ copies t ns
 
 -- the types of the parameters, behind those so far: each list's type once for each of its names
-abbrev pub args_of : Bool → List ty.Ty → List Param → Result (List ty.Ty) Cause
+abbrev pub args_of : Bool → List ty.Ty → List Param → Result (List ty.Ty) Unmet
 args_of draw ts [] = Ok ts
 args_of draw ts (p ∷ ps) = do
   t ← ty_of draw p.of
@@ -136,7 +136,7 @@ param_names [] = []
 param_names (p ∷ ps) = present p.names ++ param_names ps
 
 -- The type of a function. No two parameters have one name.
-abbrev pub fn_of : Bool → FnType → Result FnTy Cause
+abbrev pub fn_of : Bool → FnType → Result FnTy Unmet
 fn_of draw f = do
   distinct ← need (are_distinct (param_names f.params)) Twice
   args ← args_of draw [] f.params
@@ -146,41 +146,41 @@ fn_of draw f = do
 abbrev pub signed : FnTy → List (List ℕ) → List Signature
 signed of ns = map (λ n. record { name = n; of = of }) ns
 
-abbrev pub member_of : Bool → Member → Result (List Signature) Cause
+abbrev pub member_of : Bool → Member → Result (List Signature) Unmet
 member_of draw (FnMember ns f) = do
   of ← fn_of draw f
   Ok (signed of ns)
 member_of draw _ = Ok []
 
-abbrev pub members_of : Bool → List Signature → Members → Result (List Signature) Cause
+abbrev pub members_of : Bool → List Signature → Members → Result (List Signature) Unmet
 members_of draw fs NoMembers = Ok fs
 members_of draw fs (MoreMembers m ms) = do
   more ← member_of draw m
   members_of draw (fs ++ more) ms
 
-abbrev pub decl_signatures : Bool → Decl → Result (List Signature) Cause
+abbrev pub decl_signatures : Bool → Decl → Result (List Signature) Unmet
 decl_signatures draw (Module n ms) = members_of draw [] ms
 decl_signatures draw _ = Ok []
 
-abbrev pub declared_by : Bool → Top → Result (List Signature) Cause
+abbrev pub declared_by : Bool → Top → Result (List Signature) Unmet
 declared_by draw (Declared d) = decl_signatures draw d
 declared_by draw _ = Ok []
 
 -- the functions that modules declare, behind those so far
-abbrev pub declared_of : Bool → List Signature → List Top → Result (List Signature) Cause
+abbrev pub declared_of : Bool → List Signature → List Top → Result (List Signature) Unmet
 declared_of draw fs [] = Ok fs
 declared_of draw fs (t ∷ tops) = do
   more ← declared_by draw t
   declared_of draw (fs ++ more) tops
 
-abbrev pub signature_by : Bool → Top → Result (List Signature) Cause
+abbrev pub signature_by : Bool → Top → Result (List Signature) Unmet
 signature_by draw (Defined n part f b) = do
   of ← fn_of draw f
   Ok (record { name = n; of = of } ∷ [])
 signature_by draw _ = Ok []
 
 -- the functions that are defined, behind those so far
-abbrev pub defined_of : Bool → List Signature → List Top → Result (List Signature) Cause
+abbrev pub defined_of : Bool → List Signature → List Top → Result (List Signature) Unmet
 defined_of draw fs [] = Ok fs
 defined_of draw fs (t ∷ tops) = do
   more ← signature_by draw t
@@ -199,20 +199,20 @@ abbrev pub are_sys : Bool → List Top → Bool
 are_sys sys [] = true
 are_sys sys (t ∷ tops) = is_sys_top sys t && are_sys sys tops
 
-abbrev pub owner_of : Option (List ℕ) → List Top → Result (List ℕ) Cause
+abbrev pub owner_of : Option (List ℕ) → List Top → Result (List ℕ) Unmet
 owner_of None tops = Err Unknown
 owner_of (Some n) tops = need (has_module n tops) Unknown >>= λ ok. Ok n
 
 -- No name is declared twice, nor is a function defined twice.
-abbrev pub names_once : List Top → Result (Unit {0}) Cause
+abbrev pub names_once : List Top → Result (Unit {0}) Unmet
 names_once tops = need (are_distinct (top_names (declared_names tops) tops)) Twice >>= λ ok. need (are_distinct (defined_names tops)) Twice
 
-abbrev pub all_defined : List Top → Result (Unit {0}) Cause
+abbrev pub all_defined : List Top → Result (Unit {0}) Unmet
 all_defined tops = need (all_in (defined_names tops) (declared_names tops)) Unknown
 
 -- The top level of a source. The implemented module is declared; no name is declared twice, nor is a function defined twice; types have
 -- names that are declared; and each declared function is defined.
-unfoldable pub declare : Source → Result Scope Cause
+unfoldable pub declare : Source → Result Scope Unmet
 declare s = do
   owner ← owner_of s.implements s.tops
   once ← names_once s.tops

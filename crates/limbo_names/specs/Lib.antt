@@ -1,4 +1,6 @@
 pub mod Names
+pub mod Numbers
+pub mod Sets
 pub mod Scopes
 pub mod Part
 pub mod Declaring

@@ -1,20 +1,11 @@
 -- Names, and what is answered where a condition on them fails.
 use Rattle.std.specs.Prelude.{ℕ, List, [], ◌∷◌, Bool, true, false, not, ◌&&◌, ◌||◌, Option, None, Some, Result, Ok, Err, nat_eq, if◌then◌else◌}
-use Rattle.limbo_names.specs.declared.fault.Cause.{Cause}
-use Rattle.limbo_names.specs.declared.fault.Cause.TheVariants.{Twice}
-
-infixl 10 ◌>>=◌
-abbrev pub ◌>>=◌ : {A B : Type 0} → Result A Cause → (A → Result B Cause) → Result B Cause
-(Ok x) >>= f = f x
-(Err e) >>= f = Err e
-
--- one of two, by whether there is a value
-abbrev pub choose : {A B : Type 0} → Option A → B → (A → B) → B
-choose None x f = x
-choose (Some a) x f = f a
+pub use Rattle.inf_text.specs.Steps.{◌>>=◌, choose}
+use Rattle.limbo_names.specs.declared.fault.Unmet.{Unmet}
+use Rattle.limbo_names.specs.declared.fault.Unmet.TheVariants.{Twice}
 
 -- Where a condition holds there is nothing to say, else this refusal.
-abbrev pub need : Bool → Cause → Result (Unit {0}) Cause
+abbrev pub need : Bool → Unmet → Result (Unit {0}) Unmet
 need true cause = Ok tt
 need false cause = Err cause
 

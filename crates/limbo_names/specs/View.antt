@@ -1,7 +1,8 @@
 -- What the code's scopes stand for, and what a function of the code gives.
-use Rattle.std.specs.Prelude.{◌≡◌, List, map, Result, Ok, Err}
+use Rattle.std.specs.Prelude.{map, Option, None, Some, Result}
+use Rattle.inf_text.specs.Steps as steps
 use Rattle.limbo_types.specs.View.{view_fn}
-use Rattle.limbo_names.specs.declared.fault.Cause.{Cause}
+use Rattle.limbo_names.specs.declared.fault.Unmet.{Unmet}
 use Rattle.limbo_names.specs.declared.fault.CheckFault.{CheckFault}
 use Rattle.limbo_names.specs.declared.fault.CheckFault.TheVariants as faults
 use Rattle.limbo_names.specs.declared.scope.Signature as code_signature
@@ -21,11 +22,14 @@ view_scope s = record {
   draw = s.draw;
 }
 
--- What a function returned, seen by view, is what the definition gives, unless memory ran out.
-abbrev pub Refuses : {Y : Type 0} → CheckFault → Result Y Cause → Type 0
-Refuses faults.NoMemory given = Unit {0}
-Refuses (faults.Refused cause at) given = given ≡ Err cause
+-- the condition that a fault of the code tells, if it isn't want of memory
+abbrev pub unmet_of : CheckFault → Option Unmet
+unmet_of faults.NoMemory = None
+unmet_of (faults.Refused unmet at) = Some unmet
 
-abbrev pub Gives : {X Y : Type 0} → (X → Y) → Result X CheckFault → Result Y Cause → Type 0
-Gives see (Ok x) given = given ≡ Ok (see x)
-Gives see (Err e) given = Refuses e given
+-- What a function returned, seen by view, is what the definition gives, unless memory ran out.
+abbrev pub Refuses : {Y : Type 0} → CheckFault → Result Y Unmet → Type 0
+Refuses fault given = steps.Refuses (unmet_of fault) given
+
+abbrev pub Gives : {X Y : Type 0} → (X → Y) → Result X CheckFault → Result Y Unmet → Type 0
+Gives see result given = steps.Gives unmet_of see result given

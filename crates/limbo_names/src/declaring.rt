@@ -8,7 +8,7 @@ ghost use Rattle.limbo_names.specs.Declaring as declaring;
 ghost use Rattle.limbo_names.specs.View.{Gives, view_signature, view_scope};
 
 use crate::copies::copy_ty;
-use crate::fault::{Cause, CheckFault};
+use crate::fault::{CheckFault, Unmet};
 use crate::names::{absent, is_among, is_spelled, repeated, same_text};
 use crate::part_expr::{is_context, is_int, is_sys, is_words};
 use crate::scope::{Scope, Signature, copy_fn};
@@ -18,7 +18,7 @@ use limbo_types::{FnTy, Ty};
 use std::alloc::{AllocError, Global};
 
 /// A refusal at a place.
-fn refused(cause: Cause, at: Span) -> CheckFault
+fn refused(cause: Unmet, at: Span) -> CheckFault
     ensures { result ≡ CheckFault.Refused cause at }
 {
     CheckFault::Refused { cause, at }
@@ -48,7 +48,7 @@ fn push_names(all: &mut Vec<Name>, more: &[Name]) -> Result<(), AllocError>
 }
 
 // Adds the functions that a member declares.
-#[tactic(auto, using(crate::proofs::Texts::append_none, limbo_decl_parser::proofs::View::the_members))]
+#[tactic(auto, using(crate::proofs::Texts::append_none, limbo_tree::proofs::Members::the_members))]
 fn push_member(all: &mut Vec<Name>, m: &Member) -> Result<(), AllocError>
     ensures { IfOk result (λ _. names_of all.new.items ≡ names_of all.old.items ++ declaring.names_of_member (trees.view_member m.now)) }
 {
@@ -79,7 +79,7 @@ fn push_functions(all: &mut Vec<Name>, top: &Top) -> Result<(), AllocError>
     match top {
         Top::Include { .. } => Ok(()),
         Top::Define { .. } => Ok(()),
-        Top::Declare { decl } => match decl {
+        Top::Declare { decl } => match &**decl {
             Decl::Module { members, .. } => push_members(all, members),
             Decl::Con { .. } => Ok(()),
             Decl::Type { .. } => Ok(()),
@@ -229,7 +229,7 @@ fn push_variables(all: &mut Vec<Text>, top: &Top) -> Result<(), AllocError>
     match top {
         Top::Include { .. } => Ok(()),
         Top::Define { .. } => Ok(()),
-        Top::Declare { decl } => match decl {
+        Top::Declare { decl } => match &**decl {
             Decl::Var { names, .. } => push_texts(all, names),
             Decl::Con { .. } => Ok(()),
             Decl::Type { .. } => Ok(()),
@@ -260,7 +260,7 @@ fn is_module_top(owner: &Text, top: &Top) -> bool
     match top {
         Top::Include { .. } => false,
         Top::Define { .. } => false,
-        Top::Declare { decl } => match decl {
+        Top::Declare { decl } => match &**decl {
             Decl::Module { name, .. } => same_text(&name.text, owner),
             Decl::Con { .. } => false,
             Decl::Type { .. } => false,
@@ -315,7 +315,7 @@ fn is_sys_top(sys: bool, top: &Top) -> bool
     match top {
         Top::Include { .. } => true,
         Top::Define { .. } => true,
-        Top::Declare { decl } => match decl {
+        Top::Declare { decl } => match &**decl {
             Decl::Var { of, .. } => sys && is_sys(of),
             Decl::Con { .. } => true,
             Decl::Type { .. } => true,
@@ -359,13 +359,18 @@ pub fn ty_of(alloc: Global, draw: bool, of: &TypeTree, at: Span) -> Result<Ty, C
     if draw && is_context(of) {
         return Ok(Ty::RefAdt(0));
     }
-    Err(refused(Cause::Unknown, at))
+    Err(refused(Unmet::Unknown, at))
 }
 
 // The type of an answer.
 #[tactic(auto, using(limbo_types::proofs::View::the_types))]
-fn answer_of(alloc: Global, draw: bool, of: &Option<TypeTree>, at: Span) -> Result<Ty, CheckFault>
-    ensures { Gives view_ty result (declaring.answer_of draw (option_map view_type of.now)) }
+fn answer_of(
+    alloc: Global,
+    draw: bool,
+    of: &Option<Box<TypeTree>>,
+    at: Span,
+) -> Result<Ty, CheckFault>
+    ensures { Gives view_ty result (declaring.answer_of draw (trees.view_boxed_type of.now)) }
 {
     match of {
         None => Ok(Ty::Nothing),
@@ -434,8 +439,8 @@ pub fn fn_of(alloc: Global, draw: bool, of: &FnType) -> Result<FnTy, CheckFault>
     ensures { Gives view_fn result (declaring.fn_of draw (trees.view_fn of.now)) }
 {
     let names = param_names(alloc, &of.params)?;
-    if let Some(at) = repeated(&names) {
-        return Err(refused(Cause::Twice, at));
+    if let Some(at) = repeated(alloc, &names)? {
+        return Err(refused(Unmet::Twice, at));
     }
     let args = args_of(alloc, draw, &of.params)?;
     let answer = answer_of(alloc, draw, &of.answer, of.span)?;
@@ -461,7 +466,7 @@ fn push_signatures(
 }
 
 // The functions that a member declares.
-#[tactic(auto, using(limbo_decl_parser::proofs::View::the_members, crate::proofs::Steps::fails_bind))]
+#[tactic(auto, using(limbo_tree::proofs::Members::the_members, crate::proofs::Steps::fails_bind))]
 fn member_of(alloc: Global, draw: bool, m: &Member) -> Result<Vec<Signature>, CheckFault>
     ensures { Gives (λ fs. map view_signature fs.items) result (declaring.member_of draw (trees.view_member m.now)) }
 {
@@ -500,7 +505,7 @@ fn declared_by(alloc: Global, draw: bool, top: &Top) -> Result<Vec<Signature>, C
     match top {
         Top::Include { .. } => Ok(Vec::new(alloc)),
         Top::Define { .. } => Ok(Vec::new(alloc)),
-        Top::Declare { decl } => match decl {
+        Top::Declare { decl } => match &**decl {
             Decl::Module { members, .. } => members_of(alloc, draw, members),
             Decl::Con { .. } => Ok(Vec::new(alloc)),
             Decl::Type { .. } => Ok(Vec::new(alloc)),
@@ -569,10 +574,10 @@ fn owner_of(source: &Source) -> Result<Text, CheckFault>
         len: 0,
     };
     match &source.implements {
-        None => Err(refused(Cause::Unknown, start)),
+        None => Err(refused(Unmet::Unknown, start)),
         Some(name) => {
             if !has_module(&name.text, &source.tops) {
-                return Err(refused(Cause::Unknown, name.span));
+                return Err(refused(Unmet::Unknown, name.span));
             }
             Ok(name.text.clone()?)
         }
@@ -585,12 +590,12 @@ fn names_once(alloc: Global, tops: &[Top]) -> Result<(), CheckFault>
 {
     let declared = declared_names(alloc, tops)?;
     let all = top_names(alloc, &declared, tops)?;
-    if let Some(at) = repeated(&all) {
-        return Err(refused(Cause::Twice, at));
+    if let Some(at) = repeated(alloc, &all)? {
+        return Err(refused(Unmet::Twice, at));
     }
     let defined = defined_names(alloc, tops)?;
-    if let Some(at) = repeated(&defined) {
-        return Err(refused(Cause::Twice, at));
+    if let Some(at) = repeated(alloc, &defined)? {
+        return Err(refused(Unmet::Twice, at));
     }
     Ok(())
 }
@@ -601,8 +606,8 @@ fn all_defined(alloc: Global, tops: &[Top]) -> Result<(), CheckFault>
 {
     let declared = declared_names(alloc, tops)?;
     let defined = defined_names(alloc, tops)?;
-    if let Some(at) = absent(&declared, &defined) {
-        return Err(refused(Cause::Unknown, at));
+    if let Some(at) = absent(alloc, &declared, &defined)? {
+        return Err(refused(Unmet::Unknown, at));
     }
     Ok(())
 }
@@ -623,7 +628,7 @@ pub fn declare(alloc: Global, source: &Source) -> Result<Scope, CheckFault>
     names_once(alloc, tops)?;
     if !are_sys(sys, tops) {
         return Err(refused(
-            Cause::Unknown,
+            Unmet::Unknown,
             Span {
                 line: 1,
                 col: 1,

@@ -1,9 +1,12 @@
+ghost use Rattle.std.specs.Prelude.{◌≡◌};
+ghost use Rattle.limbo_names.specs.Numbers.{number_of};
+
 use inf_text::Span;
 use std::alloc::{AllocError, AllocFailed};
 
-/// Which condition a source doesn't meet.
+/// A condition that a source doesn't meet.
 #[derive(Clone, Copy, PartialEq, Eq, Debug)]
-pub enum Cause {
+pub enum Unmet {
     /// Refusal 41: two declarations of one name in one scope.
     Twice,
     /// Refusal 42: a name that nothing declares.
@@ -14,20 +17,22 @@ pub enum Cause {
     NotPlace,
     /// Refusal 54: the arguments of a print don't fit its format, or the format isn't a literal.
     BadFormat,
-    /// Refusal 63: a function with an answer has a path without `return`.
+    /// Refusal 63: a function with an answer has a path without `return`, or a `return` without a value.
     NoReturn,
 }
 
-impl Cause {
+impl Unmet {
     /// The number under which it is told.
-    pub fn number(self) -> u32 {
+    pub fn number(self) -> u32
+        ensures { result ≡ number_of self }
+    {
         match self {
-            Cause::Twice => 41,
-            Cause::Unknown => 42,
-            Cause::TypeClash => 50,
-            Cause::NotPlace => 51,
-            Cause::BadFormat => 54,
-            Cause::NoReturn => 63,
+            Unmet::Twice => 41,
+            Unmet::Unknown => 42,
+            Unmet::TypeClash => 50,
+            Unmet::NotPlace => 51,
+            Unmet::BadFormat => 54,
+            Unmet::NoReturn => 63,
         }
     }
 }
@@ -38,7 +43,7 @@ pub enum CheckFault {
     /// Want of memory.
     NoMemory,
     /// The source is refused, for what stands there.
-    Refused { cause: Cause, at: Span },
+    Refused { cause: Unmet, at: Span },
 }
 
 impl From<AllocError> for CheckFault {

@@ -20,7 +20,7 @@ fn is_this(spelling: &str, name: &Option<Name>) -> bool
 }
 
 /// Whether a type is `Sys`.
-#[tactic(auto, using(limbo_expr_parser::proofs::View::the_type_views))]
+#[tactic(auto, using(limbo_tree::proofs::Exprs::the_type_views))]
 pub fn is_sys(of: &TypeTree) -> bool
     ensures { result ≡ part.is_sys (view_type of.now) }
 {
@@ -28,20 +28,12 @@ pub fn is_sys(of: &TypeTree) -> bool
         TypeTree::Named { name, .. } => {
             is_spelled(&name.first.text, "Sys") && name.member.is_none() && name.part.is_none()
         }
-        TypeTree::Byte { .. }
-        | TypeTree::Int { .. }
-        | TypeTree::Big { .. }
-        | TypeTree::String { .. }
-        | TypeTree::Array { .. }
-        | TypeTree::List { .. }
-        | TypeTree::Chan { .. }
-        | TypeTree::Ref { .. }
-        | TypeTree::Tuple { .. } => false,
+        _ => false,
     }
 }
 
 /// Whether a type is `ref Draw->Context`.
-#[tactic(auto, using(limbo_expr_parser::proofs::View::the_type_views))]
+#[tactic(auto, using(limbo_tree::proofs::Exprs::the_type_views, crate::proofs::Others::no_context))]
 pub fn is_context(of: &TypeTree) -> bool
     ensures { result ≡ part.is_context (view_type of.now) }
 {
@@ -51,101 +43,51 @@ pub fn is_context(of: &TypeTree) -> bool
                 && is_this("Context", &of.member)
                 && of.part.is_none()
         }
-        TypeTree::Byte { .. }
-        | TypeTree::Int { .. }
-        | TypeTree::Big { .. }
-        | TypeTree::String { .. }
-        | TypeTree::Array { .. }
-        | TypeTree::List { .. }
-        | TypeTree::Chan { .. }
-        | TypeTree::Named { .. }
-        | TypeTree::Tuple { .. } => false,
+        _ => false,
     }
 }
 
 /// Whether a type is `string`.
-#[tactic(auto, using(limbo_expr_parser::proofs::View::the_type_views))]
+#[tactic(auto, using(limbo_tree::proofs::Exprs::the_type_views, crate::proofs::Others::no_string))]
 pub fn is_string(of: &TypeTree) -> bool
     ensures { result ≡ part.is_string (view_type of.now) }
 {
     match of {
         TypeTree::String { .. } => true,
-        TypeTree::Byte { .. }
-        | TypeTree::Int { .. }
-        | TypeTree::Big { .. }
-        | TypeTree::Ref { .. }
-        | TypeTree::Array { .. }
-        | TypeTree::List { .. }
-        | TypeTree::Chan { .. }
-        | TypeTree::Named { .. }
-        | TypeTree::Tuple { .. } => false,
+        _ => false,
     }
 }
 
 /// Whether a type is `list of string`.
-#[tactic(auto, using(limbo_expr_parser::proofs::View::the_type_views))]
+#[tactic(auto, using(limbo_tree::proofs::Exprs::the_type_views, crate::proofs::Others::no_words))]
 pub fn is_words(of: &TypeTree) -> bool
     ensures { result ≡ part.is_words (view_type of.now) }
 {
     match of {
         TypeTree::List { element, .. } => is_string(element),
-        TypeTree::Byte { .. }
-        | TypeTree::Int { .. }
-        | TypeTree::Big { .. }
-        | TypeTree::String { .. }
-        | TypeTree::Array { .. }
-        | TypeTree::Ref { .. }
-        | TypeTree::Chan { .. }
-        | TypeTree::Named { .. }
-        | TypeTree::Tuple { .. } => false,
+        _ => false,
     }
 }
 
 /// Whether a type is `int`.
-#[tactic(auto, using(limbo_expr_parser::proofs::View::the_type_views))]
+#[tactic(auto, using(limbo_tree::proofs::Exprs::the_type_views, crate::proofs::Others::no_int))]
 pub fn is_int(of: &TypeTree) -> bool
     ensures { result ≡ part.is_int (view_type of.now) }
 {
     match of {
         TypeTree::Int { .. } => true,
-        TypeTree::Byte { .. }
-        | TypeTree::Big { .. }
-        | TypeTree::String { .. }
-        | TypeTree::Array { .. }
-        | TypeTree::List { .. }
-        | TypeTree::Chan { .. }
-        | TypeTree::Ref { .. }
-        | TypeTree::Named { .. }
-        | TypeTree::Tuple { .. } => false,
+        _ => false,
     }
 }
 
 /// The name that an expression is.
-#[tactic(auto, using(limbo_expr_parser::proofs::View::the_views))]
+#[tactic(auto, using(limbo_tree::proofs::Exprs::the_views, crate::proofs::Others::is_unnamed, crate::proofs::Others::is_nothing_loaded))]
 pub fn name_in(e: &Expr) -> Option<&Text>
     ensures { MatchOption result ((part.is_named (view_expr e.now) ≡ false) × (part.loaded_name (view_expr e.now) ≡ None)) (λ n. view_expr e.now ≡ tree.Name n.now) }
 {
     match e {
         Expr::Name { name, .. } => Some(name),
-        Expr::Assign { .. }
-        | Expr::Load { .. }
-        | Expr::Binary { .. }
-        | Expr::Unary { .. }
-        | Expr::Bytes { .. }
-        | Expr::Filled { .. }
-        | Expr::Sized { .. }
-        | Expr::Channel { .. }
-        | Expr::Listed { .. }
-        | Expr::Call { .. }
-        | Expr::Index { .. }
-        | Expr::Slice { .. }
-        | Expr::Dot { .. }
-        | Expr::Arrow { .. }
-        | Expr::Postfix { .. }
-        | Expr::Number { .. }
-        | Expr::Chars { .. }
-        | Expr::Nil { .. }
-        | Expr::Group { .. } => None,
+        _ => None,
     }
 }
 
@@ -162,20 +104,7 @@ pub fn is_operator(op: BinaryOp) -> bool
 {
     match op {
         BinaryOp::Add | BinaryOp::Sub | BinaryOp::Mul | BinaryOp::Less | BinaryOp::Equal => true,
-        BinaryOp::OrOr
-        | BinaryOp::AndAnd
-        | BinaryOp::Cons
-        | BinaryOp::Or
-        | BinaryOp::Xor
-        | BinaryOp::And
-        | BinaryOp::NotEqual
-        | BinaryOp::LessEqual
-        | BinaryOp::Greater
-        | BinaryOp::GreaterEqual
-        | BinaryOp::Shl
-        | BinaryOp::Shr
-        | BinaryOp::Div
-        | BinaryOp::Rem => false,
+        _ => false,
     }
 }
 
@@ -187,7 +116,7 @@ pub fn is_small(value: i64, wide: bool) -> bool
 }
 
 /// Whether an expression is in the part.
-#[tactic(auto, using(limbo_expr_parser::proofs::View::the_views))]
+#[tactic(auto, using(limbo_tree::proofs::Exprs::the_views))]
 #[cycle(exprs)]
 pub fn is_expr(e: &Expr) -> bool
     ensures { result ≡ part.is_expr (view_expr e.now) }
@@ -203,21 +132,7 @@ pub fn is_expr(e: &Expr) -> bool
             ..
         } => is_operator(*op) && is_expr(left) && is_expr(right),
         Expr::Call { function, args, .. } => is_named(function) && are_exprs(args),
-        Expr::Assign { .. }
-        | Expr::Load { .. }
-        | Expr::Unary { .. }
-        | Expr::Bytes { .. }
-        | Expr::Filled { .. }
-        | Expr::Sized { .. }
-        | Expr::Channel { .. }
-        | Expr::Listed { .. }
-        | Expr::Index { .. }
-        | Expr::Slice { .. }
-        | Expr::Dot { .. }
-        | Expr::Arrow { .. }
-        | Expr::Postfix { .. }
-        | Expr::Chars { .. }
-        | Expr::Nil { .. } => false,
+        _ => false,
     }
 }
 

@@ -1,7 +1,7 @@
 //! Which statements are in the part that is built.
 
 ghost use Rattle.std.specs.Prelude.{◌≡◌, MatchOption, None, Some, map, option_map};
-ghost use Rattle.limbo_tree.specs.View.{view_expr, view_decl, view_stmt, view_block, stmts_of, exprs_of, name_of, names_of};
+ghost use Rattle.limbo_tree.specs.View.{view_expr, view_boxed, view_decl, view_stmt, view_block, stmts_of, exprs_of, name_of, names_of};
 ghost use Rattle.limbo_names.specs.Part as part;
 
 use crate::names::is_spelled;
@@ -10,60 +10,24 @@ use inf_text::Text;
 use limbo_tree::{AssignOp, Block, Decl, Expr, Name, Stmt};
 
 /// Whether a function's name is `NAME->print`.
-#[tactic(auto, using(limbo_expr_parser::proofs::View::the_views))]
+#[tactic(auto, using(limbo_tree::proofs::Exprs::the_views, crate::proofs::Others::no_print))]
 pub fn is_print(e: &Expr) -> bool
     ensures { result ≡ part.is_print (view_expr e.now) }
 {
     match e {
         Expr::Arrow { base, name, .. } => is_named(base) && is_spelled(&name.text, "print"),
-        Expr::Assign { .. }
-        | Expr::Load { .. }
-        | Expr::Binary { .. }
-        | Expr::Unary { .. }
-        | Expr::Bytes { .. }
-        | Expr::Filled { .. }
-        | Expr::Sized { .. }
-        | Expr::Channel { .. }
-        | Expr::Listed { .. }
-        | Expr::Call { .. }
-        | Expr::Index { .. }
-        | Expr::Slice { .. }
-        | Expr::Dot { .. }
-        | Expr::Postfix { .. }
-        | Expr::Number { .. }
-        | Expr::Chars { .. }
-        | Expr::Name { .. }
-        | Expr::Nil { .. }
-        | Expr::Group { .. } => false,
+        _ => false,
     }
 }
 
 // Whether an expression may stand as a format.
-#[tactic(auto, using(limbo_expr_parser::proofs::View::the_views))]
+#[tactic(auto, using(limbo_tree::proofs::Exprs::the_views, crate::proofs::Others::no_literal))]
 fn is_format(e: &Expr) -> bool
     ensures { result ≡ part.is_format (view_expr e.now) }
 {
     match e {
         Expr::Chars { .. } => true,
-        Expr::Assign { .. }
-        | Expr::Load { .. }
-        | Expr::Binary { .. }
-        | Expr::Unary { .. }
-        | Expr::Bytes { .. }
-        | Expr::Filled { .. }
-        | Expr::Sized { .. }
-        | Expr::Channel { .. }
-        | Expr::Listed { .. }
-        | Expr::Call { .. }
-        | Expr::Index { .. }
-        | Expr::Slice { .. }
-        | Expr::Dot { .. }
-        | Expr::Arrow { .. }
-        | Expr::Postfix { .. }
-        | Expr::Number { .. }
-        | Expr::Name { .. }
-        | Expr::Nil { .. }
-        | Expr::Group { .. } => is_expr(e),
+        _ => is_expr(e),
     }
 }
 
@@ -80,18 +44,7 @@ pub fn is_plain(op: AssignOp) -> bool
 {
     match op {
         AssignOp::Assign => true,
-        AssignOp::Define
-        | AssignOp::Send
-        | AssignOp::Add
-        | AssignOp::Sub
-        | AssignOp::Mul
-        | AssignOp::Div
-        | AssignOp::Rem
-        | AssignOp::And
-        | AssignOp::Or
-        | AssignOp::Xor
-        | AssignOp::Shl
-        | AssignOp::Shr => false,
+        _ => false,
     }
 }
 
@@ -107,7 +60,7 @@ fn is_call(function: &Expr, args: &[Expr]) -> bool
 }
 
 // Whether an expression may stand as a statement.
-#[tactic(auto, using(limbo_expr_parser::proofs::View::the_views))]
+#[tactic(auto, using(limbo_tree::proofs::Exprs::the_views, crate::proofs::Others::no_action))]
 fn is_action(e: &Expr) -> bool
     ensures { result ≡ part.is_action (view_expr e.now) }
 {
@@ -119,24 +72,7 @@ fn is_action(e: &Expr) -> bool
             ..
         } => is_plain(*op) && is_named(left) && is_expr(right),
         Expr::Call { function, args, .. } => is_call(function, args),
-        Expr::Load { .. }
-        | Expr::Binary { .. }
-        | Expr::Unary { .. }
-        | Expr::Bytes { .. }
-        | Expr::Filled { .. }
-        | Expr::Sized { .. }
-        | Expr::Channel { .. }
-        | Expr::Listed { .. }
-        | Expr::Index { .. }
-        | Expr::Slice { .. }
-        | Expr::Dot { .. }
-        | Expr::Arrow { .. }
-        | Expr::Postfix { .. }
-        | Expr::Number { .. }
-        | Expr::Chars { .. }
-        | Expr::Name { .. }
-        | Expr::Nil { .. }
-        | Expr::Group { .. } => false,
+        _ => false,
     }
 }
 
@@ -172,8 +108,8 @@ fn is_local(d: &Decl) -> bool
 }
 
 // Whether there is a condition, in the part.
-fn is_condition(e: &Option<Expr>) -> bool
-    ensures { result ≡ part.is_condition (option_map view_expr e.now) }
+fn is_condition(e: &Option<Box<Expr>>) -> bool
+    ensures { result ≡ part.is_condition (view_boxed e.now) }
 {
     match e {
         Some(e) => is_expr(e),
@@ -182,8 +118,8 @@ fn is_condition(e: &Option<Expr>) -> bool
 }
 
 // Whether what is returned is in the part.
-fn is_returned(e: &Option<Expr>) -> bool
-    ensures { result ≡ part.is_returned (option_map view_expr e.now) }
+fn is_returned(e: &Option<Box<Expr>>) -> bool
+    ensures { result ≡ part.is_returned (view_boxed e.now) }
 {
     match e {
         Some(e) => is_expr(e),
@@ -192,7 +128,7 @@ fn is_returned(e: &Option<Expr>) -> bool
 }
 
 /// Whether a statement is in the part.
-#[tactic(auto, using(limbo_parser::proofs::View::the_stmt_views))]
+#[tactic(auto, using(limbo_tree::proofs::Stmts::the_stmt_views, crate::proofs::Others::no_stmt))]
 #[cycle(statements)]
 pub fn is_stmt(s: &Stmt) -> bool
     ensures { result ≡ part.is_stmt (view_stmt s.now) }
@@ -218,21 +154,12 @@ pub fn is_stmt(s: &Stmt) -> bool
             ..
         } => { label.is_none() && is_condition(condition) && is_stmt(body) }
         Stmt::Return { value, .. } => is_returned(value),
-        Stmt::Do { .. }
-        | Stmt::For { .. }
-        | Stmt::Case { .. }
-        | Stmt::Alt { .. }
-        | Stmt::Pick { .. }
-        | Stmt::Break { .. }
-        | Stmt::Continue { .. }
-        | Stmt::Exit { .. }
-        | Stmt::Spawn { .. }
-        | Stmt::Raise { .. } => false,
+        _ => false,
     }
 }
 
 /// Whether a block is in the part.
-#[tactic(auto, using(crate::proofs::Blocks::the_blocks))]
+#[tactic(auto, using(limbo_tree::proofs::Stmts::the_blocks))]
 #[cycle(statements)]
 pub fn is_block(b: &Block) -> bool
     ensures { result ≡ part.is_block (view_block b.now) }
@@ -257,36 +184,18 @@ pub fn are_stmts(ss: &[Stmt]) -> bool
 }
 
 // Whether an expression that is a statement prints.
-#[tactic(auto, using(limbo_expr_parser::proofs::View::the_views))]
+#[tactic(auto, using(limbo_tree::proofs::Exprs::the_views, crate::proofs::Others::no_print_in_action))]
 fn prints_in_action(e: &Expr) -> bool
     ensures { result ≡ part.prints_in_action (view_expr e.now) }
 {
     match e {
         Expr::Call { function, .. } => is_print(function),
-        Expr::Assign { .. }
-        | Expr::Load { .. }
-        | Expr::Binary { .. }
-        | Expr::Unary { .. }
-        | Expr::Bytes { .. }
-        | Expr::Filled { .. }
-        | Expr::Sized { .. }
-        | Expr::Channel { .. }
-        | Expr::Listed { .. }
-        | Expr::Index { .. }
-        | Expr::Slice { .. }
-        | Expr::Dot { .. }
-        | Expr::Arrow { .. }
-        | Expr::Postfix { .. }
-        | Expr::Number { .. }
-        | Expr::Chars { .. }
-        | Expr::Name { .. }
-        | Expr::Nil { .. }
-        | Expr::Group { .. } => false,
+        _ => false,
     }
 }
 
 /// Whether a statement has a print in it.
-#[tactic(auto, using(limbo_parser::proofs::View::the_stmt_views))]
+#[tactic(auto, using(limbo_tree::proofs::Stmts::the_stmt_views, crate::proofs::Others::no_print_in_stmt))]
 #[cycle(prints)]
 pub fn prints(s: &Stmt) -> bool
     ensures { result ≡ part.prints (view_stmt s.now) }
@@ -303,24 +212,12 @@ pub fn prints(s: &Stmt) -> bool
             Some(otherwise) => prints(then) || prints(otherwise),
         },
         Stmt::While { body, .. } => prints(body),
-        Stmt::Empty { .. }
-        | Stmt::Declare { .. }
-        | Stmt::Return { .. }
-        | Stmt::Do { .. }
-        | Stmt::For { .. }
-        | Stmt::Case { .. }
-        | Stmt::Alt { .. }
-        | Stmt::Pick { .. }
-        | Stmt::Break { .. }
-        | Stmt::Continue { .. }
-        | Stmt::Exit { .. }
-        | Stmt::Spawn { .. }
-        | Stmt::Raise { .. } => false,
+        _ => false,
     }
 }
 
 /// Whether a block has a print in it.
-#[tactic(auto, using(crate::proofs::Blocks::the_blocks))]
+#[tactic(auto, using(limbo_tree::proofs::Stmts::the_blocks))]
 #[cycle(prints)]
 pub fn block_prints(b: &Block) -> bool
     ensures { result ≡ part.block_prints (view_block b.now) }
@@ -345,7 +242,7 @@ fn any_prints(ss: &[Stmt]) -> bool
 }
 
 // Whether an expression is `Sys->PATH`.
-#[tactic(auto, using(limbo_expr_parser::proofs::View::the_views))]
+#[tactic(auto, using(limbo_tree::proofs::Exprs::the_views, crate::proofs::Others::no_path))]
 fn is_path(e: &Expr) -> bool
     ensures { result ≡ part.is_path (view_expr e.now) }
 {
@@ -354,59 +251,23 @@ fn is_path(e: &Expr) -> bool
             Some(first) => is_spelled(first, "Sys") && is_spelled(&name.text, "PATH"),
             None => false,
         },
-        Expr::Assign { .. }
-        | Expr::Load { .. }
-        | Expr::Binary { .. }
-        | Expr::Unary { .. }
-        | Expr::Bytes { .. }
-        | Expr::Filled { .. }
-        | Expr::Sized { .. }
-        | Expr::Channel { .. }
-        | Expr::Listed { .. }
-        | Expr::Call { .. }
-        | Expr::Index { .. }
-        | Expr::Slice { .. }
-        | Expr::Dot { .. }
-        | Expr::Postfix { .. }
-        | Expr::Number { .. }
-        | Expr::Chars { .. }
-        | Expr::Name { .. }
-        | Expr::Nil { .. }
-        | Expr::Group { .. } => false,
+        _ => false,
     }
 }
 
 // Whether an expression is `load Sys Sys->PATH`.
-#[tactic(auto, using(limbo_expr_parser::proofs::View::the_views))]
+#[tactic(auto, using(limbo_tree::proofs::Exprs::the_views, crate::proofs::Others::no_load))]
 fn is_load(e: &Expr) -> bool
     ensures { result ≡ part.is_load (view_expr e.now) }
 {
     match e {
         Expr::Load { module, path, .. } => is_spelled(&module.text, "Sys") && is_path(path),
-        Expr::Arrow { .. }
-        | Expr::Assign { .. }
-        | Expr::Binary { .. }
-        | Expr::Unary { .. }
-        | Expr::Bytes { .. }
-        | Expr::Filled { .. }
-        | Expr::Sized { .. }
-        | Expr::Channel { .. }
-        | Expr::Listed { .. }
-        | Expr::Call { .. }
-        | Expr::Index { .. }
-        | Expr::Slice { .. }
-        | Expr::Dot { .. }
-        | Expr::Postfix { .. }
-        | Expr::Number { .. }
-        | Expr::Chars { .. }
-        | Expr::Name { .. }
-        | Expr::Nil { .. }
-        | Expr::Group { .. } => false,
+        _ => false,
     }
 }
 
 // What a load is assigned to.
-#[tactic(auto, using(limbo_expr_parser::proofs::View::the_views))]
+#[tactic(auto, using(limbo_tree::proofs::Exprs::the_views, crate::proofs::Others::none_loaded))]
 fn loaded_in(e: &Expr) -> Option<&Text>
     ensures { MatchOption result (part.loaded_in (view_expr e.now) ≡ None) (λ n. part.loaded_in (view_expr e.now) ≡ Some n.now) }
 {
@@ -423,30 +284,12 @@ fn loaded_in(e: &Expr) -> Option<&Text>
                 None
             }
         }
-        Expr::Load { .. }
-        | Expr::Binary { .. }
-        | Expr::Unary { .. }
-        | Expr::Bytes { .. }
-        | Expr::Filled { .. }
-        | Expr::Sized { .. }
-        | Expr::Channel { .. }
-        | Expr::Listed { .. }
-        | Expr::Call { .. }
-        | Expr::Index { .. }
-        | Expr::Slice { .. }
-        | Expr::Dot { .. }
-        | Expr::Arrow { .. }
-        | Expr::Postfix { .. }
-        | Expr::Number { .. }
-        | Expr::Chars { .. }
-        | Expr::Name { .. }
-        | Expr::Nil { .. }
-        | Expr::Group { .. } => None,
+        _ => None,
     }
 }
 
 // What a statement loads Sys into.
-#[tactic(auto, using(limbo_parser::proofs::View::the_stmt_views))]
+#[tactic(auto, using(limbo_tree::proofs::Stmts::the_stmt_views, crate::proofs::Others::nothing_loaded))]
 fn loaded(s: &Stmt) -> Option<&Text>
     ensures { MatchOption result (part.loaded (view_stmt s.now) ≡ None) (λ n. part.loaded (view_stmt s.now) ≡ Some n.now) }
 {
@@ -456,21 +299,7 @@ fn loaded(s: &Stmt) -> Option<&Text>
             None => None,
             Some(_) => None,
         },
-        Stmt::Block { .. }
-        | Stmt::While { .. }
-        | Stmt::Empty { .. }
-        | Stmt::Declare { .. }
-        | Stmt::Return { .. }
-        | Stmt::Do { .. }
-        | Stmt::For { .. }
-        | Stmt::Case { .. }
-        | Stmt::Alt { .. }
-        | Stmt::Pick { .. }
-        | Stmt::Break { .. }
-        | Stmt::Continue { .. }
-        | Stmt::Exit { .. }
-        | Stmt::Spawn { .. }
-        | Stmt::Raise { .. } => None,
+        _ => None,
     }
 }
 

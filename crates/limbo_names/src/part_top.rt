@@ -1,7 +1,7 @@
 //! Which sources are in the part that is built.
 
-ghost use Rattle.std.specs.Prelude.{◌≡◌, None, Some, map, option_map};
-ghost use Rattle.limbo_tree.specs.View.{view_type, view_param, view_fn, view_member, members_of, view_decl, view_stmt, stmts_of, view_block, view_top, view_source, names_of, name_of};
+ghost use Rattle.std.specs.Prelude.{◌≡◌, None, Some, map};
+ghost use Rattle.limbo_tree.specs.View.{view_boxed_type, view_param, view_fn, view_member, members_of, view_decl, view_stmt, stmts_of, view_block, view_top, view_source, names_of, name_of};
 ghost use Rattle.limbo_names.specs.Part as part;
 
 use crate::names::{is_spelled, same_text};
@@ -23,8 +23,8 @@ fn are_ints(params: &[Param]) -> bool
 }
 
 // Whether an answer is an int, or there is none.
-fn is_answer(answer: &Option<TypeTree>) -> bool
-    ensures { result ≡ part.is_answer (option_map view_type answer.now) }
+fn is_answer(answer: &Option<Box<TypeTree>>) -> bool
+    ensures { result ≡ part.is_answer (view_boxed_type answer.now) }
 {
     match answer {
         None => true,
@@ -79,7 +79,7 @@ fn are_init(all: &[Name]) -> bool
 }
 
 // Whether a member is a function of the part.
-#[tactic(auto, using(limbo_decl_parser::proofs::View::the_members))]
+#[tactic(auto, using(limbo_tree::proofs::Members::the_members))]
 fn is_member(member: &Member) -> bool
     ensures { result ≡ part.is_member (view_member member.now) }
 {
@@ -124,7 +124,7 @@ fn is_top_decl(owner: &Text, d: &Decl) -> bool
 }
 
 // Whether the body of a definition is in the part, by the definition's name and type.
-#[tactic(auto, using(crate::proofs::Blocks::the_blocks))]
+#[tactic(auto, using(limbo_tree::proofs::Stmts::the_blocks))]
 fn is_body(name: &Text, of: &FnType, b: &Block) -> bool
     ensures { result ≡ part.is_definition name.now (view_fn of.now) (view_block b.now) }
 {
@@ -174,7 +174,7 @@ fn is_variable(top: &Top) -> bool
     match top {
         Top::Include { .. } => false,
         Top::Define { .. } => false,
-        Top::Declare { decl } => match decl {
+        Top::Declare { decl } => match &**decl {
             Decl::Var { .. } => true,
             Decl::Con { .. }
             | Decl::Type { .. }
@@ -235,7 +235,7 @@ fn tops_print(tops: &[Top]) -> bool
 }
 
 // Whether a block begins with the load.
-#[tactic(auto, using(crate::proofs::Blocks::the_blocks))]
+#[tactic(auto, using(limbo_tree::proofs::Stmts::the_blocks))]
 fn block_loads(b: &Block) -> bool
     ensures { result ≡ part.block_loads (view_block b.now) }
 {

@@ -7,7 +7,6 @@ pub mod Begins
 pub mod HeadsAgain
 pub mod Complete
 pub mod Trees
-pub mod View
 pub mod Going
 pub mod Tops
 pub mod Clauses

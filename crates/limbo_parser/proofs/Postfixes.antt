@@ -38,11 +38,11 @@ pub postfix-Filled : (n : Option (Box code_expr.Expr Global)) (is : Vec code_ini
 unfolding view_expr
 postfix-Filled n is k s = ap (λ (x : code_expr.Expr). is_postfix (view_expr x)) (sym (make.rolls-Filled n is k s)) ∙ ap is_postfix (fold-roll-Expr Expr Init expr_step init_step (Expr-F.Filled n is k s))
 
-pub postfix-Sized : (e : Box code_expr.Expr Global) (t : code_type.TypeTree) (s : Span) → is_postfix (view_expr (make.Sized e t s)) ≡ false
+pub postfix-Sized : (e : Box code_expr.Expr Global) (t : Box code_type.TypeTree Global) (s : Span) → is_postfix (view_expr (make.Sized e t s)) ≡ false
 unfolding view_expr
 postfix-Sized e t s = ap (λ (x : code_expr.Expr). is_postfix (view_expr x)) (sym (make.rolls-Sized e t s)) ∙ ap is_postfix (fold-roll-Expr Expr Init expr_step init_step (Expr-F.Sized e t s))
 
-pub postfix-Channel : (n : Option (Box code_expr.Expr Global)) (t : code_type.TypeTree) (s : Span) → is_postfix (view_expr (make.Channel n t s)) ≡ false
+pub postfix-Channel : (n : Option (Box code_expr.Expr Global)) (t : Box code_type.TypeTree Global) (s : Span) → is_postfix (view_expr (make.Channel n t s)) ≡ false
 unfolding view_expr
 postfix-Channel n t s = ap (λ (x : code_expr.Expr). is_postfix (view_expr x)) (sym (make.rolls-Channel n t s)) ∙ ap is_postfix (fold-roll-Expr Expr Init expr_step init_step (Expr-F.Channel n t s))
 

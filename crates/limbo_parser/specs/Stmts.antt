@@ -10,7 +10,7 @@ use Rattle.limbo_tree.specs.View.{Arm, stmts_of, arms_of}
 use Rattle.limbo_reading.specs.declared.fault.Fault.TheVariants.{Syntax, TooDeep}
 use Rattle.limbo_reading.specs.Reading.{◌>>=◌, Reader, choose, after_mark, after_key, after_name, expect_mark, expect_key, expect_name}
 use Rattle.limbo_reading.specs.Lists.{until}
-use Rattle.limbo_expr_parser.specs.Boxes.{view_boxed}
+use Rattle.limbo_tree.specs.View.{view_boxed}
 use Rattle.limbo_expr_parser.specs.Exprs.{readers}
 use Rattle.limbo_decl_parser.specs.Decls.{decl_at}
 use Rattle.limbo_parser.specs.declared.start.Branch.{Branch}

@@ -3,11 +3,10 @@
 ghost use Rattle.std.specs.Prelude.{◌≡◌, ◌<◌, None, Some, MatchOption, List, map};
 ghost use Rattle.limbo_lexer.specs.declared.token.Key.TheVariants as key;
 ghost use Rattle.limbo_tree.specs.Stmts.{CaseHead, AltHead, PickHead, HandlerHead};
-ghost use Rattle.limbo_tree.specs.View.{view_pattern, view_handler_pattern, names_of};
+ghost use Rattle.limbo_tree.specs.View.{view_pattern, view_handler_pattern, names_of, view_boxed};
 ghost use Rattle.limbo_reading.specs.Reading.{kinds, Gives};
 ghost use Rattle.limbo_reading.specs.Reading as reading;
 ghost use Rattle.limbo_reading.specs.Lists as lists;
-ghost use Rattle.limbo_expr_parser.specs.Boxes.{view_boxed};
 ghost use Rattle.limbo_parser.specs.declared.start.Region.TheVariants as region;
 ghost use Rattle.limbo_parser.specs.Heads as heads;
 
@@ -68,14 +67,11 @@ fn case_pattern_at(
             rest,
         ));
     }
-    let (first, _, rest) = expr_at(alloc, budget, tokens)?;
+    let (from, _, rest) = expr_at(alloc, budget, tokens)?;
     let Some(behind) = after_key(Key::To, rest) else {
-        let value = Box::into_inner(first);
-        return Ok((Pattern::One { value }, rest));
+        return Ok((Pattern::One { value: from }, rest));
     };
-    let (last, _, rest) = expr_at(alloc, budget, behind)?;
-    let from = Box::into_inner(first);
-    let to = Box::into_inner(last);
+    let (to, _, rest) = expr_at(alloc, budget, behind)?;
     Ok((Pattern::Range { from, to }, rest))
 }
 

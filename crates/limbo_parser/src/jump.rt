@@ -1,19 +1,30 @@
 //! Parts of statements that hold no statements, and the statements that end in a semicolon behind a keyword.
 
-ghost use Rattle.std.specs.Prelude.{◌≡◌, ◌<◌, true, IfOk};
+ghost use Rattle.std.specs.Prelude.{◌≡◌, ◌<◌, IfOk, IfErr};
+ghost use Rattle.limbo_reading.specs.declared.fault.ReadError.TheVariants.{NoMemory};
 ghost use Rattle.limbo_tree.specs.Exprs.{is_postfix};
-ghost use Rattle.limbo_tree.specs.View.{view_expr, view_stmt, name_of};
+ghost use Rattle.limbo_tree.specs.View.{view_expr, view_stmt, view_boxed, name_of};
 ghost use Rattle.limbo_reading.specs.Reading.{kinds, Gives};
-ghost use Rattle.limbo_expr_parser.specs.Boxes.{view_boxed};
 ghost use Rattle.limbo_parser.specs.Stmts as stmts;
 
 use crate::start::Jump;
 use inf_text::Span;
-use limbo_expr_parser::{expr_at, unary_at, unboxed};
+use limbo_expr_parser::{expr_at, unary_at};
 use limbo_lexer::{Kind, Mark, Token};
 use limbo_reading::{ReadError, after_mark, expect_mark, expect_name, syntax};
 use limbo_tree::{Expr, Name, Stmt};
 use std::alloc::Global;
+
+/// The tree in a box of its own.
+///
+/// # Errors
+/// `NoMemory`.
+pub fn boxed(alloc: Global, tree: Stmt) -> Result<Box<Stmt>, ReadError>
+    ensures same { IfOk result (λ b. b.value ≡ tree) }
+    ensures memory { IfErr result (λ e. e ≡ NoMemory) }
+{
+    Ok(Box::new(alloc, tree)?)
+}
 
 /// `[ID]`
 #[tactic(auto, unfolding(crate::specs::Stmts::label_at))]
@@ -115,62 +126,59 @@ fn is_call(value: &Expr) -> bool
     }
 }
 
-#[tactic(auto, using(crate::proofs::View::the_stmt_views), unfolding(crate::specs::Stmts::spawned_at))]
+#[tactic(auto, using(limbo_tree::proofs::Stmts::the_stmt_views), unfolding(crate::specs::Stmts::spawned_at))]
 fn spawned_at(
     alloc: Global,
     budget: u32,
     span: Span,
     tokens: &[Token],
-) -> Result<(Stmt, &[Token]), ReadError>
+) -> Result<(Box<Stmt>, &[Token]), ReadError>
     requires { budget < 1000 }
-    ensures { Gives (λ x. (view_stmt x.0, kinds x.1.now)) result (stmts.spawned_at budget (kinds tokens.now)) }
+    ensures { Gives (λ x. (view_stmt x.0.value, kinds x.1.now)) result (stmts.spawned_at budget (kinds tokens.now)) }
 {
     let (call, _, rest) = unary_at(alloc, budget, tokens)?;
     if !is_call(&*call) {
         return Err(syntax(tokens));
     }
     let rest = expect_mark(Mark::Semicolon, rest)?;
-    let call = Box::into_inner(call);
-    Ok((Stmt::Spawn { call, span }, rest))
+    Ok((boxed(alloc, Stmt::Spawn { call, span })?, rest))
 }
 
 /// What stands behind the keyword of a statement that ends in a semicolon.
-#[tactic(auto, using(crate::proofs::View::the_stmt_views), unfolding(crate::specs::Stmts::jump_above))]
+#[tactic(auto, using(limbo_tree::proofs::Stmts::the_stmt_views), unfolding(crate::specs::Stmts::jump_above))]
 pub fn jump_at(
     alloc: Global,
     budget: u32,
     span: Span,
     jump: Jump,
     tokens: &[Token],
-) -> Result<(Stmt, &[Token]), ReadError>
+) -> Result<(Box<Stmt>, &[Token]), ReadError>
     requires { budget < 1000 }
-    ensures { Gives (λ x. (view_stmt x.0, kinds x.1.now)) result (stmts.jump_above budget jump (kinds tokens.now)) }
+    ensures { Gives (λ x. (view_stmt x.0.value, kinds x.1.now)) result (stmts.jump_above budget jump (kinds tokens.now)) }
 {
     match jump {
         Jump::Break => {
             let (label, rest) = label_at(tokens)?;
             let rest = expect_mark(Mark::Semicolon, rest)?;
-            Ok((Stmt::Break { label, span }, rest))
+            Ok((boxed(alloc, Stmt::Break { label, span })?, rest))
         }
         Jump::Continue => {
             let (label, rest) = label_at(tokens)?;
             let rest = expect_mark(Mark::Semicolon, rest)?;
-            Ok((Stmt::Continue { label, span }, rest))
+            Ok((boxed(alloc, Stmt::Continue { label, span })?, rest))
         }
         Jump::Return => {
             let (value, rest) = option_before(alloc, budget, Mark::Semicolon, tokens)?;
-            let value = unboxed(value);
-            Ok((Stmt::Return { value, span }, rest))
+            Ok((boxed(alloc, Stmt::Return { value, span })?, rest))
         }
         Jump::Exit => {
             let rest = expect_mark(Mark::Semicolon, tokens)?;
-            Ok((Stmt::Exit { span }, rest))
+            Ok((boxed(alloc, Stmt::Exit { span })?, rest))
         }
         Jump::Spawn => spawned_at(alloc, budget, span, tokens),
         Jump::Raise => {
             let (value, rest) = option_before(alloc, budget, Mark::Semicolon, tokens)?;
-            let value = unboxed(value);
-            Ok((Stmt::Raise { value, span }, rest))
+            Ok((boxed(alloc, Stmt::Raise { value, span })?, rest))
         }
     }
 }

@@ -50,25 +50,23 @@ fn defined_at(
     alloc: Global,
     budget: u32,
     tokens: &[Token],
-) -> Result<(Function, &[Token]), ReadError>
+) -> Result<(Box<Function>, &[Token]), ReadError>
     requires { budget < 1000 }
-    ensures { Gives (λ x. (Defined x.0.name.text (name_of x.0.part) (view_fn x.0.of) (view_block x.0.body), kinds x.1.now)) result (sources.defined_at budget (kinds tokens.now)) }
+    ensures { Gives (λ x. (Defined x.0.value.name.text (name_of x.0.value.part) (view_fn x.0.value.of) (view_block x.0.value.body), kinds x.1.now)) result (sources.defined_at budget (kinds tokens.now)) }
 {
     let (name, rest) = expect_name(tokens)?;
     let (part, rest) = part_at(rest)?;
     let (of, rest) = fn_at(alloc, budget, rest)?;
     let (body, rest) = block_at(alloc, budget, rest)?;
     let span = place(tokens);
-    Ok((
-        Function {
-            name,
-            part,
-            of,
-            body,
-            span,
-        },
-        rest,
-    ))
+    let function = Function {
+        name,
+        part,
+        of,
+        body,
+        span,
+    };
+    Ok((Box::new(alloc, function)?, rest))
 }
 
 fn expect_chars(tokens: &[Token]) -> Result<(Text, &[Token]), ReadError>

@@ -1,7 +1,8 @@
 //! Statements, blocks and arms, read by recursive descent: a statement reads those within with one nesting less, and lists
 //! of statements and of arms are loops.
 
-ghost use Rattle.std.specs.Prelude.{◌≡◌, ◌<◌, map};
+ghost use Rattle.std.specs.Prelude.{◌≡◌, ◌<◌, ◌++◌, [], ◌∷◌, IfOk, IfErr, map};
+ghost use Rattle.limbo_reading.specs.declared.fault.ReadError.TheVariants.{NoMemory};
 ghost use Rattle.limbo_tree.specs.View.{view_stmt, view_block, view_case_arm, view_alt_arm, view_pick_arm, view_handler_arm, name_of};
 ghost use Rattle.limbo_reading.specs.Reading.{kinds, Gives};
 ghost use Rattle.limbo_parser.specs.declared.start.Branch.TheVariants as branch;
@@ -11,11 +12,10 @@ ghost use Rattle.limbo_parser.specs.declared.start.Region.TheVariants as region;
 ghost use Rattle.limbo_parser.specs.Stmts as stmts;
 
 use crate::heads::{alt_front_at, case_front_at, ends, handler_front_at, pick_front_at};
-use crate::jump::{ForHead, expr_before, for_head_at, jump_at, label_at, option_before};
+use crate::jump::{ForHead, boxed, expr_before, for_head_at, jump_at, label_at, option_before};
 use crate::start::{Branch, Choice, Loop, Region, Start, beginning};
 use inf_text::Span;
 use limbo_decl_parser::decl_at;
-use limbo_expr_parser::unboxed;
 use limbo_lexer::{Key, Mark, Token};
 use limbo_reading::{
     ReadError, after_key, after_mark, expect_key, expect_mark, expect_name, place, too_deep,
@@ -27,11 +27,15 @@ use std::alloc::Global;
 ///
 /// # Errors
 /// `Syntax` or `TooDeep` at the first token that no statement goes on with; `NoMemory`.
-#[tactic(auto, using(crate::proofs::View::the_stmt_views, crate::proofs::Budget::the_stmt_budget))]
+#[tactic(auto, using(limbo_tree::proofs::Stmts::the_stmt_views, crate::proofs::Budget::the_stmt_budget))]
 #[cycle(statements)]
-pub fn stmt_at(alloc: Global, budget: u32, tokens: &[Token]) -> Result<(Stmt, &[Token]), ReadError>
+pub fn stmt_at(
+    alloc: Global,
+    budget: u32,
+    tokens: &[Token],
+) -> Result<(Box<Stmt>, &[Token]), ReadError>
     requires { budget < 1000 }
-    ensures { Gives (λ x. (view_stmt x.0, kinds x.1.now)) result (stmts.stmt_at budget (kinds tokens.now)) }
+    ensures { Gives (λ x. (view_stmt x.0.value, kinds x.1.now)) result (stmts.stmt_at budget (kinds tokens.now)) }
 {
     if budget == 0 {
         return Err(too_deep(tokens));
@@ -39,10 +43,10 @@ pub fn stmt_at(alloc: Global, budget: u32, tokens: &[Token]) -> Result<(Stmt, &[
     let inner = budget - 1;
     let span = place(tokens);
     match beginning(tokens) {
-        Start::Empty(rest) => Ok((Stmt::Empty { span }, rest)),
+        Start::Empty(rest) => Ok((boxed(alloc, Stmt::Empty { span })?, rest)),
         Start::Block(rest) => {
             let (block, rest) = block_above(alloc, inner, span, rest)?;
-            Ok((Stmt::Block { block, span }, rest))
+            Ok((boxed(alloc, Stmt::Block { block, span })?, rest))
         }
         Start::If(rest) => if_at(alloc, inner, span, rest),
         Start::Branch(branch, rest) => branch_at(alloc, inner, span, None, branch, rest),
@@ -53,49 +57,46 @@ pub fn stmt_at(alloc: Global, budget: u32, tokens: &[Token]) -> Result<(Stmt, &[
         Start::Jump(jump, rest) => jump_at(alloc, inner, span, jump, rest),
         Start::Declare => {
             let (decl, rest) = decl_at(alloc, inner, tokens)?;
-            Ok((Stmt::Declare { decl, span }, rest))
+            Ok((boxed(alloc, Stmt::Declare { decl, span })?, rest))
         }
         Start::Other => {
             let (value, rest) = expr_before(alloc, inner, Mark::Semicolon, tokens)?;
-            let value = Box::into_inner(value);
-            Ok((Stmt::Eval { value, span }, rest))
+            Ok((boxed(alloc, Stmt::Eval { value, span })?, rest))
         }
     }
 }
 
-#[tactic(auto, using(crate::proofs::View::the_stmt_views), unfolding(crate::specs::Stmts::if_above))]
+#[tactic(auto, using(limbo_tree::proofs::Stmts::the_stmt_views), unfolding(crate::specs::Stmts::if_above))]
 #[cycle(statements)]
 fn if_at(
     alloc: Global,
     inner: u32,
     span: Span,
     tokens: &[Token],
-) -> Result<(Stmt, &[Token]), ReadError>
+) -> Result<(Box<Stmt>, &[Token]), ReadError>
     requires { inner < 1000 }
-    ensures { Gives (λ x. (view_stmt x.0, kinds x.1.now)) result (stmts.if_above inner (stmts.stmt_at inner) (kinds tokens.now)) }
+    ensures { Gives (λ x. (view_stmt x.0.value, kinds x.1.now)) result (stmts.if_above inner (stmts.stmt_at inner) (kinds tokens.now)) }
 {
     let rest = expect_mark(Mark::OpenParen, tokens)?;
     let (condition, rest) = expr_before(alloc, inner, Mark::CloseParen, rest)?;
     let (then, rest) = stmt_at(alloc, inner, rest)?;
-    let then = Box::new(alloc, then)?;
     let Some(behind) = after_key(Key::Else, rest) else {
         let tree = Stmt::If {
-            condition: Box::into_inner(condition),
+            condition,
             then,
             otherwise: None,
             span,
         };
-        return Ok((tree, rest));
+        return Ok((boxed(alloc, tree)?, rest));
     };
     let (otherwise, rest) = stmt_at(alloc, inner, behind)?;
-    let otherwise = Box::new(alloc, otherwise)?;
     let tree = Stmt::If {
-        condition: Box::into_inner(condition),
+        condition,
         then,
         otherwise: Some(otherwise),
         span,
     };
-    Ok((tree, rest))
+    Ok((boxed(alloc, tree)?, rest))
 }
 
 // What stands behind the keyword of a statement that may have a label.
@@ -107,9 +108,9 @@ fn branch_at(
     label: Option<Name>,
     branch: Branch,
     tokens: &[Token],
-) -> Result<(Stmt, &[Token]), ReadError>
+) -> Result<(Box<Stmt>, &[Token]), ReadError>
     requires { inner < 1000 }
-    ensures { Gives (λ x. (view_stmt x.0, kinds x.1.now)) result (stmts.branch_above inner (stmts.stmt_at inner) (name_of label) branch (kinds tokens.now)) }
+    ensures { Gives (λ x. (view_stmt x.0.value, kinds x.1.now)) result (stmts.branch_above inner (stmts.stmt_at inner) (name_of label) branch (kinds tokens.now)) }
 {
     match branch {
         Branch::Loop(Loop::While) => while_at(alloc, inner, span, label, tokens),
@@ -121,7 +122,7 @@ fn branch_at(
     }
 }
 
-#[tactic(auto, using(crate::proofs::View::the_stmt_views), unfolding(crate::specs::Stmts::branch_above))]
+#[tactic(auto, using(limbo_tree::proofs::Stmts::the_stmt_views), unfolding(crate::specs::Stmts::branch_above))]
 #[cycle(statements)]
 fn while_at(
     alloc: Global,
@@ -129,24 +130,23 @@ fn while_at(
     span: Span,
     label: Option<Name>,
     tokens: &[Token],
-) -> Result<(Stmt, &[Token]), ReadError>
+) -> Result<(Box<Stmt>, &[Token]), ReadError>
     requires { inner < 1000 }
-    ensures { Gives (λ x. (view_stmt x.0, kinds x.1.now)) result (stmts.branch_above inner (stmts.stmt_at inner) (name_of label) (branch.Loop loop.While) (kinds tokens.now)) }
+    ensures { Gives (λ x. (view_stmt x.0.value, kinds x.1.now)) result (stmts.branch_above inner (stmts.stmt_at inner) (name_of label) (branch.Loop loop.While) (kinds tokens.now)) }
 {
     let rest = expect_mark(Mark::OpenParen, tokens)?;
     let (condition, rest) = option_before(alloc, inner, Mark::CloseParen, rest)?;
     let (body, rest) = stmt_at(alloc, inner, rest)?;
-    let body = Box::new(alloc, body)?;
     let tree = Stmt::While {
         label,
-        condition: unboxed(condition),
+        condition,
         body,
         span,
     };
-    Ok((tree, rest))
+    Ok((boxed(alloc, tree)?, rest))
 }
 
-#[tactic(auto, using(crate::proofs::View::the_stmt_views), unfolding(crate::specs::Stmts::branch_above))]
+#[tactic(auto, using(limbo_tree::proofs::Stmts::the_stmt_views), unfolding(crate::specs::Stmts::branch_above))]
 #[cycle(statements)]
 fn do_at(
     alloc: Global,
@@ -154,26 +154,25 @@ fn do_at(
     span: Span,
     label: Option<Name>,
     tokens: &[Token],
-) -> Result<(Stmt, &[Token]), ReadError>
+) -> Result<(Box<Stmt>, &[Token]), ReadError>
     requires { inner < 1000 }
-    ensures { Gives (λ x. (view_stmt x.0, kinds x.1.now)) result (stmts.branch_above inner (stmts.stmt_at inner) (name_of label) (branch.Loop loop.Do) (kinds tokens.now)) }
+    ensures { Gives (λ x. (view_stmt x.0.value, kinds x.1.now)) result (stmts.branch_above inner (stmts.stmt_at inner) (name_of label) (branch.Loop loop.Do) (kinds tokens.now)) }
 {
     let (body, rest) = stmt_at(alloc, inner, tokens)?;
     let rest = expect_key(Key::While, rest)?;
     let rest = expect_mark(Mark::OpenParen, rest)?;
     let (condition, rest) = option_before(alloc, inner, Mark::CloseParen, rest)?;
     let rest = expect_mark(Mark::Semicolon, rest)?;
-    let body = Box::new(alloc, body)?;
     let tree = Stmt::Do {
         label,
         body,
-        condition: unboxed(condition),
+        condition,
         span,
     };
-    Ok((tree, rest))
+    Ok((boxed(alloc, tree)?, rest))
 }
 
-#[tactic(auto, using(crate::proofs::View::the_stmt_views), unfolding(crate::specs::Stmts::branch_above))]
+#[tactic(auto, using(limbo_tree::proofs::Stmts::the_stmt_views), unfolding(crate::specs::Stmts::branch_above))]
 #[cycle(statements)]
 fn for_at(
     alloc: Global,
@@ -181,13 +180,12 @@ fn for_at(
     span: Span,
     label: Option<Name>,
     tokens: &[Token],
-) -> Result<(Stmt, &[Token]), ReadError>
+) -> Result<(Box<Stmt>, &[Token]), ReadError>
     requires { inner < 1000 }
-    ensures { Gives (λ x. (view_stmt x.0, kinds x.1.now)) result (stmts.branch_above inner (stmts.stmt_at inner) (name_of label) (branch.Loop loop.For) (kinds tokens.now)) }
+    ensures { Gives (λ x. (view_stmt x.0.value, kinds x.1.now)) result (stmts.branch_above inner (stmts.stmt_at inner) (name_of label) (branch.Loop loop.For) (kinds tokens.now)) }
 {
     let (head, rest) = for_head_at(alloc, inner, tokens)?;
     let (body, rest) = stmt_at(alloc, inner, rest)?;
-    let body = Box::new(alloc, body)?;
     let ForHead {
         first,
         condition,
@@ -195,16 +193,16 @@ fn for_at(
     } = head;
     let tree = Stmt::For {
         label,
-        first: unboxed(first),
-        condition: unboxed(condition),
-        next: unboxed(next),
+        first,
+        condition,
+        next,
         body,
         span,
     };
-    Ok((tree, rest))
+    Ok((boxed(alloc, tree)?, rest))
 }
 
-#[tactic(auto, using(crate::proofs::View::the_stmt_views), unfolding(crate::specs::Stmts::branch_above))]
+#[tactic(auto, using(limbo_tree::proofs::Stmts::the_stmt_views), unfolding(crate::specs::Stmts::branch_above))]
 #[cycle(statements)]
 fn case_at(
     alloc: Global,
@@ -212,22 +210,22 @@ fn case_at(
     span: Span,
     label: Option<Name>,
     tokens: &[Token],
-) -> Result<(Stmt, &[Token]), ReadError>
+) -> Result<(Box<Stmt>, &[Token]), ReadError>
     requires { inner < 1000 }
-    ensures { Gives (λ x. (view_stmt x.0, kinds x.1.now)) result (stmts.branch_above inner (stmts.stmt_at inner) (name_of label) (branch.Choice choice.Case) (kinds tokens.now)) }
+    ensures { Gives (λ x. (view_stmt x.0.value, kinds x.1.now)) result (stmts.branch_above inner (stmts.stmt_at inner) (name_of label) (branch.Choice choice.Case) (kinds tokens.now)) }
 {
     let (value, rest) = expr_before(alloc, inner, Mark::OpenBrace, tokens)?;
     let (arms, rest) = case_arms_at(alloc, inner, rest)?;
     let tree = Stmt::Case {
         label,
-        value: Box::into_inner(value),
+        value,
         arms,
         span,
     };
-    Ok((tree, rest))
+    Ok((boxed(alloc, tree)?, rest))
 }
 
-#[tactic(auto, using(crate::proofs::View::the_stmt_views), unfolding(crate::specs::Stmts::branch_above))]
+#[tactic(auto, using(limbo_tree::proofs::Stmts::the_stmt_views), unfolding(crate::specs::Stmts::branch_above))]
 #[cycle(statements)]
 fn alt_at(
     alloc: Global,
@@ -235,16 +233,16 @@ fn alt_at(
     span: Span,
     label: Option<Name>,
     tokens: &[Token],
-) -> Result<(Stmt, &[Token]), ReadError>
+) -> Result<(Box<Stmt>, &[Token]), ReadError>
     requires { inner < 1000 }
-    ensures { Gives (λ x. (view_stmt x.0, kinds x.1.now)) result (stmts.branch_above inner (stmts.stmt_at inner) (name_of label) (branch.Choice choice.Alt) (kinds tokens.now)) }
+    ensures { Gives (λ x. (view_stmt x.0.value, kinds x.1.now)) result (stmts.branch_above inner (stmts.stmt_at inner) (name_of label) (branch.Choice choice.Alt) (kinds tokens.now)) }
 {
     let rest = expect_mark(Mark::OpenBrace, tokens)?;
     let (arms, rest) = alt_arms_at(alloc, inner, rest)?;
-    Ok((Stmt::Alt { label, arms, span }, rest))
+    Ok((boxed(alloc, Stmt::Alt { label, arms, span })?, rest))
 }
 
-#[tactic(auto, using(crate::proofs::View::the_stmt_views), unfolding(crate::specs::Stmts::branch_above))]
+#[tactic(auto, using(limbo_tree::proofs::Stmts::the_stmt_views), unfolding(crate::specs::Stmts::branch_above))]
 #[cycle(statements)]
 fn pick_at(
     alloc: Global,
@@ -252,9 +250,9 @@ fn pick_at(
     span: Span,
     label: Option<Name>,
     tokens: &[Token],
-) -> Result<(Stmt, &[Token]), ReadError>
+) -> Result<(Box<Stmt>, &[Token]), ReadError>
     requires { inner < 1000 }
-    ensures { Gives (λ x. (view_stmt x.0, kinds x.1.now)) result (stmts.branch_above inner (stmts.stmt_at inner) (name_of label) (branch.Choice choice.Pick) (kinds tokens.now)) }
+    ensures { Gives (λ x. (view_stmt x.0.value, kinds x.1.now)) result (stmts.branch_above inner (stmts.stmt_at inner) (name_of label) (branch.Choice choice.Pick) (kinds tokens.now)) }
 {
     let (name, rest) = expect_name(tokens)?;
     let rest = expect_mark(Mark::Define, rest)?;
@@ -263,15 +261,15 @@ fn pick_at(
     let tree = Stmt::Pick {
         label,
         name,
-        value: Box::into_inner(value),
+        value,
         arms,
         span,
     };
-    Ok((tree, rest))
+    Ok((boxed(alloc, tree)?, rest))
 }
 
 // A block behind its `{`.
-#[tactic(auto, using(crate::proofs::View::the_block_views), unfolding(crate::specs::Stmts::block_above))]
+#[tactic(auto, using(limbo_tree::proofs::Stmts::the_block_views), unfolding(crate::specs::Stmts::block_above))]
 #[cycle(statements)]
 fn block_above(
     alloc: Global,
@@ -303,6 +301,14 @@ fn block_above(
     Ok((block, rest))
 }
 
+// Adds a statement to some.
+fn push_stmt(statements: &mut Vec<Stmt>, statement: Box<Stmt>) -> Result<(), ReadError>
+    ensures items { IfOk result (λ _. statements.new.items ≡ statements.old.items ++ statement.value ∷ []) }
+    ensures memory { IfErr result (λ e. e ≡ NoMemory) }
+{
+    Ok(statements.push(Box::into_inner(statement))?)
+}
+
 // `{stmt}` of a region.
 #[cycle(statements)]
 fn stmts_at(
@@ -322,7 +328,7 @@ fn stmts_at(
             return Ok((statements, rest));
         }
         let (statement, after) = stmt_at(alloc, budget, rest)?;
-        statements.push(statement)?;
+        push_stmt(&mut statements, statement)?;
         rest = after;
     }
 }
@@ -374,7 +380,6 @@ fn alt_arms_at(
         let span = place(rest);
         let (head, after) = alt_front_at(alloc, budget, rest)?;
         let (body, after) = stmts_at(alloc, budget, Region::Alt, after)?;
-        let head = unboxed(head);
         arms.push(AltArm { head, body, span })?;
         rest = after;
     }

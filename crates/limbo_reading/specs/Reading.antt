@@ -8,6 +8,8 @@ use Rattle.limbo_lexer.specs.declared.token.Key.{Key}
 use Rattle.limbo_lexer.specs.contracts.token.Mark as the_mark
 use Rattle.limbo_lexer.specs.contracts.token.Key as the_key
 use denote.Enum.Bare.{sameb}
+use Rattle.inf_text.specs.Steps as steps
+pub use Rattle.inf_text.specs.Steps.{◌>>=◌, choose}
 use Rattle.limbo_reading.specs.declared.fault.Fault.{Fault}
 use Rattle.limbo_reading.specs.declared.fault.Fault.TheVariants.{Syntax, TooDeep}
 use Rattle.limbo_reading.specs.declared.fault.ReadError.{ReadError}
@@ -16,11 +18,6 @@ use Rattle.limbo_reading.specs.declared.fault.ReadError.TheVariants as errors
 -- tokens without where they stand
 abbrev pub kinds : List Token → List Kind
 kinds tokens = map (λ t. t.kind) tokens
-
-infixl 10 ◌>>=◌
-abbrev pub ◌>>=◌ : {A B : Type 0} → Result A Fault → (A → Result B Fault) → Result B Fault
-(Ok x) >>= f = f x
-(Err e) >>= f = Err e
 
 -- what reads the front of a list of tokens: a value and the rest, or the first fault
 abbrev pub Reader : Type 0 → Type 0
@@ -31,11 +28,6 @@ same_mark a b = sameb the_mark.the_type a b
 
 abbrev pub same_key : Key → Key → Bool
 same_key a b = sameb the_key.the_type a b
-
--- one of two, by whether there is a value
-abbrev pub choose : {A B : Type 0} → Option A → B → (A → B) → B
-choose None x f = x
-choose (Some a) x f = f a
 
 -- what stands behind the sign, where it is the first token
 abbrev pub after_mark : Mark → List Kind → Option (List Kind)
@@ -61,11 +53,14 @@ expect_key k ts = choose (after_key k ts) (Err (Syntax (length ts))) λ rest. Ok
 abbrev pub expect_name : Reader (List ℕ)
 expect_name ts = choose (after_name ts) (Err (Syntax (length ts))) λ x. Ok x
 
+-- the fault that an error tells, if it isn't want of memory
+abbrev pub fault_of : ReadError → Option Fault
+fault_of errors.NoMemory = None
+fault_of (errors.Fault f) = Some f
+
 -- What a function returned, seen by view, is what reading gives, unless memory ran out.
 abbrev pub Fails : {Y : Type 0} → ReadError → Result Y Fault → Type 0
-Fails errors.NoMemory read = Unit {0}
-Fails (errors.Fault f) read = read ≡ Err f
+Fails e read = steps.Refuses (fault_of e) read
 
 abbrev pub Gives : {X Y : Type 0} → (X → Y) → Result X ReadError → Result Y Fault → Type 0
-Gives see (Ok x) read = read ≡ Ok (see x)
-Gives see (Err e) read = Fails e read
+Gives see result read = steps.Gives fault_of see result read

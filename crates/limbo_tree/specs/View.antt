@@ -1,5 +1,6 @@
 -- The trees of the code without where they stand in a source.
-use Rattle.std.specs.Prelude.{ℕ, List, [], ◌∷◌, map, Option, None, Some, option_map}
+use Rattle.std.specs.Prelude.{ℕ, List, [], ◌∷◌, map, Option, None, Some, option_map, Box}
+use Rattle.std.specs.Global.{Global}
 use Rattle.limbo_tree.specs.declared.name.Name as code_name
 use Rattle.limbo_tree.specs.declared.name.Qual as code_qual
 use Rattle.limbo_tree.specs.declared.types.TypeTree as code_type
@@ -85,9 +86,9 @@ part_of None = Absent
 part_of (Some e) = Present e
 
 abbrev pub init_step : Init-F Expr Init → Init
-init_step (Init-F.Next e) = Next e
-init_step (Init-F.At i e) = At i e
-init_step (Init-F.Rest e) = Rest e
+init_step (Init-F.Next e) = Next e.value
+init_step (Init-F.At i e) = At i.value e.value
+init_step (Init-F.Rest e) = Rest e.value
 
 abbrev pub expr_step : Expr-F Expr Init → Expr
 expr_step (Expr-F.Assign o l r s) = Assign o l.value r.value
@@ -96,8 +97,8 @@ expr_step (Expr-F.Binary o l r s) = Binary o l.value r.value
 expr_step (Expr-F.Unary o e s) = Unary o e.value
 expr_step (Expr-F.Bytes e s) = Bytes e.value
 expr_step (Expr-F.Filled n is comma s) = Filled (part_of (option_map (λ e. e.value) n)) (inits_of is.items) comma
-expr_step (Expr-F.Sized e t s) = Sized e.value (view_type t)
-expr_step (Expr-F.Channel n t s) = Channel (part_of (option_map (λ e. e.value) n)) (view_type t)
+expr_step (Expr-F.Sized e t s) = Sized e.value (view_type t.value)
+expr_step (Expr-F.Channel n t s) = Channel (part_of (option_map (λ e. e.value) n)) (view_type t.value)
 expr_step (Expr-F.Listed es s) = Listed (exprs_of es.items)
 expr_step (Expr-F.Call f es s) = Call f.value (exprs_of es.items)
 expr_step (Expr-F.Index e i s) = Index e.value i.value
@@ -117,6 +118,19 @@ view_expr = fold-Expr Expr Init expr_step init_step
 unfoldable pub view_init : code_init.Init → Init
 view_init = fold-Init Expr Init expr_step init_step
 
+-- the type in a box, if there is one
+abbrev pub view_boxed_type : Option (Box code_type.TypeTree Global) → Option Ty
+view_boxed_type t = option_map (λ b. view_type b.value) t
+
+-- the expression in a box, if there is one
+abbrev pub view_boxed : Option (Box code_expr.Expr Global) → Option Expr
+view_boxed e = option_map (λ b. view_expr b.value) e
+
+-- the same, as a part that may be absent: [expr]
+abbrev pub view_part : Option (Box code_expr.Expr Global) → Part
+view_part None = Absent
+view_part (Some e) = Present (view_expr e.value)
+
 -- names, without where they stand
 abbrev pub names_of : List code_name.Name → List (List ℕ)
 names_of ns = map view_name ns
@@ -127,7 +141,7 @@ name_of n = option_map view_name n
 -- ---- declarations
 
 abbrev pub view_param : code_param.Param → decls.Param
-view_param p = record { names = map name_of p.names.items; is_self = p.is_self; of = view_type p.of }
+view_param p = record { names = map name_of p.names.items; is_self = p.is_self; of = view_type p.of.value }
 
 abbrev pub view_raises : code_raises.Raises → decls.Raises
 view_raises (raises.One n) = decls.One n.text
@@ -136,12 +150,12 @@ view_raises (raises.Several ns) = decls.Several (names_of ns.items)
 abbrev pub view_fn : code_fn.FnType → decls.FnType
 view_fn f = record {
   params = map view_param f.params.items;
-  answer = option_map view_type f.answer;
+  answer = view_boxed_type f.answer;
   raises = option_map view_raises f.raises;
 }
 
 abbrev pub view_field : code_field.Field → decls.Field
-view_field f = record { names = names_of f.names.items; of = view_type f.of }
+view_field f = record { names = names_of f.names.items; of = view_type f.of.value }
 
 abbrev pub view_variant : code_variant.Variant → decls.Variant
 view_variant v = record { names = names_of v.names.items; fields = map view_field v.fields.items }
@@ -151,10 +165,10 @@ members_of [] = decls.NoMembers
 members_of (m ∷ ms) = decls.MoreMembers m (members_of ms)
 
 abbrev pub member_step : Member-F decls.Member → decls.Member
-member_step (Member-F.Var ns t s) = decls.VarMember (names_of ns.items) (view_type t)
-member_step (Member-F.Function ns f s) = decls.FnMember (names_of ns.items) (view_fn f)
-member_step (Member-F.Con ns e s) = decls.ConMember (names_of ns.items) (view_expr e)
-member_step (Member-F.Type ns t s) = decls.TypeMember (names_of ns.items) (view_type t)
+member_step (Member-F.Var ns t s) = decls.VarMember (names_of ns.items) (view_type t.value)
+member_step (Member-F.Function ns f s) = decls.FnMember (names_of ns.items) (view_fn f.value)
+member_step (Member-F.Con ns e s) = decls.ConMember (names_of ns.items) (view_expr e.value)
+member_step (Member-F.Type ns t s) = decls.TypeMember (names_of ns.items) (view_type t.value)
 member_step (Member-F.Adt n ms pick s) =
     decls.AdtMember n.text (members_of ms.items) (option_map (λ vs. map view_variant vs.items) pick)
 
@@ -165,10 +179,10 @@ unfoldable pub view_members : List code_member.Member → decls.Members
 view_members ms = members_of (map view_member ms)
 
 abbrev pub view_decl : code_decl.Decl → decls.Decl
-view_decl (decl.Con ns e s) = decls.Con (names_of ns.items) (view_expr e)
-view_decl (decl.Type ns t s) = decls.TypeName (names_of ns.items) (view_type t)
-view_decl (decl.Var ns t v s) = decls.Var (names_of ns.items) (view_type t) (option_map view_expr v)
-view_decl (decl.Define ns e s) = decls.Define (names_of ns.items) (view_expr e)
+view_decl (decl.Con ns e s) = decls.Con (names_of ns.items) (view_expr e.value)
+view_decl (decl.Type ns t s) = decls.TypeName (names_of ns.items) (view_type t.value)
+view_decl (decl.Var ns t v s) = decls.Var (names_of ns.items) (view_type t.value) (view_boxed v)
+view_decl (decl.Define ns e s) = decls.Define (names_of ns.items) (view_expr e.value)
 view_decl (decl.Import ns m s) = decls.Import (names_of ns.items) m.text
 view_decl (decl.Exception ns ts s) = decls.Exception (names_of ns.items) (view_types ts.items)
 view_decl (decl.Module n ms s) = decls.Module n.text (view_members ms.items)
@@ -178,8 +192,8 @@ view_decl (decl.Adt n ms pick s) =
 -- ---- statements
 
 abbrev pub view_pattern : code_pattern.Pattern → stmts.Pattern
-view_pattern (pattern.One e) = stmts.Value (view_expr e)
-view_pattern (pattern.Range e f) = stmts.Range (view_expr e) (view_expr f)
+view_pattern (pattern.One e) = stmts.Value (view_expr e.value)
+view_pattern (pattern.Range e f) = stmts.Range (view_expr e.value) (view_expr f.value)
 view_pattern (pattern.Any s) = stmts.AnyValue
 
 abbrev pub view_handler_pattern : code_handler_pattern.HandlerPattern → stmts.HandlerPattern
@@ -205,7 +219,7 @@ arms_of [] = stmts.NoArms
 arms_of (a ∷ arms) = stmts.MoreArms a.head a.body (arms_of arms)
 
 abbrev pub alt_arm_step : AltArm-F stmts.Stmt Arm stmts.Block Arm Handler Arm Arm → Arm
-alt_arm_step a = record { head = stmts.AltHead (option_map view_expr a.head); body = stmts_of a.body.items }
+alt_arm_step a = record { head = stmts.AltHead (view_boxed a.head); body = stmts_of a.body.items }
 
 abbrev pub case_arm_step : CaseArm-F stmts.Stmt Arm stmts.Block Arm Handler Arm Arm → Arm
 case_arm_step a = record { head = stmts.CaseHead (map view_pattern a.patterns.items); body = stmts_of a.body.items }
@@ -235,22 +249,22 @@ if_of c s (Some t) = stmts.IfElse c s t
 abbrev pub stmt_step : Stmt-F stmts.Stmt Arm stmts.Block Arm Handler Arm Arm → stmts.Stmt
 stmt_step (Stmt-F.Empty s) = stmts.Empty
 stmt_step (Stmt-F.Block b s) = stmts.Nested b
-stmt_step (Stmt-F.Declare d s) = stmts.Declare (view_decl d)
-stmt_step (Stmt-F.Eval e s) = stmts.Eval (view_expr e)
-stmt_step (Stmt-F.If c then other s) = if_of (view_expr c) then.value (option_map (λ t. t.value) other)
-stmt_step (Stmt-F.While l c body s) = stmts.While (name_of l) (option_map view_expr c) body.value
-stmt_step (Stmt-F.Do l body c s) = stmts.Do (name_of l) body.value (option_map view_expr c)
+stmt_step (Stmt-F.Declare d s) = stmts.Declare (view_decl d.value)
+stmt_step (Stmt-F.Eval e s) = stmts.Eval (view_expr e.value)
+stmt_step (Stmt-F.If c then other s) = if_of (view_expr c.value) then.value (option_map (λ t. t.value) other)
+stmt_step (Stmt-F.While l c body s) = stmts.While (name_of l) (view_boxed c) body.value
+stmt_step (Stmt-F.Do l body c s) = stmts.Do (name_of l) body.value (view_boxed c)
 stmt_step (Stmt-F.For l a c b body s) =
-    stmts.For (name_of l) (option_map view_expr a) (option_map view_expr c) (option_map view_expr b) body.value
-stmt_step (Stmt-F.Case l e arms s) = stmts.Case (name_of l) (view_expr e) (arms_of arms.items)
+    stmts.For (name_of l) (view_boxed a) (view_boxed c) (view_boxed b) body.value
+stmt_step (Stmt-F.Case l e arms s) = stmts.Case (name_of l) (view_expr e.value) (arms_of arms.items)
 stmt_step (Stmt-F.Alt l arms s) = stmts.Alt (name_of l) (arms_of arms.items)
-stmt_step (Stmt-F.Pick l n e arms s) = stmts.Pick (name_of l) n.text (view_expr e) (arms_of arms.items)
+stmt_step (Stmt-F.Pick l n e arms s) = stmts.Pick (name_of l) n.text (view_expr e.value) (arms_of arms.items)
 stmt_step (Stmt-F.Break l s) = stmts.Break (name_of l)
 stmt_step (Stmt-F.Continue l s) = stmts.Continue (name_of l)
-stmt_step (Stmt-F.Return e s) = stmts.Return (option_map view_expr e)
+stmt_step (Stmt-F.Return e s) = stmts.Return (view_boxed e)
 stmt_step (Stmt-F.Exit s) = stmts.Exit
-stmt_step (Stmt-F.Spawn e s) = stmts.Spawn (view_expr e)
-stmt_step (Stmt-F.Raise e s) = stmts.Raise (option_map view_expr e)
+stmt_step (Stmt-F.Spawn e s) = stmts.Spawn (view_expr e.value)
+stmt_step (Stmt-F.Raise e s) = stmts.Raise (view_boxed e)
 
 unfoldable pub view_stmt : code_stmt.Stmt → stmts.Stmt
 view_stmt = fold-Stmt stmts.Stmt Arm stmts.Block Arm Handler Arm Arm stmt_step alt_arm_step block_step case_arm_step handler_step handler_arm_step pick_arm_step
@@ -277,8 +291,8 @@ view_handler_arm = fold-HandlerArm stmts.Stmt Arm stmts.Block Arm Handler Arm Ar
 
 abbrev pub view_top : code_top.Top → sources.Top
 view_top (top.Include path s) = sources.Include path
-view_top (top.Declare d) = sources.Declared (view_decl d)
-view_top (top.Define f) = sources.Defined f.name.text (name_of f.part) (view_fn f.of) (view_block f.body)
+view_top (top.Declare d) = sources.Declared (view_decl d.value)
+view_top (top.Define f) = sources.Defined f.value.name.text (name_of f.value.part) (view_fn f.value.of) (view_block f.value.body)
 
 abbrev pub view_source : code_source.Source → sources.Source
 view_source s = record { implements = name_of s.implements; tops = map view_top s.tops.items }

@@ -9,26 +9,26 @@ pub enum Decl {
     /// `names: con value;`
     Con {
         names: Vec<Name>,
-        value: Expr,
+        value: Box<Expr>,
         span: Span,
     },
     /// `names: type of;`
     Type {
         names: Vec<Name>,
-        of: TypeTree,
+        of: Box<TypeTree>,
         span: Span,
     },
     /// `names: of;` or `names: of = value;`
     Var {
         names: Vec<Name>,
-        of: TypeTree,
-        value: Option<Expr>,
+        of: Box<TypeTree>,
+        value: Option<Box<Expr>>,
         span: Span,
     },
     /// `names := value;`
     Define {
         names: Vec<Name>,
-        value: Expr,
+        value: Box<Expr>,
         span: Span,
     },
     /// `names: import module;`
@@ -64,25 +64,25 @@ pub enum Member {
     /// `names: of;`
     Var {
         names: Vec<Name>,
-        of: TypeTree,
+        of: Box<TypeTree>,
         span: Span,
     },
     /// `names: fn ..;`
     Function {
         names: Vec<Name>,
-        of: FnType,
+        of: Box<FnType>,
         span: Span,
     },
     /// `names: con value;`
     Con {
         names: Vec<Name>,
-        value: Expr,
+        value: Box<Expr>,
         span: Span,
     },
     /// `names: type of;`
     Type {
         names: Vec<Name>,
-        of: TypeTree,
+        of: Box<TypeTree>,
         span: Span,
     },
     /// `name: adt { members };`, or with `pick { variants }` behind the members.
@@ -106,7 +106,7 @@ pub struct Variant {
 #[derive(Drop)]
 pub struct Field {
     pub names: Vec<Name>,
-    pub of: TypeTree,
+    pub of: Box<TypeTree>,
     pub span: Span,
 }
 
@@ -114,7 +114,7 @@ pub struct Field {
 #[derive(Drop)]
 pub struct FnType {
     pub params: Vec<Param>,
-    pub answer: Option<TypeTree>,
+    pub answer: Option<Box<TypeTree>>,
     pub raises: Option<Raises>,
     pub span: Span,
 }
@@ -124,7 +124,7 @@ pub struct FnType {
 pub struct Param {
     pub names: Vec<Option<Name>>,
     pub is_self: bool,
-    pub of: TypeTree,
+    pub of: Box<TypeTree>,
     pub span: Span,
 }
 

@@ -48,13 +48,13 @@ pub enum Expr {
     /// `array [len] of element`
     Sized {
         len: Box<Expr>,
-        element: TypeTree,
+        element: Box<TypeTree>,
         span: Span,
     },
     /// `chan of element`. No form with a size is built yet.
     Channel {
         size: Option<Box<Expr>>,
-        element: TypeTree,
+        element: Box<TypeTree>,
         span: Span,
     },
     /// `list of { items }`
@@ -131,9 +131,9 @@ pub enum Expr {
 #[cycle(exprs)]
 pub enum Init {
     /// `value`
-    Next { value: Expr },
+    Next { value: Box<Expr> },
     /// `index => value`
-    At { index: Expr, value: Expr },
+    At { index: Box<Expr>, value: Box<Expr> },
     /// `* => value`
-    Rest { value: Expr },
+    Rest { value: Box<Expr> },
 }

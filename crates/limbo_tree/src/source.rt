@@ -17,9 +17,9 @@ pub enum Top {
     /// `include path;`
     Include { path: Text, span: Span },
     /// A declaration.
-    Declare { decl: Decl },
+    Declare { decl: Box<Decl> },
     /// A function's definition.
-    Define { function: Function },
+    Define { function: Box<Function> },
 }
 
 /// The definition of a function, or of a function of an adt: `name.part(params): answer body`

@@ -18,17 +18,17 @@ pub enum Stmt {
     },
     /// A declaration.
     Declare {
-        decl: Decl,
+        decl: Box<Decl>,
         span: Span,
     },
     /// `value;`
     Eval {
-        value: Expr,
+        value: Box<Expr>,
         span: Span,
     },
     /// `if (condition) then`, or with `else otherwise`.
     If {
-        condition: Expr,
+        condition: Box<Expr>,
         then: Box<Stmt>,
         otherwise: Option<Box<Stmt>>,
         span: Span,
@@ -36,7 +36,7 @@ pub enum Stmt {
     /// `label: while (condition) body`
     While {
         label: Option<Name>,
-        condition: Option<Expr>,
+        condition: Option<Box<Expr>>,
         body: Box<Stmt>,
         span: Span,
     },
@@ -44,22 +44,22 @@ pub enum Stmt {
     Do {
         label: Option<Name>,
         body: Box<Stmt>,
-        condition: Option<Expr>,
+        condition: Option<Box<Expr>>,
         span: Span,
     },
     /// `label: for (first; condition; next) body`
     For {
         label: Option<Name>,
-        first: Option<Expr>,
-        condition: Option<Expr>,
-        next: Option<Expr>,
+        first: Option<Box<Expr>>,
+        condition: Option<Box<Expr>>,
+        next: Option<Box<Expr>>,
         body: Box<Stmt>,
         span: Span,
     },
     /// `label: case value { arms }`
     Case {
         label: Option<Name>,
-        value: Expr,
+        value: Box<Expr>,
         arms: Vec<CaseArm>,
         span: Span,
     },
@@ -73,7 +73,7 @@ pub enum Stmt {
     Pick {
         label: Option<Name>,
         name: Name,
-        value: Expr,
+        value: Box<Expr>,
         arms: Vec<PickArm>,
         span: Span,
     },
@@ -89,7 +89,7 @@ pub enum Stmt {
     },
     /// `return value;`
     Return {
-        value: Option<Expr>,
+        value: Option<Box<Expr>>,
         span: Span,
     },
     /// `exit;`
@@ -98,12 +98,12 @@ pub enum Stmt {
     },
     /// `spawn call;`
     Spawn {
-        call: Expr,
+        call: Box<Expr>,
         span: Span,
     },
     /// `raise value;`
     Raise {
-        value: Option<Expr>,
+        value: Option<Box<Expr>>,
         span: Span,
     },
 }
@@ -158,9 +158,9 @@ pub struct CaseArm {
 #[derive(Drop)]
 pub enum Pattern {
     /// `value`
-    One { value: Expr },
+    One { value: Box<Expr> },
     /// `from to to`: both ends are taken.
-    Range { from: Expr, to: Expr },
+    Range { from: Box<Expr>, to: Box<Expr> },
     /// `*`
     Any { span: Span },
 }
@@ -169,7 +169,7 @@ pub enum Pattern {
 #[derive(Drop)]
 #[cycle(statements)]
 pub struct AltArm {
-    pub head: Option<Expr>,
+    pub head: Option<Box<Expr>>,
     pub body: Vec<Stmt>,
     pub span: Span,
 }

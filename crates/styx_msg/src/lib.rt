@@ -25,6 +25,3 @@ pub use laws::{one_direction, one_reply, one_request, reply_read_back, request_r
 pub use message::{
     Decoded, MESSAGE_MAX, MESSAGE_MIN, NOFID, NOTAG, Qid, Rmsg, Stat, TEXT_MAX, Tmsg, WALK_MAX,
 };
-
-#[cfg(test)]
-mod tests;

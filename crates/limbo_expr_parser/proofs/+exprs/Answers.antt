@@ -9,7 +9,7 @@ use Rattle.limbo_reading.specs.Reading.{kinds, after_mark}
 use Rattle.limbo_reading.proofs.Steps.{mark_shorter}
 use Rattle.limbo_reading.proofs.Loops.{items_start, items_fail, reading_more, reading_end, reading_fails}
 use Rattle.limbo_expr_parser.specs.Exprs.{readers, list_at, inits_at, init_at, after_comma_inside}
-use Rattle.limbo_expr_parser.proofs.View.{view_expr-Binary}
+use Rattle.limbo_tree.proofs.Exprs.{view_expr-Binary}
 use Rattle.limbo_expr_parser.proofs.ExprSteps.{expr_left, chain_loads, expr_deep, expr_fails, expr_shorter, init_shorter, comma_shorter, exprs_one, exprs_more, inits_one, inits_more, chained_start, chain_fails, chained_more, chained_end, chained_deep, chained_fails, postfixed_start, postfixed_fails_first, postfixed_more, postfixed_end, postfixed_deep, postfixed_fails, behind_deeper}
 use Rattle.limbo_expr_parser.proofs.+exprs.Goals as goal
 
@@ -24,7 +24,7 @@ lists::list_at-returns-in_err-first-clause-same t c =
 pub lists::list_at-all-init : goal.lists::list_at-all-init
 unfolding list_at
 lists::list_at-all-init t c =
-    rw (c.in_ok-push.ensures.items, c.new-items.ensures.items, c.into_inner.ensures) (
+    rw (c.in_ok-push_expr.ensures.items, c.new-items.ensures.items) (
       items_start view_expr (readers c.args.budget).expr (after_mark mark.Comma) (kinds c.args.tokens.now) c.in_ok-first.first.value (kinds c.in_ok-first.rest.now) c.in_ok-first.ensures.same,
       c.in_ok-first.ensures.size ∙ sym (exprs_one c.in_ok-first.first.value),
       c.in_ok-first.ensures.within,
@@ -41,7 +41,7 @@ lists::list_at-all-smaller t c =
 
 pub lists::list_at-all-preserved : goal.lists::list_at-all-preserved
 lists::list_at-all-preserved t c =
-    rw (c.in_ok-push-2.ensures.items, c.into_inner-in-Some.ensures, c.max-size.ensures) (
+    rw (c.in_ok-push_expr-2.ensures.items, c.max-size.ensures) (
       reading_more view_expr (readers c.args.budget).expr (after_mark mark.Comma) _ c.all.items.items (kinds c.all.rest.now) (kinds c.in-Some.behind.now) (kinds c.in_ok-item.after.now) c.in_ok-item.item.value c.in-Some.ensures c.in_ok-item.ensures.same (omega (arith, mark_shorter mark.Comma (kinds c.all.rest.now) (kinds c.in-Some.behind.now) c.in-Some.ensures, expr_shorter c.args.budget (kinds c.in-Some.behind.now) (view_expr c.in_ok-item.item.value) (kinds c.in_ok-item.after.now) c.in_ok-item.ensures.same)) c.all.invariant.0,
       omega (arith, exprs_more c.all.items.items c.in_ok-item.item.value, c.all.invariant.1, c.in_ok-item.ensures.size),
       omega (arith, c.all.invariant.2, c.in_ok-item.ensures.within),
@@ -61,9 +61,9 @@ arrays::inits_at-returns-in_err-first-clause-same t c =
 pub arrays::inits_at-all-init : goal.arrays::inits_at-all-init
 unfolding inits_at
 arrays::inits_at-all-init t c =
-    rw (c.in_ok-push.ensures.items, c.new-items.ensures.items, c.into_inner.ensures) (
-      items_start view_init (init_at (readers c.args.budget)) after_comma_inside (kinds c.args.tokens.now) c.in_ok-first.first.value (kinds c.in_ok-first.rest.now) c.in_ok-first.ensures.same,
-      c.in_ok-first.ensures.size ∙ sym (inits_one c.in_ok-first.first.value),
+    rw (c.in_ok-push.ensures.items, c.new-items.ensures.items) (
+      items_start view_init (init_at (readers c.args.budget)) after_comma_inside (kinds c.args.tokens.now) c.in_ok-first.first (kinds c.in_ok-first.rest.now) c.in_ok-first.ensures.same,
+      c.in_ok-first.ensures.size ∙ sym (inits_one c.in_ok-first.first),
       c.in_ok-first.ensures.within,
     )
 
@@ -74,13 +74,13 @@ arrays::inits_at-returns-in_err-item-clause-same t c =
 
 pub arrays::inits_at-all-smaller : goal.arrays::inits_at-all-smaller
 arrays::inits_at-all-smaller t c =
-    omega (arith, comma_shorter (kinds c.all.rest.now) (kinds c.in-Some.behind.now) c.in-Some.ensures, init_shorter c.args.budget (kinds c.in-Some.behind.now) (view_init c.in_ok-item.item.value) (kinds c.in_ok-item.after.now) c.in_ok-item.ensures.same)
+    omega (arith, comma_shorter (kinds c.all.rest.now) (kinds c.in-Some.behind.now) c.in-Some.ensures, init_shorter c.args.budget (kinds c.in-Some.behind.now) (view_init c.in_ok-item.item) (kinds c.in_ok-item.after.now) c.in_ok-item.ensures.same)
 
 pub arrays::inits_at-all-preserved : goal.arrays::inits_at-all-preserved
 arrays::inits_at-all-preserved t c =
-    rw (c.in_ok-push-2.ensures.items, c.into_inner-in-Some.ensures, c.max-size.ensures) (
-      reading_more view_init (init_at (readers c.args.budget)) after_comma_inside _ c.all.items.items (kinds c.all.rest.now) (kinds c.in-Some.behind.now) (kinds c.in_ok-item.after.now) c.in_ok-item.item.value c.in-Some.ensures c.in_ok-item.ensures.same (omega (arith, comma_shorter (kinds c.all.rest.now) (kinds c.in-Some.behind.now) c.in-Some.ensures, init_shorter c.args.budget (kinds c.in-Some.behind.now) (view_init c.in_ok-item.item.value) (kinds c.in_ok-item.after.now) c.in_ok-item.ensures.same)) c.all.invariant.0,
-      omega (arith, inits_more c.all.items.items c.in_ok-item.item.value, c.all.invariant.1, c.in_ok-item.ensures.size),
+    rw (c.in_ok-push-2.ensures.items, c.max-size.ensures) (
+      reading_more view_init (init_at (readers c.args.budget)) after_comma_inside _ c.all.items.items (kinds c.all.rest.now) (kinds c.in-Some.behind.now) (kinds c.in_ok-item.after.now) c.in_ok-item.item c.in-Some.ensures c.in_ok-item.ensures.same (omega (arith, comma_shorter (kinds c.all.rest.now) (kinds c.in-Some.behind.now) c.in-Some.ensures, init_shorter c.args.budget (kinds c.in-Some.behind.now) (view_init c.in_ok-item.item) (kinds c.in_ok-item.after.now) c.in_ok-item.ensures.same)) c.all.invariant.0,
+      omega (arith, inits_more c.all.items.items c.in_ok-item.item, c.all.invariant.1, c.in_ok-item.ensures.size),
       omega (arith, c.all.invariant.2, c.in_ok-item.ensures.within),
     )
 

@@ -4,11 +4,12 @@ use Rattle.limbo_tree.specs.View as trees
 use Rattle.limbo_types.specs.View.{view_fn}
 use Rattle.limbo_typed.specs.View.{view_expr}
 use Rattle.limbo_typed.specs.Typed.{Expr}
-use Rattle.limbo_names.specs.declared.fault.Cause.{Cause}
+use Rattle.limbo_names.specs.declared.fault.Unmet.{Unmet}
 use Rattle.limbo_names.specs.View.{Gives, Refuses, view_scope}
 use Rattle.limbo_check_expr.specs.Checking.{type_all}
 use Rattle.limbo_check_expr.specs.View.{view_env}
 use Rattle.limbo_check_expr.proofs.Views.{one_none, one_some, as_number, call_fails}
+use Rattle.limbo_check_expr.proofs.Others.{no_form}
 use Rattle.limbo_check_expr.proofs.expr.+types.Goals as goal
 
 pub types-returns-in_err-xs-in-Call : goal.types-returns-in_err-xs-in-Call
@@ -20,7 +21,7 @@ types-returns-in_err-xs-in-Call t c =
 
 pub types-returns-in-Number : goal.types-returns-in-Number
 types-returns-in-Number t c =
-    subst (λ (r : Result Expr Cause). Gives view_expr c.number.result r)
+    subst (λ (r : Result Expr Unmet). Gives view_expr c.number.result r)
     (sym (as_number (view_scope c.args.scope.now) (view_env c.args.env.now) c.args.e.now c.in-Number.value c.in-Number.wide c.in-Number.span c.in-Number.is)) c.number.ensures
 
 pub types_one-returns-then-es-ne1 : goal.types_one-returns-then-es-ne1
@@ -29,5 +30,9 @@ types_one-returns-then-es-ne1 t c =
 
 pub types_one-returns : goal.types_one-returns
 types_one-returns t c =
-    subst (λ (r : Result Expr Cause). Gives view_expr c.types.result r)
+    subst (λ (r : Result Expr Unmet). Gives view_expr c.types.result r)
     (sym (one_some (view_scope c.args.scope.now) (view_env c.args.env.now) c.args.es.now c.index-es-0.result c.if-es-ne1.false c.index-es-0.is)) c.types.ensures
+
+pub types-returns-in_default : goal.types-returns-in_default
+types-returns-in_default t c =
+    rw c.refused.ensures (no_form (view_scope c.args.scope.now) (view_env c.args.env.now) c.args.e.now c.in_default.not-Number c.in_default.not-Name c.in_default.not-Group c.in_default.not-Binary c.in_default.not-Call)

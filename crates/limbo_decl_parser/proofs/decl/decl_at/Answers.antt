@@ -7,4 +7,4 @@ use Rattle.limbo_decl_parser.proofs.decl.decl_at.Goals as goal
 
 pub returns-clause-shorter : goal.returns-clause-shorter
 returns-clause-shorter c =
-    gives_shorter (c.args.budget + 2) (λ x. view_decl x.0) (λ x. kinds x.1.now) c.decl_here.result (kinds c.args.tokens.now) (decls.decl_at c.args.budget (kinds c.args.tokens.now)) c.decl_here.ensures (decl_keeps c.args.budget (kinds c.args.tokens.now))
+    gives_shorter (c.args.budget + 2) (λ x. view_decl x.0.value) (λ x. kinds x.1.now) c.decl_here.result (kinds c.args.tokens.now) (decls.decl_at c.args.budget (kinds c.args.tokens.now)) c.decl_here.ensures (decl_keeps c.args.budget (kinds c.args.tokens.now))

@@ -16,7 +16,7 @@ returns-in_err-first c =
 
 pub types-init : goal.types-init
 types-init c =
-    rw (c.in_ok-push.ensures.items, c.new-types.ensures.items) (items_start view_type (ty_at c.args.budget) (after_mark mark.Comma) (kinds c.args.tokens.now) c.in_ok-first.first (kinds c.in_ok-first.rest.now) c.in_ok-first.ensures.same)
+    rw (c.in_ok-push_type.ensures.items, c.new-types.ensures.items) (items_start view_type (ty_at c.args.budget) (after_mark mark.Comma) (kinds c.args.tokens.now) c.in_ok-first.first.value (kinds c.in_ok-first.rest.now) c.in_ok-first.ensures.same)
 
 pub returns-in_err-of : goal.returns-in_err-of
 returns-in_err-of c =
@@ -25,11 +25,11 @@ returns-in_err-of c =
 
 pub types-preserved : goal.types-preserved
 types-preserved c =
-    rw c.in_ok-push-2.ensures.items (reading_more view_type (ty_at c.args.budget) (after_mark mark.Comma) _ c.types.types.items (kinds c.types.rest.now) (kinds c.in-Some.behind.now) (kinds c.in_ok-of.after.now) c.in_ok-of.of c.in-Some.ensures c.in_ok-of.ensures.same (omega (arith, mark_shorter mark.Comma (kinds c.types.rest.now) (kinds c.in-Some.behind.now) c.in-Some.ensures, ty_shorter c.args.budget (kinds c.in-Some.behind.now) (view_type c.in_ok-of.of) (kinds c.in_ok-of.after.now) c.in_ok-of.ensures.same)) c.types.invariant)
+    rw c.in_ok-push_type-2.ensures.items (reading_more view_type (ty_at c.args.budget) (after_mark mark.Comma) _ c.types.types.items (kinds c.types.rest.now) (kinds c.in-Some.behind.now) (kinds c.in_ok-of.after.now) c.in_ok-of.of.value c.in-Some.ensures c.in_ok-of.ensures.same (omega (arith, mark_shorter mark.Comma (kinds c.types.rest.now) (kinds c.in-Some.behind.now) c.in-Some.ensures, ty_shorter c.args.budget (kinds c.in-Some.behind.now) (view_type c.in_ok-of.of.value) (kinds c.in_ok-of.after.now) c.in_ok-of.ensures.same)) c.types.invariant)
 
 pub types-smaller : goal.types-smaller
 types-smaller c =
-    omega (arith, mark_shorter mark.Comma (kinds c.types.rest.now) (kinds c.in-Some.behind.now) c.in-Some.ensures, ty_shorter c.args.budget (kinds c.in-Some.behind.now) (view_type c.in_ok-of.of) (kinds c.in_ok-of.after.now) c.in_ok-of.ensures.same)
+    omega (arith, mark_shorter mark.Comma (kinds c.types.rest.now) (kinds c.in-Some.behind.now) c.in-Some.ensures, ty_shorter c.args.budget (kinds c.in-Some.behind.now) (view_type c.in_ok-of.of.value) (kinds c.in_ok-of.after.now) c.in_ok-of.ensures.same)
 
 pub returns : goal.returns
 returns c = reading_end view_type (ty_at c.args.budget) (after_mark mark.Comma) _ c.types.types.items (kinds c.types.rest.now) c.in_default.ensures c.types.invariant

@@ -14,12 +14,12 @@ members_at-returns-in_err-member t c =
     rw (p.1, p.2) (going_fails c.in_err-member.field-0.0 view_member (member_at c.args.budget) members_end _ c.members.members.items (kinds c.members.rest.now) (rw on refl) c.in_err-member.ensures c.members.invariant)
 
 pub members_at-members-smaller : goal.members_at-members-smaller
-members_at-members-smaller t c = omega (arith, member_shorter c.args.budget (kinds c.members.rest.now) (view_member c.in_ok-member.member) (kinds c.in_ok-member.after.now) c.in_ok-member.ensures)
+members_at-members-smaller t c = omega (arith, member_shorter c.args.budget (kinds c.members.rest.now) (view_member c.in_ok-member.member.value) (kinds c.in_ok-member.after.now) c.in_ok-member.ensures)
 
 pub members_at-members-preserved : goal.members_at-members-preserved
 members_at-members-preserved t c =
     let on : ends_members (kinds c.members.rest.now) ≡ false = cc in
-    rw c.in_ok-push.ensures.items (going_more view_member (member_at c.args.budget) members_end _ c.members.members.items (kinds c.members.rest.now) (kinds c.in_ok-member.after.now) c.in_ok-member.member (rw on refl) c.in_ok-member.ensures (member_shorter c.args.budget (kinds c.members.rest.now) (view_member c.in_ok-member.member) (kinds c.in_ok-member.after.now) c.in_ok-member.ensures) c.members.invariant)
+    rw c.in_ok-push_member.ensures.items (going_more view_member (member_at c.args.budget) members_end _ c.members.members.items (kinds c.members.rest.now) (kinds c.in_ok-member.after.now) c.in_ok-member.member.value (rw on refl) c.in_ok-member.ensures (member_shorter c.args.budget (kinds c.members.rest.now) (view_member c.in_ok-member.member.value) (kinds c.in_ok-member.after.now) c.in_ok-member.ensures) c.members.invariant)
 
 pub members_at-returns : goal.members_at-returns
 members_at-returns t c =

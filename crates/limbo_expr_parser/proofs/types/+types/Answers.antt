@@ -7,7 +7,7 @@ use Rattle.limbo_reading.proofs.Steps.{mark_shorter}
 use Rattle.limbo_reading.proofs.Loops.{items_start, items_fail, reading_more, reading_end, reading_fails}
 use Rattle.limbo_expr_parser.specs.Types.{ty_at, types_at}
 use Rattle.limbo_expr_parser.proofs.TypeSteps.{ty_shorter, types_one, types_more, tuple_few, tuple_whole}
-use Rattle.limbo_expr_parser.proofs.View.{view_type-Tuple}
+use Rattle.limbo_tree.proofs.Exprs.{view_type-Tuple}
 use Rattle.limbo_expr_parser.proofs.types.+types.Goals as goal
 
 pub types_at-returns-in_err-first-clause-same : goal.types_at-returns-in_err-first-clause-same
@@ -19,9 +19,9 @@ types_at-returns-in_err-first-clause-same t c =
 pub types_at-all-init : goal.types_at-all-init
 unfolding types_at
 types_at-all-init t c =
-    rw (c.in_ok-push.ensures.items, c.new-parts.ensures.items) (
-      items_start view_type (ty_at c.args.budget) (after_mark mark.Comma) (kinds c.args.tokens.now) c.in_ok-first.first (kinds c.in_ok-first.rest.now) c.in_ok-first.ensures.same,
-      c.in_ok-first.ensures.size ∙ sym (types_one c.in_ok-first.first),
+    rw (c.in_ok-push_type.ensures.items, c.new-parts.ensures.items) (
+      items_start view_type (ty_at c.args.budget) (after_mark mark.Comma) (kinds c.args.tokens.now) c.in_ok-first.first.value (kinds c.in_ok-first.rest.now) c.in_ok-first.ensures.same,
+      c.in_ok-first.ensures.size ∙ sym (types_one c.in_ok-first.first.value),
       c.in_ok-first.ensures.within,
     )
 
@@ -32,13 +32,13 @@ types_at-returns-in_err-part-clause-same t c =
 
 pub types_at-all-smaller : goal.types_at-all-smaller
 types_at-all-smaller t c =
-    omega (arith, mark_shorter mark.Comma (kinds c.all.rest.now) (kinds c.in-Some.behind.now) c.in-Some.ensures, ty_shorter c.args.budget (kinds c.in-Some.behind.now) (view_type c.in_ok-part.part) (kinds c.in_ok-part.after.now) c.in_ok-part.ensures.same)
+    omega (arith, mark_shorter mark.Comma (kinds c.all.rest.now) (kinds c.in-Some.behind.now) c.in-Some.ensures, ty_shorter c.args.budget (kinds c.in-Some.behind.now) (view_type c.in_ok-part.part.value) (kinds c.in_ok-part.after.now) c.in_ok-part.ensures.same)
 
 pub types_at-all-preserved : goal.types_at-all-preserved
 types_at-all-preserved t c =
-    rw (c.in_ok-push-2.ensures.items, c.max-size.ensures) (
-      reading_more view_type (ty_at c.args.budget) (after_mark mark.Comma) _ c.all.parts.items (kinds c.all.rest.now) (kinds c.in-Some.behind.now) (kinds c.in_ok-part.after.now) c.in_ok-part.part c.in-Some.ensures c.in_ok-part.ensures.same (omega (arith, mark_shorter mark.Comma (kinds c.all.rest.now) (kinds c.in-Some.behind.now) c.in-Some.ensures, ty_shorter c.args.budget (kinds c.in-Some.behind.now) (view_type c.in_ok-part.part) (kinds c.in_ok-part.after.now) c.in_ok-part.ensures.same)) c.all.invariant.0,
-      omega (arith, types_more c.all.parts.items c.in_ok-part.part, c.all.invariant.1, c.in_ok-part.ensures.size),
+    rw (c.in_ok-push_type-2.ensures.items, c.max-size.ensures) (
+      reading_more view_type (ty_at c.args.budget) (after_mark mark.Comma) _ c.all.parts.items (kinds c.all.rest.now) (kinds c.in-Some.behind.now) (kinds c.in_ok-part.after.now) c.in_ok-part.part.value c.in-Some.ensures c.in_ok-part.ensures.same (omega (arith, mark_shorter mark.Comma (kinds c.all.rest.now) (kinds c.in-Some.behind.now) c.in-Some.ensures, ty_shorter c.args.budget (kinds c.in-Some.behind.now) (view_type c.in_ok-part.part.value) (kinds c.in_ok-part.after.now) c.in_ok-part.ensures.same)) c.all.invariant.0,
+      omega (arith, types_more c.all.parts.items c.in_ok-part.part.value, c.all.invariant.1, c.in_ok-part.ensures.size),
       omega (arith, c.all.invariant.2, c.in_ok-part.ensures.within),
     )
 
@@ -51,4 +51,4 @@ tuple_at-returns-then-len-lt2-clause-same t c =
 
 pub tuple_at-returns-clause-same : goal.tuple_at-returns-clause-same
 tuple_at-returns-clause-same t c =
-    rw view_type-Tuple (tuple_whole c.args.inner (kinds c.args.tokens.now) c.in_ok-parts.parts.items (kinds c.in_ok-parts.rest.now) (kinds c.in_ok-rest.rest.now) c.in_ok-parts.ensures.same (omega arith) c.in_ok-rest.ensures)
+    rw (c.in_ok-tree.ensures.same, view_type-Tuple) (tuple_whole c.args.inner (kinds c.args.tokens.now) c.in_ok-parts.parts.items (kinds c.in_ok-parts.rest.now) (kinds c.in_ok-rest.rest.now) c.in_ok-parts.ensures.same (omega arith) c.in_ok-rest.ensures)

@@ -3,9 +3,9 @@ use Rattle.std.proofs.lemmas.Result.{err_from_is_err_and}
 use Rattle.limbo_tree.specs.Stmts.{CaseHead, AltHead, PickHead, HandlerHead}
 use Rattle.limbo_tree.specs.View.{view_pattern, view_handler_pattern, view_stmt, names_of, view_case_arm, view_alt_arm, view_pick_arm, view_handler_arm}
 use Rattle.limbo_reading.specs.Reading.{kinds}
-use Rattle.limbo_expr_parser.specs.Boxes.{view_boxed}
+use Rattle.limbo_tree.specs.View.{view_boxed}
 use Rattle.limbo_parser.specs.declared.start.Region.TheVariants as region
-use Rattle.limbo_parser.proofs.View.{view_case_arm-is, boxed_alt_arm-is, view_pick_arm-is, view_handler_arm-is}
+use Rattle.limbo_tree.proofs.Stmts.{view_case_arm-is, view_alt_arm-is, view_pick_arm-is, view_handler_arm-is}
 use Rattle.limbo_parser.proofs.Going.{statements_more, statements_end, statements_fail, statements_test_fails, stmt_shorter, arms_more, arms_end, arms_front_fails, arms_body_fails, arm_shorter}
 use Rattle.limbo_parser.proofs.stmt.+statements.Goals as goal
 
@@ -25,11 +25,11 @@ stmts_at-returns-in_err-statement t c =
 
 pub stmts_at-statements-smaller : goal.stmts_at-statements-smaller
 stmts_at-statements-smaller t c =
-    stmt_shorter c.args.budget (kinds c.statements.rest.now) (view_stmt c.in_ok-statement.statement) (kinds c.in_ok-statement.after.now) c.in_ok-statement.ensures
+    stmt_shorter c.args.budget (kinds c.statements.rest.now) (view_stmt c.in_ok-statement.statement.value) (kinds c.in_ok-statement.after.now) c.in_ok-statement.ensures
 
 pub stmts_at-statements-preserved : goal.stmts_at-statements-preserved
 stmts_at-statements-preserved t c =
-    rw c.in_ok-push.ensures.items (statements_more c.args.budget c.args.region (kinds c.args.tokens.now) c.statements.statements.items (kinds c.statements.rest.now) (kinds c.in_ok-statement.after.now) c.in_ok-statement.statement (c.in_ok-done.ensures ∙ ap (λ (b : Bool). Ok b) c.if-done.false) c.in_ok-statement.ensures c.statements.invariant)
+    rw c.in_ok-push_stmt.ensures.items (statements_more c.args.budget c.args.region (kinds c.args.tokens.now) c.statements.statements.items (kinds c.statements.rest.now) (kinds c.in_ok-statement.after.now) c.in_ok-statement.statement.value (c.in_ok-done.ensures ∙ ap (λ (b : Bool). Ok b) c.if-done.false) c.in_ok-statement.ensures c.statements.invariant)
 
 pub case_arms_at-returns-in-Some : goal.case_arms_at-returns-in-Some
 case_arms_at-returns-in-Some t c = arms_end view_case_arm c.args.budget region.Case (kinds c.args.tokens.now) c.arms.arms.items (kinds c.arms.rest.now) (kinds c.in-Some.behind.now) c.in-Some.ensures c.arms.invariant
@@ -71,7 +71,7 @@ alt_arms_at-arms-smaller t c =
 
 pub alt_arms_at-arms-preserved : goal.alt_arms_at-arms-preserved
 alt_arms_at-arms-preserved t c =
-    rw c.in_ok-push.ensures.items (arms_more view_alt_arm c.args.budget region.Alt (kinds c.args.tokens.now) c.arms.arms.items (kinds c.arms.rest.now) (kinds c.in_ok-head.after.now) (kinds c.in_ok-body.after.now) (AltHead (view_boxed c.in_ok-head.head)) (map view_stmt c.in_ok-body.body.items) _ c.in_default.ensures c.in_ok-head.ensures c.in_ok-body.ensures (boxed_alt_arm-is c.unboxed-head.result (view_boxed c.in_ok-head.head) c.in_ok-body.body c.place-span.result c.unboxed-head.ensures) c.arms.invariant)
+    rw c.in_ok-push.ensures.items (arms_more view_alt_arm c.args.budget region.Alt (kinds c.args.tokens.now) c.arms.arms.items (kinds c.arms.rest.now) (kinds c.in_ok-head.after.now) (kinds c.in_ok-body.after.now) (AltHead (view_boxed c.in_ok-head.head)) (map view_stmt c.in_ok-body.body.items) _ c.in_default.ensures c.in_ok-head.ensures c.in_ok-body.ensures (view_alt_arm-is c.in_ok-head.head c.in_ok-body.body c.place-span.result) c.arms.invariant)
 
 pub pick_arms_at-returns-in-Some : goal.pick_arms_at-returns-in-Some
 pick_arms_at-returns-in-Some t c = arms_end view_pick_arm c.args.budget region.Pick (kinds c.args.tokens.now) c.arms.arms.items (kinds c.arms.rest.now) (kinds c.in-Some.behind.now) c.in-Some.ensures c.arms.invariant

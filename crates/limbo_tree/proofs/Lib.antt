@@ -1,0 +1,4 @@
+pub mod Exprs
+pub mod Members
+pub mod Stmts
+pub mod Others
