@@ -9,6 +9,7 @@ ghost use Rattle.dis_meaning.specs.Opening.{StringsSpell};
 ghost use Rattle.dis_codegen.specs.Sites.{AllSmall};
 ghost use Rattle.code_sim.specs.Keeps.{object_for, Keeps, JournalsAreRuns, NeverFaults};
 ghost use Rattle.code_sim.specs.Begins.{Begins};
+ghost use Rattle.code_sim.specs.Frames.{FramesFit};
 
 /// The object of a module that the checker would take keeps its meaning: both passes of the compiler together.
 pub fn object_keeps_meaning()
@@ -17,10 +18,12 @@ pub fn object_keeps_meaning()
     ensures never_faults { (m : Module) → IsProper m → NeverFaults m }
 {}
 
-/// What the first pass makes, the second takes: it is proper code, and its frames are small enough.
+/// What the first pass makes, the second takes: it is proper code, and its frames are small enough. The frames of the object are no
+/// larger than the rule of frame sizes says.
 pub fn passes_fit()
     ensures proper { (m : Module) → IsProper m → core.IsProper (module_code m) }
     ensures small { (m : Module) → IsProper m → (FrameTooLarge m → ⊥) → AllSmall (module_code m).functions }
+    ensures frames { (m : Module) → IsProper m → FramesFit m }
 {}
 
 /// A machine of a module's object can begin, and begins with just what the object's keeping of the module begins with.

@@ -23,7 +23,7 @@ const UNKNOWN_FID: [char; 11] = ['u', 'n', 'k', 'n', 'o', 'w', 'n', ' ', 'f', 'i
 #[derive(Drop, Debug)]
 pub struct Console {
     /// Whether its sink has failed.
-    pub failed: bool,
+    failed: bool,
 }
 
 /// A refusal with this text.

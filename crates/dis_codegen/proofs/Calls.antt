@@ -20,7 +20,7 @@ use Rattle.core_code.specs.Machine as machine
 use Rattle.core_code.specs.Machine.{Slots, put, taken}
 use Rattle.core_code.specs.Step as core_step
 use Rattle.core_code.specs.Proper.{IsInt, AreInts, Runs, Takes, ProperInst, IsProper}
-use Rattle.dis_meaning.specs.Words.{InFrame, Word, Plain, Address, Found, Wrong, ◌>>=◌, bad_jump, dead_address, word_number, blank}
+use Rattle.dis_meaning.specs.Words.{InFrame, Word, Plain, Address, Found, Wrong, ◌>>=◌, bad_jump, word_number, blank}
 use Rattle.dis_meaning.specs.World.{World}
 use Rattle.dis_meaning.specs.Process as dis
 use Rattle.dis_meaning.specs.Process.{Frame, Process, with_words, with_frames, at_pc}
@@ -37,7 +37,7 @@ use Rattle.dis_codegen.proofs.Lookups.{HasAt, Coded, coded, arguments_length, ha
 use Rattle.dis_codegen.proofs.Runs.{slots_behind, slot_at, behind_at, behind_stored, place_on, rests, at_once, steps_once, remade, stack_same, linkage_kept}
 use Rattle.dis_codegen.proofs.Data.{middle_is}
 use Rattle.dis_codegen.proofs.Paces.{far_is}
-use Rattle.dis_codegen.proofs.Far.{NoneHas, made_words, made_with, made_stored}
+use Rattle.dis_codegen.proofs.Far.{NoneHas, made_words, made_with, made_stored, made_found}
 use Rattle.dis_codegen.proofs.Frames.{blank_slots, blank_linkage, plains_are, rows, ArePlain, all_stored, values_plain, rows_length, rows_before, rows_behind, rows_in, past_values, none_at, taken_length}
 use Rattle.dis_codegen.proofs.Simple.{Done, Goal, core_is, by_instruction, its_code, is_proper, within_code, some_code}
 
@@ -223,7 +223,7 @@ module _ (m : Module) (proper : IsProper m) (k : Bool) (n : ℕ) (w : outside.Wo
         let long : length (map word_of vs) ≡ suc c = length-map vs word_of ∙ taken_length p.frame.slots args (suc c) in
         movm frames_limit (object_of m) x r (slot args) (number_middle (fits_middle (4 * suc c)) (4 * suc c) datum) (in_made Own_function.slots (pos to))
         (Own (slot_offset args)) (Far (InFrame made.serial) (pos 0 +ℤ pos to)) r.frame.words made.words (rows made.words j (map word_of vs)) (8 + args) j (4 * suc c) (suc c) (pos (4 * suc c)) (map word_of vs) _
-        refl refl (slot_number args) (middle_is m k w x r ws h.frame.instance (fits_middle (4 * suc c)) (4 * suc c) datum (in_made Own_function.slots (pos to)) held) refl (number_at (4 * suc c) (suc c) refl)
+        refl refl (slot_number args) (middle_is m k w x r ws h.frame.instance (fits_middle (4 * suc c)) (4 * suc c) datum held) refl (number_at (4 * suc c) (suc c) refl)
         (plains_are Own_function p.frame.slots (made_at made) r.frame.words h.frame.has args (suc c) ints)
         (in_made_is to) (made_words x r made h.frames not_own not_below (pos 0 +ℤ pos to)) at
         (all_stored made.words j (map word_of vs) (values_plain vs) (subst (ArePlain made.words j) (sym long) are))
@@ -383,8 +383,8 @@ module _ (m : Module) (proper : IsProper m) (k : Bool) (n : ℕ) (w : outside.Wo
         (by_height (nat_lt (suc (length p.below)) frames_limit)
         (core_is m w p S i h.frame.found (there_is offset (made_at made) (made ∷ []) h i e) ∙ ap (λ c. machine.calls frames_limit w p into f c (taken p.frame.slots args count)) (callee_code)) (called_ready off its answers)))
       where
-        is_found : frame_at r (made_at made) ≡ Found made
-        is_found = ap (λ fs. dis_step.made_frame fs made.serial) h.frames ∙ ap (λ t. if t then Found made else Wrong dead_address) (eq-eqb made.serial made.serial refl)
+        is_found : frame_at x r (made_at made) ≡ Found made
+        is_found = made_found x r made h.frames (not_own offset made h is) (not_below offset made h is) (pos 0)
 
         is_gone : dis_step.without made.serial r.made ≡ []
         is_gone = ap (dis_step.without made.serial) h.frames ∙ ap (λ t. if t then [] else made ∷ []) (eq-eqb made.serial made.serial refl)

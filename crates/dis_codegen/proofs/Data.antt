@@ -8,7 +8,7 @@ use Rattle.dis_meaning.specs.Words.{Word, Plain, Refer, Found, ◌>>=◌, dead_a
 use Rattle.dis_meaning.specs.World as memory
 use Rattle.dis_meaning.specs.World.{Content, Instance, World}
 use Rattle.dis_meaning.specs.Process.{Process}
-use Rattle.dis_meaning.specs.Places.{Data, data_of, data_at, read, source_plain, middle_number}
+use Rattle.dis_meaning.specs.Places.{Data, data_of, data_at, read, source_plain, given_number}
 use Rattle.dis_codegen.specs.Code.{Datum, Text, Number, datum_offset, number_datum, number_source, number_middle}
 use Rattle.dis_codegen.specs.Objects.{module_data}
 use Rattle.dis_codegen.specs.Start.{data_words, data_texts, opening_blocks}
@@ -67,9 +67,9 @@ module _ (m : Module) (k : Bool) (w : outside.World) (x : World) (r : Process) (
   source_is true n j h = refl
   source_is false n j h = ap (λ a. a >>= plain) (number_read j n h.0)
 
-  pub middle_is : (b : Bool) (n j : ℕ) (dst : Operand) → HasAt (module_data m.functions) j (number_datum b (pos n)) → middle_number x r (number_middle b n j) dst ≡ Found (pos n)
-  middle_is true n j dst h = refl
-  middle_is false n j dst h = ap (λ a. a >>= number_in) (number_read j (pos n) h.0)
+  pub middle_is : (b : Bool) (n j : ℕ) → HasAt (module_data m.functions) j (number_datum b (pos n)) → given_number x r (number_middle b n j) ≡ Found (pos n)
+  middle_is true n j h = refl
+  middle_is false n j h = ap (λ a. a >>= number_in) (number_read j (pos n) h.0)
 
   -- A text: its word, and the block that has it.
   pub record Texts (j : ℕ) (t : List ℕ) : Type 0 where

@@ -1,10 +1,11 @@
 -- Reads and stores through the address of a frame.
-use Rattle.std.proofs.Common.{◌≡◌, ℕ, ℤ, Bool, true, false, List, [], ◌∷◌, ◌++◌, map, refl, ap, ◌∙◌, if◌then◌else◌}
+use Rattle.std.proofs.Common.{◌≡◌, ℕ, ℤ, pos, Bool, true, false, List, [], ◌∷◌, ◌++◌, map, refl, ap, ◌∙◌, if◌then◌else◌}
 use Rattle.std.specs.Prelude.{nat_eq}
 use Rattle.std.proofs.lemmas.Bool.{eq-eqb, eqb-true}
-use Rattle.dis_meaning.specs.Words.{InFrame, Word, Found, ◌>>=◌, stored}
+use Rattle.dis_meaning.specs.Words.{InFrame, Word, Address, Found, Wrong, ◌>>=◌, stored, type_check}
 use Rattle.dis_meaning.specs.World.{World}
 use Rattle.dis_meaning.specs.Process.{Frame, Process, with_words, with_frames}
+use Rattle.dis_meaning.specs.Step.{made_frame, frame_at}
 use Rattle.dis_meaning.specs.Places.{Far, words_in, words_at, store, change, with_words_at}
 
 unequal : (a b : ℕ) → (a ≡ b → ⊥) → nat_eq a b ≡ false
@@ -42,6 +43,12 @@ module _ (x : World) (r : Process) (n : Frame) (one : r.made ≡ n ∷ []) (own 
   pub made_words : words_at x r (Far (InFrame n.serial) at) ≡ Found n.words
   made_words =
       words_behind n.serial (r.frame ∷ r.below) r.made (own, below) ∙ ap (words_in n.serial) one ∙ words_here n.serial n [] refl
+
+  pub made_found : frame_at x r (Address (InFrame n.serial) (pos 0)) ≡ Found n
+  made_found =
+      ap (λ a. a >>= λ words. made_frame r.made n.serial) made_words
+      ∙ ap (λ fs. made_frame fs n.serial) one
+      ∙ ap (λ t. if t then Found n else Wrong type_check) (eq-eqb n.serial n.serial refl)
 
   pub made_with : (words : List Word) → with_words_at x r (Far (InFrame n.serial) at) words ≡ Found (record { world = x; process = with_frames r r.frame r.below (with_words n words ∷ []) })
   made_with words =

@@ -14,7 +14,7 @@ use Rattle.dis_file.specs.declared.types.TypeDesc.{TypeDesc}
 use Rattle.dis_meaning.specs.Words.{InFrame, Word, Plain, Refer, Address, Found, ◌>>=◌, type_check, or_wrong, reference, word_number, blank}
 use Rattle.dis_meaning.specs.World.{Content, World}
 use Rattle.dis_meaning.specs.Process.{Frame, Process, Does}
-use Rattle.dis_meaning.specs.Places.{Spot, Memory, read, store, spot, source_number, source_plain, source_word, middle_number, words_at, with_words_at, place_in, address}
+use Rattle.dis_meaning.specs.Places.{Spot, Memory, read, store, spot, source_number, source_plain, source_word, given_number, middle_number, words_at, with_words_at, place_in, address}
 use Rattle.dis_meaning.specs.Step.{next, target, branch, jumps, framed, frame_at, calls, plains, all_replaced, at_least_zero, middle_immediate, text_at, loaded, module_at, function_of, sys_call, operates, tests, obey}
 use Rattle.dis_codegen.specs.Code.{inst}
 
@@ -52,10 +52,10 @@ module _ (limit : ℕ) (o : Object) (x : World) (r : Process) where
       ∙ ap (λ e. e >>= λ after. Found (next after)) e
 
   -- A branch by a test of two numbers.
-  pub tested : (i : Inst) (f : ℤ → ℤ → Bool) (s m : ℤ) (pc : ℕ) → source_number x r i.src ≡ Found s → middle_number x r i.middle i.dst ≡ Found m → target o i.dst ≡ Found pc →
+  pub tested : (i : Inst) (f : ℤ → ℤ → Bool) (s m : ℤ) (pc : ℕ) → source_number x r i.src ≡ Found s → given_number x r i.middle ≡ Found m → target o i.dst ≡ Found pc →
       tests o x r i f ≡ Found (branch x r (f s m) pc)
   tested i f s m pc a b c =
-      ap (λ e. e >>= λ s. middle_number x r i.middle i.dst >>= λ m. target o i.dst >>= λ pc. Found (branch x r (f s m) pc)) a
+      ap (λ e. e >>= λ s. given_number x r i.middle >>= λ m. target o i.dst >>= λ pc. Found (branch x r (f s m) pc)) a
       ∙ ap (λ e. e >>= λ m. target o i.dst >>= λ pc. Found (branch x r (f s m) pc)) b
       ∙ ap (λ e. e >>= λ pc. Found (branch x r (f s m) pc)) c
 
@@ -69,21 +69,21 @@ module _ (limit : ℕ) (o : Object) (x : World) (r : Process) where
       ∙ ap (λ e. e >>= λ d. store x r d (Address (InFrame r.frames) (pos 0)) >>= λ m. Found (next (framed m (blank desc)))) b
       ∙ ap (λ e. e >>= λ m. Found (next (framed m (blank desc)))) c
 
-  pub call : (src dst : Operand) (w : Word) (f : Frame) (pc : ℕ) → source_word x r src ≡ Found w → frame_at r w ≡ Found f → target o dst ≡ Found pc →
+  pub call : (src dst : Operand) (w : Word) (f : Frame) (pc : ℕ) → source_word x r src ≡ Found w → frame_at x r w ≡ Found f → target o dst ≡ Found pc →
       obey limit o x r (inst op.Call src middle.None dst) op.Call ≡ Found (calls limit x r f pc)
   call src dst w f pc a b c =
-      ap (λ e. e >>= frame_at r >>= λ f. target o dst >>= λ pc. Found (calls limit x r f pc)) a
+      ap (λ e. e >>= frame_at x r >>= λ f. target o dst >>= λ pc. Found (calls limit x r f pc)) a
       ∙ ap (λ e. e >>= λ f. target o dst >>= λ pc. Found (calls limit x r f pc)) b
       ∙ ap (λ e. e >>= λ pc. Found (calls limit x r f pc)) c
 
   pub movm : (src : Operand) (mid : Middle) (dst : Operand) (s d : Spot) (from into words : List Word) (k j bytes count : ℕ) (n : ℤ) (vs : List Word) (after : Memory) →
-      spot x r src ≡ Found s → words_at x r s ≡ Found from → word_number (place_in s) ≡ Found k → middle_number x r mid dst ≡ Found n → at_least_zero n ≡ Found bytes → word_number (pos bytes) ≡ Found count →
+      spot x r src ≡ Found s → words_at x r s ≡ Found from → word_number (place_in s) ≡ Found k → given_number x r mid ≡ Found n → at_least_zero n ≡ Found bytes → word_number (pos bytes) ≡ Found count →
       plains from k count ≡ Found vs → spot x r dst ≡ Found d → words_at x r d ≡ Found into → word_number (place_in d) ≡ Found j → all_replaced into j vs ≡ Found words → with_words_at x r d words ≡ Found after →
       obey limit o x r (inst op.Movm src mid dst) op.Movm ≡ Found (next after)
   movm src mid dst s d from into words k j bytes count n vs after a1 a2 a3 a4 a5 a6 a7 a8 a9 a10 a11 a12 =
-      ap (λ e. e >>= λ s. words_at x r s >>= λ from. word_number (place_in s) >>= λ k. middle_number x r mid dst >>= at_least_zero >>= λ bytes. word_number (pos bytes) >>= λ count. plains from k count >>= λ vs. spot x r dst >>= λ d. words_at x r d >>= λ into. word_number (place_in d) >>= λ j. all_replaced into j vs >>= with_words_at x r d >>= λ m. Found (next m)) a1
-      ∙ ap (λ e. e >>= λ from. word_number (place_in s) >>= λ k. middle_number x r mid dst >>= at_least_zero >>= λ bytes. word_number (pos bytes) >>= λ count. plains from k count >>= λ vs. spot x r dst >>= λ d. words_at x r d >>= λ into. word_number (place_in d) >>= λ j. all_replaced into j vs >>= with_words_at x r d >>= λ m. Found (next m)) a2
-      ∙ ap (λ e. e >>= λ k. middle_number x r mid dst >>= at_least_zero >>= λ bytes. word_number (pos bytes) >>= λ count. plains from k count >>= λ vs. spot x r dst >>= λ d. words_at x r d >>= λ into. word_number (place_in d) >>= λ j. all_replaced into j vs >>= with_words_at x r d >>= λ m. Found (next m)) a3
+      ap (λ e. e >>= λ s. words_at x r s >>= λ from. word_number (place_in s) >>= λ k. given_number x r mid >>= at_least_zero >>= λ bytes. word_number (pos bytes) >>= λ count. plains from k count >>= λ vs. spot x r dst >>= λ d. words_at x r d >>= λ into. word_number (place_in d) >>= λ j. all_replaced into j vs >>= with_words_at x r d >>= λ m. Found (next m)) a1
+      ∙ ap (λ e. e >>= λ from. word_number (place_in s) >>= λ k. given_number x r mid >>= at_least_zero >>= λ bytes. word_number (pos bytes) >>= λ count. plains from k count >>= λ vs. spot x r dst >>= λ d. words_at x r d >>= λ into. word_number (place_in d) >>= λ j. all_replaced into j vs >>= with_words_at x r d >>= λ m. Found (next m)) a2
+      ∙ ap (λ e. e >>= λ k. given_number x r mid >>= at_least_zero >>= λ bytes. word_number (pos bytes) >>= λ count. plains from k count >>= λ vs. spot x r dst >>= λ d. words_at x r d >>= λ into. word_number (place_in d) >>= λ j. all_replaced into j vs >>= with_words_at x r d >>= λ m. Found (next m)) a3
       ∙ ap (λ e. e >>= at_least_zero >>= λ bytes. word_number (pos bytes) >>= λ count. plains from k count >>= λ vs. spot x r dst >>= λ d. words_at x r d >>= λ into. word_number (place_in d) >>= λ j. all_replaced into j vs >>= with_words_at x r d >>= λ m. Found (next m)) a4
       ∙ ap (λ e. e >>= λ bytes. word_number (pos bytes) >>= λ count. plains from k count >>= λ vs. spot x r dst >>= λ d. words_at x r d >>= λ into. word_number (place_in d) >>= λ j. all_replaced into j vs >>= with_words_at x r d >>= λ m. Found (next m)) a5
       ∙ ap (λ e. e >>= λ count. plains from k count >>= λ vs. spot x r dst >>= λ d. words_at x r d >>= λ into. word_number (place_in d) >>= λ j. all_replaced into j vs >>= with_words_at x r d >>= λ m. Found (next m)) a6
@@ -94,11 +94,11 @@ module _ (limit : ℕ) (o : Object) (x : World) (r : Process) where
       ∙ ap (λ e. e >>= with_words_at x r d >>= λ m. Found (next m)) a11
       ∙ ap (λ e. e >>= λ m. Found (next m)) a12
 
-  pub mcall : (src dst : Operand) (k : ℕ) (w v : Word) (f : Frame) (ref : Option ℕ) (c : Content) (name : List ℕ) (e : Does) → source_word x r src ≡ Found w → frame_at r w ≡ Found f → source_word x r dst ≡ Found v → reference v ≡ Found ref → module_at x ref ≡ Found c →
+  pub mcall : (src dst : Operand) (k : ℕ) (w v : Word) (f : Frame) (ref : Option ℕ) (c : Content) (name : List ℕ) (e : Does) → source_word x r src ≡ Found w → frame_at x r w ≡ Found f → source_word x r dst ≡ Found v → reference v ≡ Found ref → module_at x ref ≡ Found c →
       function_of c k ≡ Found name → sys_call x r name f ≡ Found e →
       obey limit o x r (inst op.Mcall src (middle.Imm (pos k)) dst) op.Mcall ≡ Found e
   mcall src dst k w v f ref c name e a1 a2 a3 a4 a5 a6 a7 =
-      ap (λ e. e >>= frame_at r >>= λ f. source_word x r dst >>= reference >>= module_at x >>= λ c. function_of c k >>= λ name. sys_call x r name f) a1
+      ap (λ e. e >>= frame_at x r >>= λ f. source_word x r dst >>= reference >>= module_at x >>= λ c. function_of c k >>= λ name. sys_call x r name f) a1
       ∙ ap (λ e. e >>= λ f. source_word x r dst >>= reference >>= module_at x >>= λ c. function_of c k >>= λ name. sys_call x r name f) a2
       ∙ ap (λ e. e >>= reference >>= module_at x >>= λ c. function_of c k >>= λ name. sys_call x r name f) a3
       ∙ ap (λ e. e >>= module_at x >>= λ c. function_of c k >>= λ name. sys_call x r name f) a4

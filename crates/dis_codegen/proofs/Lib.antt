@@ -24,5 +24,6 @@ pub mod Entry
 pub mod Follows
 pub mod Whole
 pub mod Kept
+pub mod Entered
 pub mod Under
 pub mod Spelled

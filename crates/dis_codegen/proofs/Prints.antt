@@ -18,7 +18,7 @@ use Rattle.core_code.specs.Machine as machine
 use Rattle.core_code.specs.Machine.{Slots, put, taken}
 use Rattle.core_code.specs.Step as core_step
 use Rattle.core_code.specs.Proper.{IsInt, AreInts, Runs, PrintsAt, IsProper}
-use Rattle.dis_meaning.specs.Words.{InFrame, Word, Plain, Refer, Address, Access, Found, Wrong, ◌>>=◌, type_check, dead_address, or_wrong, reference, stored, blank}
+use Rattle.dis_meaning.specs.Words.{InFrame, Word, Plain, Refer, Address, Access, Found, ◌>>=◌, type_check, dead_address, or_wrong, reference, stored, blank}
 use Rattle.dis_meaning.specs.World as memory
 use Rattle.dis_meaning.specs.World.{Content, World}
 use Rattle.dis_meaning.specs.Process as dis
@@ -38,7 +38,7 @@ use Rattle.dis_codegen.proofs.Instructions.{frame, movp, mcall}
 use Rattle.dis_codegen.proofs.Lookups.{HasAt, Coded, has_back, arguments_length, print_type_is}
 use Rattle.dis_codegen.proofs.Runs.{slots_behind, slots_put, behind_at, behind_stored, place_on, rests, at_once, steps_once, remade, stack_same, linkage_kept}
 use Rattle.dis_codegen.proofs.Data.{data_read, text_read, block_kept}
-use Rattle.dis_codegen.proofs.Far.{NoneHas, made_stored, own_stored}
+use Rattle.dis_codegen.proofs.Far.{NoneHas, made_stored, made_found, own_stored}
 use Rattle.dis_codegen.proofs.Texts.{format_is, numbers_are, get_seam, set_seam, drop_seam, rows_seam, zeros_plain, blank_print, most_of}
 use Rattle.dis_codegen.proofs.Frames.{rows, ArePlain, taken_length}
 use Rattle.dis_codegen.proofs.Simple.{Done, core_is}
@@ -246,8 +246,8 @@ module _ (m : Module) (proper : IsProper m) (k : Bool) (n : ℕ) (w : outside.Wo
     gone : dis_step.without made.serial r.made ≡ []
     gone = ap (dis_step.without made.serial) h.frames ∙ ap (λ t. if t then [] else made ∷ []) (eq-eqb made.serial made.serial refl)
 
-    frame_found : frame_at r (made_at made) ≡ Found made
-    frame_found = ap (λ fs. dis_step.made_frame fs made.serial) h.frames ∙ ap (λ t. if t then Found made else Wrong dead_address) (eq-eqb made.serial made.serial refl)
+    frame_found : frame_at x r (made_at made) ≡ Found made
+    frame_found = made_found x r made h.frames (not_own m proper k n w x ws p r offset made h is) (not_below m proper k n w x ws p r offset made h is) (pos 0)
 
     none_like_own : NoneHas r.frame.serial r.below
     none_like_own = none_above m S r.frame p.below r.below r.frame.serial (omega arith) h.stack

@@ -1,18 +1,18 @@
 -- What holds of the object of every proper module.
-use Rattle.std.specs.Prelude.{ℕ, ◌≡◌, ◌≤◌, ◌*◌, Bool, false, [], ◌∷◌, length, Some}
+use Rattle.std.specs.Prelude.{ℕ, suc, ◌≡◌, ◌<◌, ◌≤◌, ◌*◌, Bool, false, [], ◌∷◌, length, Some, slice_get}
 use Rattle.process_model.specs.Process.{Ends}
 use Rattle.process_model.specs.Follows.{Follows}
 use Rattle.system_model.specs.World as outside
 use Rattle.system_model.specs.World.{opening_world}
 use Rattle.system_model.specs.Ending.{Faulted}
 use Rattle.system_model.specs.Limits.{frames_limit}
-use Rattle.core_code.specs.Code.{Module}
+use Rattle.core_code.specs.Code.{Function, Module}
 use Rattle.core_code.specs.Machine as machine
 use Rattle.core_code.specs.Rules as core_rules
 use Rattle.dis_meaning.specs.World.{World}
 use Rattle.dis_meaning.specs.Process.{Process}
 use Rattle.dis_meaning.specs.Step.{step}
-use Rattle.dis_codegen.specs.Objects.{init_of, object_of, code_instructions}
+use Rattle.dis_codegen.specs.Objects.{init_of, object_of, code_instructions, frame_desc}
 use Rattle.dis_codegen.specs.Start.{opening, first_process}
 use Rattle.dis_codegen.specs.Stands.{Ready, WorldStands, sides}
 
@@ -33,3 +33,10 @@ NeverFaults m =
 -- It has at most four instructions for each of the module's code, whose own beginning counts as one.
 abbrev pub IsFew : Module → Type 0
 IsFew m = length (object_of m).insts ≤ 4 * code_instructions m.functions
+
+-- It can be entered, also where the module has no function: its entry lies in its code, which so is never empty, and the frame that it
+-- begins with is of a type that it has. The frame of a function has the type behind that of the data, in the order of functions.
+pub record CanBeEntered (m : Module) : Type 0 where
+  pub entry : (object_of m).entry_pc < length (object_of m).insts
+  pub frame : (object_of m).entry_type < length (object_of m).types
+  pub frames : (n : ℕ) (f : Function) → slice_get m.functions n ≡ Some f → slice_get (object_of m).types (suc n) ≡ Some (frame_desc f)

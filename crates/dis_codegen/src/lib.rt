@@ -30,8 +30,6 @@ mod object;
 mod operands;
 mod site;
 mod sizes;
-#[cfg(test)]
-mod tests;
 mod types;
 
 pub use fault::GenFault;

@@ -4,7 +4,7 @@ use Rattle.std.specs.Prelude.{slice_get, slice_set, reverse, nat_eq}
 use Rattle.std.specs.List.{remove}
 use Rattle.std.proofs.lemmas.Bool.{eq-eqb}
 use Rattle.std.proofs.lemmas.List.{reverse-append, map-append}
-use Rattle.dis_meaning.specs.Words.{Word, Found, Wrong, dead_address}
+use Rattle.dis_meaning.specs.Words.{Word, Found, Wrong, dead_address, type_check}
 use Rattle.dis_meaning.specs.Process.{Frame, with_words}
 use Rattle.dis_meaning.specs.Places.{words_in, change}
 use Rattle.dis_meaning.specs.Step.{made_frame, without}
@@ -156,11 +156,11 @@ made_at_place s (g ∷ fs) (suc k) f h e few = go (which (nat_eq g.serial s)) (m
     go (inl here) r = let o = one_here s g here in let m = count_at s fs k f h e in absurd (omega (arith, o, m, few))
     go (inr there) r = ap (λ b. if b then Found g else made_frame fs s) there ∙ r
 
-pub none_made : (s : ℕ) (fs : List Frame) → count s fs ≡ 0 → made_frame fs s ≡ Wrong dead_address
+pub none_made : (s : ℕ) (fs : List Frame) → count s fs ≡ 0 → made_frame fs s ≡ Wrong type_check
 none_made s [] h = refl
 none_made s (f ∷ fs) h = go (which (nat_eq f.serial s)) (none_made s fs (omega (arith, h)))
   where
-    go : (nat_eq f.serial s ≡ true) ⊎ (nat_eq f.serial s ≡ false) → made_frame fs s ≡ Wrong dead_address → made_frame (f ∷ fs) s ≡ Wrong dead_address
+    go : (nat_eq f.serial s ≡ true) ⊎ (nat_eq f.serial s ≡ false) → made_frame fs s ≡ Wrong type_check → made_frame (f ∷ fs) s ≡ Wrong type_check
     go (inl e) r = let o = one_here s f e in absurd (omega (arith, o, h))
     go (inr e) r = ap (λ b. if b then Found f else made_frame fs s) e ∙ r
 

@@ -12,11 +12,12 @@ ghost use Rattle.dis_control_ops.specs.Made.{Made, entered};
 ghost use Rattle.dis_control_ops.specs.View.{view_process, view_world};
 ghost use Rattle.dis_control_ops.specs.Outcomes.{effect_of, ends, Stays, Kept, DoesSend, Sends};
 
+use crate::blocks::block;
 use crate::frame::blank;
-use crate::frames::position;
+use crate::frames::{position, words_in};
 use crate::outcome::Does;
 use crate::process::Proc;
-use crate::spots::{middle_number, source_number, source_word, spot_of};
+use crate::spots::{given_number, source_number, source_word, spot_of};
 use crate::store::Store;
 use crate::storing::{advance, write};
 use crate::word::{Fault, Halt, Place, Word};
@@ -106,7 +107,7 @@ pub(crate) fn branch_equal(
     ensures kept { OnErr result (view_process proc.new ≡ view_process proc.old) }
 {
     let left = source_number(store, proc, inst.src)?;
-    let right = middle_number(store, proc, inst.middle, inst.dst)?;
+    let right = given_number(store, proc, inst.middle)?;
     let pc = target(object, inst.dst)?;
     branch(proc, left == right, pc);
     Ok(())
@@ -125,7 +126,7 @@ pub(crate) fn branch_less(
     ensures kept { OnErr result (view_process proc.new ≡ view_process proc.old) }
 {
     let left = source_number(store, proc, inst.src)?;
-    let right = middle_number(store, proc, inst.middle, inst.dst)?;
+    let right = given_number(store, proc, inst.middle)?;
     let pc = target(object, inst.dst)?;
     branch(proc, left < right, pc);
     Ok(())
@@ -155,18 +156,34 @@ fn overflow(alloc: Global) -> Result<Text, AllocError>
     Ok(Text::from_vec(chars))
 }
 
+// The place, among the frames that are made, of the one of this serial, for an address so many bytes within it.
+fn made_of(proc: &Proc, serial: u64, at: i64) -> Result<usize, Fault>
+    ensures found { IfOk result (λ k. Made proc.now k (meaning.frame_of (view_process proc.now) serial at)) }
+    ensures wrong { IfErr result (λ f. meaning.frame_of (view_process proc.now) serial at ≡ words.Wrong (number_of f)) }
+{
+    let _words = words_in(proc, serial)?;
+    if at != 0 {
+        return Err(Fault::TypeCheck);
+    }
+    match position(&proc.made, serial) {
+        Some(k) => Ok(k),
+        None => Err(Fault::TypeCheck),
+    }
+}
+
 /// The place, among the frames that are made, of the one whose address a word is.
-pub(crate) fn made_at(proc: &Proc, word: Word) -> Result<usize, Fault>
-    ensures found { IfOk result (λ k. Made proc.now k (meaning.frame_at (view_process proc.now) (view_word word))) }
-    ensures wrong { IfErr result (λ f. meaning.frame_at (view_process proc.now) (view_word word) ≡ words.Wrong (number_of f)) }
+pub(crate) fn made_at(store: &Store, proc: &Proc, word: Word) -> Result<usize, Fault>
+    ensures found { IfOk result (λ k. Made proc.now k (meaning.frame_at (view_world store.now) (view_process proc.now) (view_word word))) }
+    ensures wrong { IfErr result (λ f.
+        meaning.frame_at (view_world store.now) (view_process proc.now) (view_word word) ≡ words.Wrong (number_of f)) }
 {
     match word {
-        Word::Address { place, .. } => match place {
-            Place::Frame(serial) => match position(&proc.made, serial) {
-                Some(k) => Ok(k),
-                None => Err(Fault::DeadAddress),
-            },
-            Place::Block(_) => Err(Fault::DeadAddress),
+        Word::Address { place, at } => match place {
+            Place::Frame(serial) => made_of(proc, serial, at),
+            Place::Block(serial) => {
+                let _content = block(store, serial)?;
+                Err(Fault::TypeCheck)
+            }
         },
         Word::Plain(_) => Err(Fault::TypeCheck),
         Word::Refer(_) => Err(Fault::TypeCheck),
@@ -204,7 +221,7 @@ pub(crate) fn call(
     ensures silent { Sends result proc.new.printing }
 {
     let word = source_word(store, proc, inst.src)?;
-    let made = made_at(proc, word)?;
+    let made = made_at(store, proc, word)?;
     let pc = target(object, inst.dst)?;
     if proc.below.len() + 1 >= limit {
         return Ok(Does::Broken(overflow(alloc)?));

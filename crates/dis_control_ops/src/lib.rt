@@ -35,8 +35,6 @@ mod steps;
 mod store;
 mod storing;
 mod sys;
-#[cfg(test)]
-mod tests;
 mod texts;
 mod word;
 

@@ -11,7 +11,7 @@ ghost use Rattle.dis_control_ops.specs.View.{view_process, view_world};
 use crate::control::at_least_zero;
 use crate::memory::{nth, word_number};
 use crate::process::Proc;
-use crate::spots::{middle_number, plain, spot_of, words_at};
+use crate::spots::{given_number, plain, spot_of, words_at};
 use crate::store::Store;
 use crate::storing::finish_row;
 use crate::word::{Halt, Word};
@@ -47,7 +47,7 @@ pub(crate) fn move_words(
     let from = spot_of(store, proc, inst.src)?;
     let words = words_at(store, proc, from)?;
     let first = word_number(from.byte())?;
-    let middle = middle_number(store, proc, inst.middle, inst.dst)?;
+    let middle = given_number(store, proc, inst.middle)?;
     let bytes = at_least_zero(middle)?;
     let count = word_number(i64::from(bytes))?;
     let row = plains(alloc, words, first, count)?;

@@ -208,14 +208,9 @@ pub(crate) fn source_plain(store: &Store, proc: &Proc, source: Operand) -> Resul
     }
 }
 
-/// The number of a middle; where there is none, the destination's.
-pub(crate) fn middle_number(
-    store: &Store,
-    proc: &Proc,
-    middle: Middle,
-    destination: Operand,
-) -> Result<i32, Halt>
-    ensures { Gives (λ n. n) result (meaning.middle_number (view_world store.now) (view_process proc.now) middle destination) }
+/// The number of a middle that is there.
+pub(crate) fn given_number(store: &Store, proc: &Proc, middle: Middle) -> Result<i32, Halt>
+    ensures { Gives (λ n. n) result (meaning.given_number (view_world store.now) (view_process proc.now) middle) }
 {
     match middle {
         Middle::Imm(n) => Ok(n),
@@ -227,6 +222,23 @@ pub(crate) fn middle_number(
             let word = read(store, proc, Spot::Data(i64::from(at)))?;
             Ok(number_in(word)?)
         }
+        Middle::None => Err(Halt::Fault(Fault::TypeCheck)),
+    }
+}
+
+/// The number of an operation's middle; where there is none, the destination's.
+pub(crate) fn middle_number(
+    store: &Store,
+    proc: &Proc,
+    middle: Middle,
+    destination: Operand,
+) -> Result<i32, Halt>
+    ensures { Gives (λ n. n) result (meaning.middle_number (view_world store.now) (view_process proc.now) middle destination) }
+{
+    match middle {
         Middle::None => source_number(store, proc, destination),
+        Middle::Imm(_) => given_number(store, proc, middle),
+        Middle::Fp(_) => given_number(store, proc, middle),
+        Middle::Mp(_) => given_number(store, proc, middle),
     }
 }

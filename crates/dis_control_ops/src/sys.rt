@@ -90,7 +90,7 @@ pub(crate) fn call_module(
     ensures sent { Sends result proc.new.printing }
 {
     let word = source_word(store, proc, inst.src)?;
-    let made = made_at(proc, word)?;
+    let made = made_at(store, proc, word)?;
     let number = middle_immediate(inst.middle)?;
     let word = source_word(store, proc, inst.dst)?;
     let module = reference(word)?;

@@ -14,7 +14,7 @@ use Rattle.system_model.specs.Ending.{Ended, Broken, Faulted}
 use Rattle.dis_meaning.specs.Words.{Place, InFrame, Plain, Refer, Address, Access, Found, Wrong, ◌>>=◌, type_check, bad_jump, or_wrong, reference, word_number}
 use Rattle.dis_meaning.specs.World.{World}
 use Rattle.dis_meaning.specs.Process.{Frame, Process, Does, or_fault, with_frames, height}
-use Rattle.dis_meaning.specs.Places.{spot, store, read, address, words_at, with_words_at, place_in, source_number, source_plain, source_word, middle_number}
+use Rattle.dis_meaning.specs.Places.{spot, store, read, address, words_at, with_words_at, place_in, source_number, source_plain, source_word, given_number, middle_number}
 use Rattle.dis_meaning.specs.Step.{immediate, target, at_least_zero, middle_immediate, frame_at, plains, all_replaced, text_at, module_at, function_of, loaded, printed, answer_spot, place_of, outside_is, answered, without, branch, returns, calls, prints, print_call, sys_call, operates, tests, obey, work, code_of}
 use Rattle.dis_meaning.specs.Laws.{FaultsChangeNothing}
 
@@ -70,14 +70,14 @@ module _ (limit : ℕ) (o : Object) (x : World) (p : Process) (i : Inst) where
   operates_clean f = clean_on (source_number x p i.src) _ (λ s. clean_on (middle_number x p i.middle i.dst) _ (λ m. clean_on (spot x p i.dst) _ (λ d. clean_on (store x p d (Plain (int_wrap w32 (f m s)))) _ (λ after. found _ tt))))
 
   tests_clean : (f : ℤ → ℤ → Bool) → Clean (tests o x p i f)
-  tests_clean f = clean_on (source_number x p i.src) _ (λ s. clean_on (middle_number x p i.middle i.dst) _ (λ m. clean_on (target o i.dst) _ (λ pc. found _ (branch_clean x p (f s m) pc))))
+  tests_clean f = clean_on (source_number x p i.src) _ (λ s. clean_on (given_number x p i.middle) _ (λ m. clean_on (target o i.dst) _ (λ pc. found _ (branch_clean x p (f s m) pc))))
 
   obey_clean : (c : Op) → Clean (obey limit o x p i c)
   obey_clean op.Movw = clean_on (source_plain x p i.src) _ (λ w. clean_on (spot x p i.dst) _ (λ d. clean_on (store x p d w) _ (λ m. found _ tt)))
   obey_clean op.Movp = clean_on (source_word x p i.src >>= reference) _ (λ r. clean_on (spot x p i.dst) _ (λ d. clean_on (store x p d (Refer r)) _ (λ m. found _ tt)))
   obey_clean op.Movm =
       clean_on (spot x p i.src) _ (λ s. clean_on (words_at x p s) _ (λ from. clean_on (word_number (place_in s)) _ (λ k.
-      clean_on (middle_number x p i.middle i.dst >>= at_least_zero) _ (λ bytes. clean_on (word_number (pos bytes)) _ (λ count. clean_on (plains from k count) _ (λ vs.
+      clean_on (given_number x p i.middle >>= at_least_zero) _ (λ bytes. clean_on (word_number (pos bytes)) _ (λ count. clean_on (plains from k count) _ (λ vs.
       clean_on (spot x p i.dst) _ (λ d. clean_on (words_at x p d) _ (λ into. clean_on (word_number (place_in d)) _ (λ j. clean_on (all_replaced into j vs >>= with_words_at x p d) _ (λ m. found _ tt))))))))))
   obey_clean op.Lea = clean_on (spot x p i.src) _ (λ s. clean_on (read x p s) _ (λ w. clean_on (spot x p i.dst) _ (λ d. clean_on (store x p d (address p s)) _ (λ m. found _ tt))))
   obey_clean op.Addw = operates_clean (λ m s. m +ℤ s)
@@ -87,13 +87,13 @@ module _ (limit : ℕ) (o : Object) (x : World) (p : Process) (i : Inst) where
   obey_clean op.Bltw = tests_clean int_lt
   obey_clean op.Jmp = clean_on (target o i.dst) _ (λ pc. found _ tt)
   obey_clean op.Frame = clean_on (immediate i.src) _ (λ n. clean_on (or_wrong type_check (slice_get o.types n)) _ (λ desc. clean_on (spot x p i.dst) _ (λ d. clean_on (store x p d (Address (InFrame p.frames) (pos 0))) _ (λ m. found _ tt))))
-  obey_clean op.Call = clean_on (source_word x p i.src >>= frame_at p) _ (λ f. clean_on (target o i.dst) _ (λ pc. found _ (calls_clean limit x p f pc)))
+  obey_clean op.Call = clean_on (source_word x p i.src >>= frame_at x p) _ (λ f. clean_on (target o i.dst) _ (λ pc. found _ (calls_clean limit x p f pc)))
   obey_clean op.Ret = found _ (returns_clean x p p.below)
   obey_clean op.Load =
       clean_on (source_word x p i.src >>= reference >>= text_at x) _ (λ path. clean_on (middle_immediate i.middle) _ (λ n. clean_on (or_wrong type_check (slice_get o.imports n)) _ (λ table.
       clean_on (spot x p i.dst) _ (λ d. clean_on (loaded x p d path table) _ (λ m. found _ tt)))))
   obey_clean op.Mcall =
-      clean_on (source_word x p i.src >>= frame_at p) _ (λ f. clean_on (middle_immediate i.middle) _ (λ k. clean_on (source_word x p i.dst >>= reference >>= module_at x) _ (λ c.
+      clean_on (source_word x p i.src >>= frame_at x p) _ (λ f. clean_on (middle_immediate i.middle) _ (λ k. clean_on (source_word x p i.dst >>= reference >>= module_at x) _ (λ c.
       clean_on (function_of c k) _ (λ name. sys_clean x p name f))))
   obey_clean _ = wrong 110
 

@@ -1,4 +1,5 @@
--- How many references to a block there are: over the data of instances, the frames of each process, and its frames that are made.
+-- How many references to a block there are: over the data of instances, and over the frames of each process, also those that are made. A
+-- frame refers to the instance that it runs in.
 use Rattle.std.specs.Prelude.{ℕ, ◌+◌, List, [], ◌∷◌, Some, nat_eq, if◌then◌else◌}
 use Rattle.dis_meaning.specs.Words.{Word, Refer}
 use Rattle.dis_meaning.specs.World.{Content, Instance, World}
@@ -21,9 +22,12 @@ abbrev pub in_blocks : (serial : ℕ) → List Content → ℕ
 in_blocks n [] = 0
 in_blocks n (c ∷ cs) = in_content n c + in_blocks n cs
 
+abbrev pub in_frame : (serial : ℕ) → Frame → ℕ
+in_frame n f = (if nat_eq f.instance n then 1 else 0) + in_words n f.words
+
 abbrev pub in_frames : (serial : ℕ) → List Frame → ℕ
 in_frames n [] = 0
-in_frames n (f ∷ fs) = in_words n f.words + in_frames n fs
+in_frames n (f ∷ fs) = in_frame n f + in_frames n fs
 
 abbrev pub in_process : (serial : ℕ) → Process → ℕ
 in_process n p = in_frames n (p.frame ∷ p.below) + in_frames n p.made

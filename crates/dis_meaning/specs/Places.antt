@@ -115,9 +115,14 @@ source_plain x p o = spot x p o >>= λ s. read x p s >>= plain
 abbrev pub source_word : World → Process → Operand → Access Word
 source_word x p o = spot x p o >>= read x p
 
--- The number of a middle; where there is none, the destination's.
+-- The number of a middle that is there.
+abbrev pub given_number : World → Process → Middle → Access ℤ
+given_number x p (middle.Imm n) = Found n
+given_number x p (middle.Fp at) = read x p (Own at) >>= number_in
+given_number x p (middle.Mp at) = read x p (Data at) >>= number_in
+given_number x p middle.None = Wrong type_check
+
+-- The number of an operation's middle: where there is none, the destination's.
 abbrev pub middle_number : World → Process → Middle → Operand → Access ℤ
-middle_number x p (middle.Imm n) dst = Found n
-middle_number x p (middle.Fp at) dst = read x p (Own at) >>= number_in
-middle_number x p (middle.Mp at) dst = read x p (Data at) >>= number_in
 middle_number x p middle.None dst = source_number x p dst
+middle_number x p m dst = given_number x p m

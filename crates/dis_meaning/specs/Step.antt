@@ -23,7 +23,7 @@ use Rattle.dis_meaning.specs.Words.{Place, InBlock, InFrame, Word, Plain, Refer,
 use Rattle.dis_meaning.specs.World.{Content, Text, Instance, Sys, World, block, with_block}
 use Rattle.dis_meaning.specs.Process as process
 use Rattle.dis_meaning.specs.Process.{Frame, Process, Does, height, at_pc, with_words, with_frames, stands_still, or_fault}
-use Rattle.dis_meaning.specs.Places.{Spot, Far, Memory, read, store, spot, source_number, source_plain, source_word, middle_number, words_at, with_words_at, place_in, address, behind}
+use Rattle.dis_meaning.specs.Places.{Spot, Far, Memory, read, store, spot, source_number, source_plain, source_word, given_number, middle_number, words_in, all_frames, words_at, with_words_at, place_in, address, behind}
 use Rattle.dis_meaning.specs.Formats.{formatted}
 
 -- The process goes on with the next instruction.
@@ -44,15 +44,20 @@ abbrev pub middle_immediate : Middle → Access ℕ
 middle_immediate (middle.Imm n) = at_least_zero n
 middle_immediate _ = Wrong type_check
 
--- The frame whose address a word is, among those that are made.
-abbrev pub made_frame : List Frame → ℕ → Access Frame
-made_frame [] s = Wrong dead_address
+-- The frame of this serial among those that are made, for an address so many bytes within it. It isn't that of a frame which was called
+-- already, nor of a place within one; an address whose frame isn't there is dead.
+abbrev pub made_frame : List Frame → (serial : ℕ) → Access Frame
+made_frame [] s = Wrong type_check
 made_frame (f ∷ fs) s = if nat_eq f.serial s then Found f else made_frame fs s
 
-abbrev pub frame_at : Process → Word → Access Frame
-frame_at p (Address (InFrame s) at) = made_frame p.made s
-frame_at p (Address (InBlock n) at) = Wrong dead_address
-frame_at p _ = Wrong type_check
+abbrev pub frame_of : Process → (serial : ℕ) → (at : ℤ) → Access Frame
+frame_of p s at = words_in s (all_frames p) >>= λ words. if int_eq at (pos 0) then made_frame p.made s else Wrong type_check
+
+-- The frame whose address a word is. No block is one.
+abbrev pub frame_at : World → Process → Word → Access Frame
+frame_at x p (Address (InFrame s) at) = frame_of p s at
+frame_at x p (Address (InBlock n) at) = block x n >>= λ c. Wrong type_check
+frame_at x p _ = Wrong type_check
 
 -- The others.
 abbrev pub without : ℕ → List Frame → List Frame
@@ -204,7 +209,7 @@ operates x p i f =
 abbrev pub tests : Object → World → Process → Inst → (ℤ → ℤ → Bool) → Access Does
 tests o x p i f =
     source_number x p i.src >>= λ s.
-    middle_number x p i.middle i.dst >>= λ m.
+    given_number x p i.middle >>= λ m.
     target o i.dst >>= λ pc.
     Found (branch x p (f s m) pc)
 
@@ -219,7 +224,7 @@ module _ (limit : ℕ) (o : Object) where
       spot x p i.src >>= λ s.
       words_at x p s >>= λ from.
       word_number (place_in s) >>= λ k.
-      middle_number x p i.middle i.dst >>= at_least_zero >>= λ bytes.
+      given_number x p i.middle >>= at_least_zero >>= λ bytes.
       word_number (pos bytes) >>= λ count.
       plains from k count >>= λ vs.
       spot x p i.dst >>= λ d.
@@ -242,7 +247,7 @@ module _ (limit : ℕ) (o : Object) where
       store x p d (Address (InFrame p.frames) (pos 0)) >>= λ m.
       Found (next (framed m (blank desc)))
   obey x p i op.Call =
-      source_word x p i.src >>= frame_at p >>= λ f. target o i.dst >>= λ pc. Found (calls limit x p f pc)
+      source_word x p i.src >>= frame_at x p >>= λ f. target o i.dst >>= λ pc. Found (calls limit x p f pc)
   obey x p i op.Ret = Found (returns x p p.below)
   obey x p i op.Load =
       source_word x p i.src >>= reference >>= text_at x >>= λ path.
@@ -252,7 +257,7 @@ module _ (limit : ℕ) (o : Object) where
       loaded x p d path table >>= λ m.
       Found (next m)
   obey x p i op.Mcall =
-      source_word x p i.src >>= frame_at p >>= λ f.
+      source_word x p i.src >>= frame_at x p >>= λ f.
       middle_immediate i.middle >>= λ k.
       source_word x p i.dst >>= reference >>= module_at x >>= λ c.
       function_of c k >>= λ name.

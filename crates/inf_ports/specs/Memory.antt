@@ -1,5 +1,5 @@
 -- What the forms in memory tell, and which of their calls fail.
-use Rattle.std.specs.Prelude.{◌≡◌, ℕ, List, Option, option_map, nat_eq, Contains}
+use Rattle.std.specs.Prelude.{◌≡◌, ℕ, ◌+◌, ◌-◌, ◌^◌, min, List, Option, option_map, nat_eq, Contains}
 use Rattle.std.specs.List.{find}
 use Rattle.std.specs.Cmp.Lexicographic.{pointwise}
 use Rattle.inf_ports.specs.declared.plan.Plan.{Plan}
@@ -15,3 +15,8 @@ IsFresh plan failing = (plan.failing.items ≡ failing) × (plan.calls ≡ 0) ×
 -- the number of the next call is listed to fail
 abbrev pub FailsNext : Plan → Type 0
 FailsNext plan = Contains plan.failing.items plan.calls
+
+-- A call was made: it is counted, up to the end of the 64 bits, and the same calls are listed to fail.
+pub record Called (old new : Plan) : Type 0 where
+  pub counted : new.calls ≡ min (old.calls + 1) (2 ^ 64 - 1)
+  pub listed : new.failing ≡ old.failing

@@ -48,7 +48,7 @@ impl MemSink {
 impl Sink for MemSink {
     ghost use Rattle.std.specs.Prelude.{◌+◌, ◌-◌, ◌<◌, ◌++◌, ◌⊎◌, min, take, length, Some, IfOk, IsErr, OnErr};
     ghost use Rattle.inf_ports.specs.Outside.{Rose};
-    ghost use Rattle.inf_ports.specs.Memory.{FailsNext};
+    ghost use Rattle.inf_ports.specs.Memory.{Called, FailsNext};
 
     ghost held = { λ sink. Some sink.bytes.items };
 
@@ -69,6 +69,7 @@ impl Sink for MemSink {
         ensures failed { OnErr result (Rose self.old.plan.faults self.new.plan.faults) }
         ensures later { self.old.plan.faults ≤ self.new.plan.faults }
         ensures same_room { self.new.room ≡ self.old.room }
+        ensures called { Called self.old.plan self.new.plan }
     {
         let free = self.room - self.bytes.len();
         let is_full = free == 0 && !piece.is_empty();

@@ -44,7 +44,7 @@ fn find<'a>(files: &'a Vec<(Text, Seq<u8>)>, path: &Text) -> Option<&'a [u8]>
 impl HostTree for MemTree {
     ghost use Rattle.std.specs.Prelude.{Some, None, IfOk, IsErrOf, ◌↔◌, ◌≤◌, ◌⊎◌};
     ghost use Rattle.inf_ports.specs.Outside.{Rose};
-    ghost use Rattle.inf_ports.specs.Memory.{FailsNext};
+    ghost use Rattle.inf_ports.specs.Memory.{Called, FailsNext};
 
     ghost told = { λ tree. Some (bytes_at tree.files.items) };
 
@@ -63,6 +63,7 @@ impl HostTree for MemTree {
         ensures quiet { IsErrOf result HostFault.Failed ⊎ (self.new.plan.faults ≡ self.old.plan.faults) }
         ensures later { self.old.plan.faults ≤ self.new.plan.faults }
         ensures kept { self.new.files ≡ self.old.files }
+        ensures called { Called self.old.plan self.new.plan }
     {
         if self.plan.is_next_failing() {
             self.plan.fault();

@@ -33,7 +33,7 @@ pub fn compile(alloc: Global, module: &TypedModule) -> Result<Object, CompileFau
     ensures spelled { IfOk result StringsSpell }
     ensures within { IfOk result (λ _. IsWithin (view_module «module».now)) }
     ensures frames { result ≡ Err CompileFault.FrameTooLarge → FrameTooLarge (view_module «module».now) }
-    ensures code { result ≡ Err CompileFault.CodeTooLarge → CodeTooLarge (view_module «module».now) }
+    ensures code { result ≡ Err CompileFault.CodeTooLarge → CodeTooLarge (view_module «module».now) × (FrameTooLarge (view_module «module».now) → ⊥) }
 {
     let code = match lower(alloc, module) {
         Ok(code) => code,

@@ -22,8 +22,6 @@ mod laws;
 mod lowering;
 mod sizes;
 mod statements;
-#[cfg(test)]
-mod tests;
 
 pub use fault::LowerFault;
 pub use laws::code_keeps;

@@ -112,6 +112,7 @@ module _ (objects : List Object) (limit : ℕ) (journal : List Event) (before : 
             within = omega (arith, left);
             whole = λ e. k.whole e;
             short = λ e. absurd (e (k.whole able));
+            started = k.started;
             sound = λ live. no_fault o'.fault r'.doing last t.faulted stands live;
           }
 
@@ -124,6 +125,10 @@ module _ (objects : List Object) (limit : ℕ) (journal : List Event) (before : 
   pub cut_told : (count : ℕ) → HadTurns objects r r' count turn.NoMemory → told_after objects journal (cut_of count) ≡ old_told
   cut_told count had = told_is (state_of objects journal (cut_of count)) r' old_told (cut_leads count had)
 
+  cut_started : (n : ℕ) → cut_of n ≢ Some 0
+  cut_started zero e = absurd cc
+  cut_started (suc n) e = absurd cc
+
   pub cut_kept : (count : ℕ) → HadTurns objects r r' count turn.NoMemory → (o' : Outcome) → before < limit → r.doing ≡ doing.Ready → Keeps old_told o' → o'.fault ≡ o.fault → IsKept objects limit journal before (cut_of count) true r' o'
   cut_kept count had o' left is_ready keeps same =
       let leads = cut_leads count had in
@@ -134,6 +139,7 @@ module _ (objects : List Object) (limit : ℕ) (journal : List Event) (before : 
         within = k.within;
         whole = λ e. absurd cc;
         short = λ e. left;
+        started = cut_started count;
         sound = λ live. same ∙ k.sound (ready_lives r.doing is_ready);
       }
 
@@ -180,6 +186,7 @@ module _ (objects : List Object) (limit : ℕ) (journal : List Event) (before : 
     within = k.within;
     whole = λ e. k.whole able;
     short = k.short;
+    started = k.started;
     sound = λ live. k.sound (λ e. live (stands ∙ e));
   }
 
@@ -213,5 +220,6 @@ module _ (objects : List Object) (limit : ℕ) (journal : List Event) (before : 
           within = k.within;
           whole = k.whole;
           short = k.short;
+          started = k.started;
           sound = λ live. none_heard o'.fault r'.doing t told.faulted stands live;
         }

@@ -66,6 +66,7 @@ pub record IsKept (objects : List Object) (limit : ℕ) (journal : List Event) (
   pub within : entered ≤ limit
   pub whole : lacks ≡ false → cut ≡ None
   pub short : cut ≢ None → entered < limit
+  pub started : cut ≢ Some 0
   pub sound : r.doing ≢ Gone → o.fault ≡ None
 
 -- A quantum that had so many instructions when memory ran out.

@@ -23,8 +23,6 @@ mod outcome;
 mod reply;
 mod running;
 mod standing;
-#[cfg(test)]
-mod tests;
 
 pub use end::End;
 pub use event::{Event, Journal};

@@ -48,6 +48,7 @@ reached m events all = record {
   all = all;
   reaches = m.kept.leads;
   within = subst (λ es. quanta es ≤ m.limit) (sym all) (cut_within m.journal.items m.cut m.entered m.limit m.kept.counted m.kept.within m.kept.short);
+  started = m.kept.started;
 }
 
 same_replies : (m : Machine) (events : List Event) → events ≡ m.journal.items ++ cut_events m.cut → replies_of events ≡ replies_of m.journal.items
@@ -59,6 +60,7 @@ whole_events m events able all = all ∙ ap (λ c. m.journal.items ++ cut_events
 -- The machine has ended.
 pub done : (m : Machine) (events : List Event) (start now : Option (List ℕ)) (failed : Bool) (before after : ℕ) (how : End) → Talk m (waiting m 1) start now failed → Calm m → (failed ≡ true → Rose before after) →
     Some how ≡ end_of m.lacks m.limit (quanta m.journal.items) (state m) → events ≡ m.journal.items ++ cut_events m.cut → Conversation (codes m) m.limit events (state m) start now before after how
+unfolding reached
 done m events start now failed before after how talk calm cause ends all =
     let rs = replies_of m.journal.items in
     let same = same_replies m events all in
@@ -69,6 +71,7 @@ done m events start now failed before after how talk calm cause ends all =
     let served : take (length rs) (requests 1 (told m)) ≡ talk.answered = ap (take (length rs)) asked ∙ take_all (length rs) talk.answered (omega (arith, each)) in
     record {
       reached = reached m events all;
+      uncut = λ other. m.kept.whole talk.able;
       ended = inr (ap (λ es. ended_in m.limit (quanta es) (state m)) (whole_events m events talk.able all) ∙ ap (λ b. end_of b m.limit (quanta m.journal.items) (state m)) (sym talk.able) ∙ sym ends);
       answers = rs;
       bytes = talk.bytes;
@@ -93,6 +96,7 @@ stopped m events start now failed before after heard cause all =
     ap (λ k. take k (requests 1 (told m))) (sym each) ∙ ap (take (length heard.answered)) heard.asked ∙ front heard.answered heard.rest in
     record {
       reached = reached m events all;
+      uncut = λ other. absurd (other refl);
       ended = inl refl;
       answers = heard.answers;
       bytes = heard.bytes;

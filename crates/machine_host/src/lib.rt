@@ -7,7 +7,5 @@
 
 mod exchange;
 mod run;
-#[cfg(test)]
-mod tests;
 
 pub use run::{Ran, run_machine};

@@ -22,7 +22,7 @@ invariant_of-self c =
       outbox = λ link. subst (λ xs. EndsWith (frames_on link xs) (requests link told)) (sym after) (left_over c.args.link ms place o link (requests link told) (k.keeps.outbox link));
     } in
     record {
-      kept = record { leads = k.leads; keeps = keeps; counted = k.counted; within = k.within; whole = k.whole; short = k.short; sound = k.sound };
+      kept = record { leads = k.leads; keeps = keeps; counted = k.counted; within = k.within; whole = k.whole; short = k.short; started = k.started; sound = k.sound };
       room = m.room;
     }
 

@@ -1,0 +1,15 @@
+//! Rows of the machine and its objects: what opcodes are, what instructions written by hand come to, how small objects run, and
+//! what they print over outputs that fail. The calls' contracts say all this; the rows show each call once with its values written
+//! out beside it. No code stands here but these tests; the crates below have none of their own.
+#![tactic(auto)]
+
+#[cfg(test)]
+mod objects;
+#[cfg(test)]
+mod opcodes;
+#[cfg(test)]
+mod outputs;
+#[cfg(test)]
+mod runs;
+#[cfg(test)]
+mod steps;
