@@ -247,7 +247,7 @@ module _ (m : Module) (good : AllGood (module_data m.functions)) where
   object_opens : opened (object_of m) ≡ Some (record { world = start.opening m; first = start.first_process m })
   object_opens =
       let t = entry_there m (init_of m) refl in
-      ap (λ o. o >>= λ d. slice_get (object_of m).types (object_of m).entry_type >>= λ frame_type. Some (record { world = record { blocks = opening.opening_blocks d; outside = (start.opening m).outside }; first = entered (object_of m) (blank frame_type) })) all_put
+      ap (λ o. o >>= λ d. slice_get (object_of m).types (object_of m).entry_type >>= λ frame_type. Some (record { world = record { blocks = opening.opening_blocks d; frames = 1; outside = (start.opening m).outside }; first = entered (object_of m) (blank frame_type) })) all_put
       ∙ ap (λ o. o >>= λ frame_type. Some (record { world = start.opening m; first = entered (object_of m) (blank frame_type) })) t.1
       ∙ ap (λ o. Some (record { world = start.opening m; first = entered (object_of m) (entry_words o) })) (sym t.1)
 

@@ -36,7 +36,8 @@ use Rattle.dis_meaning.specs.Step.{step}
 use Rattle.dis_codegen.specs.Start as start
 use Rattle.dis_codegen.specs.Start.{opening}
 use Rattle.dis_codegen.specs.Stands as upper
-use Rattle.dis_codegen.specs.Stands.{Ready}
+use Rattle.dis_codegen.specs.Laws.{at_first}
+use Rattle.dis_codegen.specs.Stands.{Known, Grows, Ready}
 use Rattle.dis_codegen.specs.Paces.{inst_at, print_rank}
 use Rattle.dis_codegen.proofs.Kept as second_pass
 use Rattle.dis_codegen.proofs.Under.{same_instruction}
@@ -61,7 +62,7 @@ module _ (m : Module) (proper : IsProper m) where
   code = module_code m
 
   -- How far along the three-address code is, as a process of the object tells.
-  tells : (f : first_pass.FollowsBy m (bodies code)) (k : Bool) (q : machine.Process) (r : Process) → Ready code k q r → print_rank (inst_at code r.frame.pc) ≡ f.follows.place q
+  tells : (f : first_pass.FollowsBy m (bodies code)) (k : Known) (q : machine.Process) (r : Process) → Ready code k q r → print_rank (inst_at code r.frame.pc) ≡ f.follows.place q
   tells f k q r h =
       same_instruction code (proper_code m proper) k q r h
       ∙ sym (same_rank (fetch (slice_get (bodies code) q.frame.function) q.frame.pc))
@@ -91,17 +92,17 @@ keeps m proper =
 pub journals : (m : Module) → IsProper m → JournalsAreRuns m
 journals m proper init first h longest journal t e =
     let kept = keeps m proper in
-    let b = every_journal (sides m) kept.follows false opening_world (opening (module_code m)) (first_process first) (start.first_process (module_code m)) (kept.begins init first h) kept.begins_in (record { kept = refl; none = refl }) longest journal t e in
+    let b = every_journal (sides m) kept.follows at_first opening_world (opening (module_code m)) (first_process first) (start.first_process (module_code m)) (kept.begins init first h) kept.begins_in (record { kept = refl; none = refl }) longest journal t e in
     record {
       turns = b.turns;
       config = b.config;
       run = record { first = first; there = h.there; run = b.run };
       makers = b.makers;
       paced = subst (λ bound. Paced bound (λ j. 0) b.turns) kept.pace b.paced;
-      told = trace_equal (λ (a b : Bool). a ≡ true → b ≡ true) b.now b.config.trace t.trace b.trace;
+      told = trace_equal Grows b.now b.config.trace t.trace b.trace;
     }
 
-module _ (m : Module) (proper : IsProper m) (k : Bool) (j : ℕ) (w : outside.World) (x y : World) (number pc : ℕ) (r : Process) where
+module _ (m : Module) (proper : IsProper m) (k : Known) (j : ℕ) (w : outside.World) (x y : World) (number pc : ℕ) (r : Process) where
   -- A process that stands for one of the module isn't at a wrong instruction.
   never_wrong : (o : Option (Doing source.Process Value)) → StandsAlike (sides m) k j x o (Some (doing.Ready r)) → (sides m).worlds k w x → step frames_limit (object_for m ∷ []) x r ≡ Ends y (Faulted number pc) → ⊥
   never_wrong (Some (doing.Ready p)) h e does = second_pass.never_faults (module_code m) (proper_code m proper) k e.0 x y h.0 r number pc h.2 e.2 does
@@ -113,6 +114,6 @@ module _ (m : Module) (proper : IsProper m) (k : Bool) (j : ℕ) (w : outside.Wo
 pub never_faults : (m : Module) → IsProper m → NeverFaults m
 never_faults m proper init first h longest journal t e j r there y number pc does =
     let kept = keeps m proper in
-    let b = every_journal (sides m) kept.follows false opening_world (opening (module_code m)) (first_process first) (start.first_process (module_code m)) (kept.begins init first h) kept.begins_in (record { kept = refl; none = refl }) longest journal t e in
+    let b = every_journal (sides m) kept.follows at_first opening_world (opening (module_code m)) (first_process first) (start.first_process (module_code m)) (kept.begins init first h) kept.begins_in (record { kept = refl; none = refl }) longest journal t e in
     never_wrong m proper b.now j b.config.world t.world y number pc r (slice_get b.config.processes j)
     (subst (λ o. StandsAlike (sides m) b.now j t.world (slice_get b.config.processes j) o) there (b.processes j)) b.worlds does

@@ -1,5 +1,5 @@
 -- What the object of a module keeps of its meaning.
-use Rattle.std.specs.Prelude.{ℕ, ◌≡◌, Bool, false, List, [], ◌∷◌, Some, slice_get}
+use Rattle.std.specs.Prelude.{ℕ, ◌≡◌, List, [], ◌∷◌, Some, slice_get}
 use Rattle.styx_msg.specs.declared.message.Rmsg.{Rmsg}
 use Rattle.process_model.specs.Process as process
 use Rattle.process_model.specs.Process.{Ends}
@@ -31,13 +31,14 @@ use Rattle.dis_meaning.specs.Rules as dis_rules
 use Rattle.dis_codegen.specs.Objects.{init_of, object_of}
 use Rattle.dis_codegen.specs.Start.{opening, first_process}
 use Rattle.dis_codegen.specs.Stands as upper
+use Rattle.dis_codegen.specs.Laws.{at_first}
 
 -- The object of a module.
 abbrev pub object_for : Module → Object
 object_for m = object_of (module_code m)
 
 -- A module and its object: a process of one stands for one of the other where one of the three-address code stands between them.
-abbrev pub sides : Module → Sides Bool outside.World World source.Process Process Value Value Request Rmsg Ending
+abbrev pub sides : Module → Sides upper.Known outside.World World source.Process Process Value Value Request Rmsg Ending
 sides m = through (unshared (lower.sides (routines_of m) (bodies (module_code m)))) (upper.sides (module_code m))
 
 -- The module begins with this function, which has this number.
@@ -50,8 +51,8 @@ pub record BeginsWith (m : Module) (init : ℕ) (first : Routine) : Type 0 where
 pub record Keeps (m : Module) : Type 0 where
   pub follows : Follows (sides m)
   pub pace : follows.bound ≡ 14
-  pub begins : (init : ℕ) (first : Routine) → BeginsWith m init first → (sides m).ready false 0 (opening (module_code m)) (runs.first_process first) (first_process (module_code m))
-  pub begins_in : (sides m).worlds false opening_world (opening (module_code m))
+  pub begins : (init : ℕ) (first : Routine) → BeginsWith m init first → (sides m).ready at_first 0 (opening (module_code m)) (runs.first_process first) (first_process (module_code m))
+  pub begins_in : (sides m).worlds at_first opening_world (opening (module_code m))
 
 -- A run of the module beside a journal of its object: its turns are the journal's instructions, each with the steps that it stands for;
 -- of any 14 turns in a row of one process at least one has a step; and the same was told.

@@ -26,15 +26,15 @@ use Rattle.dis_meaning.specs.Process as dis
 use Rattle.dis_meaning.specs.Process.{Frame, Process, with_words, with_frames, at_pc}
 use Rattle.dis_meaning.specs.Places.{Own, Far, spot, behind}
 use Rattle.dis_meaning.specs.Step as dis_step
-use Rattle.dis_meaning.specs.Step.{word_of, frame_at}
+use Rattle.dis_meaning.specs.Step.{word_of, frame_at, with_frame_made}
 use Rattle.dis_codegen.specs.Code.{moved_size, size, slot, slot_offset, in_made, fits_middle, number_middle, number_datum, Context, place, inst, arguments, answer_to, inst_code}
 use Rattle.dis_codegen.specs.Objects.{base_of, context, module_data, frame_desc, object_of}
-use Rattle.dis_codegen.specs.Stands.{IsPlain, HasSlots, AnswersTo, made_at, Made, ForCall, StackStands, Running, Ready, begins, framed, moved, addressed, WorldStands}
+use Rattle.dis_codegen.specs.Stands.{Known, IsPlain, HasSlots, AnswersTo, made_at, Made, ForCall, StackStands, Running, Ready, begins, framed, moved, addressed, WorldStands}
 use Rattle.dis_codegen.specs.Paces as paces
 use Rattle.dis_codegen.proofs.Memory.{number_at, slot_number, stored_at, set_same, set_other, set_length}
 use Rattle.dis_codegen.proofs.Instructions.{frame, movm, lea, call}
 use Rattle.dis_codegen.proofs.Lookups.{HasAt, Coded, coded, arguments_length, has_back, frame_type_is}
-use Rattle.dis_codegen.proofs.Runs.{slots_behind, slot_at, behind_at, behind_stored, place_on, rests, at_once, steps_once, remade, stack_same, linkage_kept}
+use Rattle.dis_codegen.proofs.Runs.{as_known, with_frame, more_frames, up, world_up, slots_behind, slot_at, behind_at, behind_stored, place_on, rests, at_once, steps_once, remade, stack_same, linkage_kept}
 use Rattle.dis_codegen.proofs.Data.{middle_is}
 use Rattle.dis_codegen.proofs.Paces.{far_is}
 use Rattle.dis_codegen.proofs.Far.{NoneHas, made_words, made_with, made_stored, made_found}
@@ -77,7 +77,7 @@ with_linkage f slots b words new h = record {
   is_plain = h.is_plain;
 }
 
-module _ (m : Module) (proper : IsProper m) (k : Bool) (n : ℕ) (w : outside.World) (x : World) (ws : WorldStands m k w x) (p : machine.Process) (r : Process) where
+module _ (m : Module) (proper : IsProper m) (k : Known) (n : ℕ) (w : outside.World) (x : World) (ws : WorldStands m k w x) (p : machine.Process) (r : Process) where
   abbrev D : dis.Does → Type 0
   D e = Done m proper k n w x ws p r e
 
@@ -112,10 +112,10 @@ module _ (m : Module) (proper : IsProper m) (k : Bool) (n : ℕ) (w : outside.Wo
         omega (arith, a, c, lt)
 
     -- The machine is at another place in the code of the instruction, and has other frames that are made.
-    abbrev pub on : (words : List Word) (b' : Word) (made'' made' : List Frame) (frames offset' : ℕ) → suc r.frame.pc ≡ offset' + place C p.frame.pc → HasSlots F p.frame.slots b' words → slice_get words 4 ≡ slice_get r.frame.words 4 → r.frames ≤ frames → made'' ≡ made' →
-        Running m k p (record { number = r.number; frame = record { serial = r.frame.serial; instance = r.frame.instance; pc = suc r.frame.pc; words = words }; below = r.below; made = made''; frames = frames; printing = None }) offset' b' made'
-    on words b' made'' made' frames offset' at has answers more same =
-        remade m k p r offset b made h p.frame.slots words b' p.frame.pc i p.frame.format p.printing made'' made' frames offset' (suc r.frame.pc) None there_is at has answers more same
+    abbrev pub on : (words : List Word) (b' : Word) (made'' made' : List Frame) (offset' : ℕ) → suc r.frame.pc ≡ offset' + place C p.frame.pc → HasSlots F p.frame.slots b' words → slice_get words 4 ≡ slice_get r.frame.words 4 → made'' ≡ made' →
+        Running m k p (record { number = r.number; frame = record { serial = r.frame.serial; instance = r.frame.instance; pc = suc r.frame.pc; words = words }; below = r.below; made = made''; printing = None }) offset' b' made'
+    on words b' made'' made' offset' at has answers same =
+        remade m k p r offset b made h p.frame.slots words b' p.frame.pc i p.frame.format p.printing made'' made' offset' (suc r.frame.pc) None there_is at has answers same
 
   -- ---- the frame is made
 
@@ -125,7 +125,7 @@ module _ (m : Module) (proper : IsProper m) (k : Bool) (n : ℕ) (w : outside.Wo
 
     -- The frame of this function, as it is made.
     abbrev fresh_frame : Function → Frame
-    fresh_frame callee = record { serial = r.frames; instance = r.frame.instance; pc = 0; words = blank (frame_desc callee) }
+    fresh_frame callee = record { serial = x.frames; instance = r.frame.instance; pc = 0; words = blank (frame_desc callee) }
 
     abbrev with_made : Function → Process
     with_made callee = record {
@@ -133,23 +133,23 @@ module _ (m : Module) (proper : IsProper m) (k : Bool) (n : ℕ) (w : outside.Wo
       frame = record { serial = r.frame.serial; instance = r.frame.instance; pc = suc r.frame.pc; words = slice_set r.frame.words (8 + O.slots) (made_at (fresh_frame callee)) };
       below = r.below;
       made = r.made ++ fresh_frame callee ∷ [];
-      frames = suc r.frames;
       printing = None;
     }
 
-    is_made : (callee : Function) → Made (with_made callee) (fresh_frame callee)
-    is_made callee = record { later = h.fresh; given = omega arith; instance = h.frame.instance }
+    is_made : (callee : Function) → Made (with_frame k) (with_made callee) (fresh_frame callee)
+    is_made callee = record { later = let f = h.fresh in let e = ws.frames in omega (arith, f, e); given = let e = ws.frames in omega (arith, e); instance = h.frame.instance }
 
     for_call : (callee : Function) (n : ℕ) → length callee.references ≤ callee.slots → ForCall m callee [] (fresh_frame callee)
     for_call callee n fits = record { has = blank_slots m callee fits; linkage = Plain (pos 0); answers = blank_linkage m callee fits; is_plain = tt }
 
-    abbrev runs_on : (count : ℕ) (e : h.frame.inst ≡ core.Call f args count into) (callee : Function) → suc r.frame.pc ≡ 1 + place (context m.functions p.frame.function O) p.frame.pc → Running m k p (with_made callee) 1 (made_at (fresh_frame callee)) (fresh_frame callee ∷ [])
+    abbrev runs_on : (count : ℕ) (e : h.frame.inst ≡ core.Call f args count into) (callee : Function) → suc r.frame.pc ≡ 1 + place (context m.functions p.frame.function O) p.frame.pc → Running m (with_frame k) p (with_made callee) 1 (made_at (fresh_frame callee)) (fresh_frame callee ∷ [])
     runs_on count e callee at =
-        on 0 b [] h (core.Call f args count into) e (slice_set r.frame.words (8 + O.slots) (made_at (fresh_frame callee))) (made_at (fresh_frame callee)) (r.made ++ fresh_frame callee ∷ []) (fresh_frame callee ∷ []) (suc r.frames) 1 at
-        (slots_behind O p.frame.slots b r.frame.words h.frame.has (made_at (fresh_frame callee)) tt) (linkage_kept r.frame.words O.slots (made_at (fresh_frame callee))) (omega arith) (ap (λ l. l ++ fresh_frame callee ∷ []) h.frames)
+        up m k (with_frame k) p (with_made callee) 1 (made_at (fresh_frame callee)) (fresh_frame callee ∷ []) (more_frames k)
+        (on 0 b [] h (core.Call f args count into) e (slice_set r.frame.words (8 + O.slots) (made_at (fresh_frame callee))) (made_at (fresh_frame callee)) (r.made ++ fresh_frame callee ∷ []) (fresh_frame callee ∷ []) 1 at
+        (slots_behind O p.frame.slots b r.frame.words h.frame.has (made_at (fresh_frame callee)) tt) (linkage_kept r.frame.words O.slots (made_at (fresh_frame callee))) (ap (λ l. l ++ fresh_frame callee ∷ []) h.frames))
 
     made_ready : (count : ℕ) (e : h.frame.inst ≡ core.Call f args count into) (callee : Function) → slice_get m.functions f ≡ Some callee → length callee.references ≤ callee.slots →
-        suc r.frame.pc ≡ 1 + place (context m.functions p.frame.function O) p.frame.pc → Ready m k p (with_made callee)
+        suc r.frame.pc ≡ 1 + place (context m.functions p.frame.function O) p.frame.pc → Ready m (with_frame k) p (with_made callee)
     made_ready zero e callee there fits at = moved {f = f} {args = args} {n = zero} {into = into} {callee = callee} {made = fresh_frame callee} (runs_on zero e callee at) refl there (is_made callee) (for_call callee 0 fits)
     made_ready (suc n) e callee there fits at = framed {f = f} {args = args} {n = n} {into = into} {callee = callee} {made = fresh_frame callee} (runs_on (suc n) e callee at) refl there (is_made callee) (for_call callee 0 fits)
 
@@ -163,8 +163,8 @@ module _ (m : Module) (proper : IsProper m) (k : Bool) (n : ℕ) (w : outside.Wo
         by 0 b [] h i e _ _ (place (context m.functions p.frame.function O) p.frame.pc) (omega arith) cd.code.0
         (frame frames_limit (object_of m) x r (suc f) (slot O.slots) (frame_desc callee) (Own (slot_offset O.slots)) _ (frame_type_is m f callee pr.0.there) refl
         (behind_stored O p.frame.slots b r.frame.words h.frame.has x r (made_at (fresh_frame callee)) refl tt))
-        (rests m k n x w p (paces.place m r) k x (with_made callee) (λ e. e)
-        (made_ready count e callee pr.0.there (proper f callee pr.0.there).variables at) ws
+        (rests m k n x w p (paces.place m r) (with_frame k) (with_frame_made x) (with_made callee) (more_frames k)
+        (made_ready count e callee pr.0.there (proper f callee pr.0.there).variables at) (world_up m k w x ws)
         (further 0 b [] h i e 1 (suc r.frame.pc) (omega arith) (omega arith) at))
 
   -- ---- the arguments are passed
@@ -196,7 +196,7 @@ module _ (m : Module) (proper : IsProper m) (k : Bool) (n : ℕ) (w : outside.Wo
 
   -- ---- with a frame that is made
 
-  module _ (offset : ℕ) (made : Frame) (h : Running m k p r offset (made_at made) (made ∷ [])) (is : Made r made) where
+  module _ (offset : ℕ) (made : Frame) (h : Running m k p r offset (made_at made) (made ∷ [])) (is : Made k r made) where
     abbrev pub Own_function : Function
     Own_function = h.frame.function
 
@@ -241,18 +241,18 @@ module _ (m : Module) (proper : IsProper m) (k : Bool) (n : ℕ) (w : outside.Wo
 
     -- After a store into the frame that is made, the machine is further in the code of the instruction.
     abbrev pub with_other : Frame → Process
-    with_other made' = record { number = r.number; frame = record { serial = r.frame.serial; instance = r.frame.instance; pc = suc r.frame.pc; words = r.frame.words }; below = r.below; made = made' ∷ []; frames = r.frames; printing = None }
+    with_other made' = record { number = r.number; frame = record { serial = r.frame.serial; instance = r.frame.instance; pc = suc r.frame.pc; words = r.frame.words }; below = r.below; made = made' ∷ []; printing = None }
 
     abbrev pub still : (i : Inst) (e : h.frame.inst ≡ i) (words : List Word) (offset' : ℕ) → suc r.frame.pc ≡ offset' + place Its p.frame.pc → Running m k p (with_other (with_words made words)) offset' (made_at made) (with_words made words ∷ [])
     still i e words offset' at =
-        on offset (made_at made) (made ∷ []) h i e r.frame.words (made_at made) (with_words made words ∷ []) (with_words made words ∷ []) r.frames offset' at h.frame.has refl (omega arith) refl
+        on offset (made_at made) (made ∷ []) h i e r.frame.words (made_at made) (with_words made words ∷ []) (with_words made words ∷ []) offset' at h.frame.has refl refl
 
-    pub still_made : (words : List Word) → Made (with_other (with_words made words)) (with_words made words)
+    pub still_made : (words : List Word) → Made k (with_other (with_words made words)) (with_words made words)
     still_made words = record { later = is.later; given = is.given; instance = is.instance }
 
   -- ---- the stages of a call
 
-  module _ (offset : ℕ) (made : Frame) (h : Running m k p r offset (made_at made) (made ∷ [])) (is : Made r made) (f args count into : ℕ) (e : h.frame.inst ≡ core.Call f args count into) (callee : Function) (there : slice_get m.functions f ≡ Some callee) where
+  module _ (offset : ℕ) (made : Frame) (h : Running m k p r offset (made_at made) (made ∷ [])) (is : Made k r made) (f args count into : ℕ) (e : h.frame.inst ≡ core.Call f args count into) (callee : Function) (there : slice_get m.functions f ≡ Some callee) where
     abbrev S : Function
     S = h.frame.function
 
@@ -289,7 +289,7 @@ module _ (m : Module) (proper : IsProper m) (k : Bool) (n : ℕ) (w : outside.Wo
         let at : suc r.frame.pc ≡ suc (suc (moved_size count)) + place T p.frame.pc = let z = h.frame.here in omega (arith, z, off) in
         by offset (made_at made) (made ∷ []) h i e _ _ (place T p.frame.pc + suc (moved_size count)) (omega (arith, off)) tail_code.0
         (addresses offset made h is into its.linkage pr.2 its.answers its.is_plain)
-        (rests m k n x w p (paces.place m r) k x (with_other offset made h is (with_words made words)) (λ e. e)
+        (rests m k n x w p (paces.place m r) k x (with_other offset made h is (with_words made words)) (as_known k)
         (addressed {f = f} {args = args} {n = count} {into = into} {callee = callee} {made = with_words made words} (still offset made h is i e words (suc (suc (moved_size count))) at) refl there (still_made offset made h is words)
         (record {
           has = with_linkage callee (λ s. slice_index_or (taken p.frame.slots args count) s zero_value) (Plain (pos 0)) made.words (Address (InFrame r.frame.serial) (slot_offset into)) its.has;
@@ -365,7 +365,7 @@ module _ (m : Module) (proper : IsProper m) (k : Bool) (n : ℕ) (w : outside.Wo
     by_height true st ready = steps_once m k n x w p (paces.place m r) w core_called x called st ready ws
     by_height false st ready = record {
       now = k;
-      changes = λ e. e;
+      changes = as_known k;
       world = w;
       comes = at_once m k n x w p (paces.place m r) _ st;
       worlds = ws;
@@ -393,7 +393,7 @@ module _ (m : Module) (proper : IsProper m) (k : Bool) (n : ℕ) (w : outside.Wo
         callee_code = slice_get-map (λ f. f.code) m.functions f ∙ ap (option_map (λ f. f.code)) there
 
   -- The arguments of a call that has some.
-  module _ (made : Frame) (h : Running m k p r 1 (made_at made) (made ∷ [])) (is : Made r made) (f args c into : ℕ) (e : h.frame.inst ≡ core.Call f args (suc c) into) (callee : Function) (there : slice_get m.functions f ≡ Some callee) where
+  module _ (made : Frame) (h : Running m k p r 1 (made_at made) (made ∷ [])) (is : Made k r made) (f args c into : ℕ) (e : h.frame.inst ≡ core.Call f args (suc c) into) (callee : Function) (there : slice_get m.functions f ≡ Some callee) where
     pub framed_goes : ForCall m callee [] made → G
     framed_goes its =
         let S = h.frame.function in
@@ -407,7 +407,7 @@ module _ (m : Module) (proper : IsProper m) (k : Bool) (n : ℕ) (w : outside.Wo
         let at : suc r.frame.pc ≡ suc (moved_size (suc c)) + place T p.frame.pc = let z = h.frame.here in omega (arith, z) in
         by 1 (made_at made) (made ∷ []) h i e _ _ (suc (place T p.frame.pc)) (omega arith) cd.code.1.0
         (passes 1 made h is args c cd.datum 32 8 pr.1 cd.held refl (call_plain callee made.words its.has ints))
-        (rests m k n x w p (paces.place m r) k x (with_other 1 made h is (with_words made words)) (λ e. e)
+        (rests m k n x w p (paces.place m r) k x (with_other 1 made h is (with_words made words)) (as_known k)
         (moved {f = f} {args = args} {n = suc c} {into = into} {callee = callee} {made = with_words made words} (still 1 made h is i e words (suc (moved_size (suc c))) at) refl there (still_made 1 made h is words)
         (record {
           has = passed_slots callee made.words vs (suc c) (taken_length p.frame.slots args (suc c)) ints its.has;

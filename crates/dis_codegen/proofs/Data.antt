@@ -12,7 +12,7 @@ use Rattle.dis_meaning.specs.Places.{Data, data_of, data_at, read, source_plain,
 use Rattle.dis_codegen.specs.Code.{Datum, Text, Number, datum_offset, number_datum, number_source, number_middle}
 use Rattle.dis_codegen.specs.Objects.{module_data}
 use Rattle.dis_codegen.specs.Start.{data_words, data_texts, opening_blocks}
-use Rattle.dis_codegen.specs.Stands.{WorldStands}
+use Rattle.dis_codegen.specs.Stands.{Known, WorldStands}
 use Rattle.dis_codegen.proofs.Memory.{at_word}
 use Rattle.dis_codegen.proofs.Lookups.{HasAt}
 
@@ -46,7 +46,7 @@ front_get [] ys k x e = absurd cc
 front_get (y ∷ xs) ys zero x e = e
 front_get (y ∷ xs) ys (suc k) x e = front_get xs ys k x e
 
-module _ (m : Module) (k : Bool) (w : outside.World) (x : World) (r : Process) (ws : WorldStands m k w x) (z : r.frame.instance ≡ 0) where
+module _ (m : Module) (k : Known) (w : outside.World) (x : World) (r : Process) (ws : WorldStands m k w x) (z : r.frame.instance ≡ 0) where
   abbrev the_words : List Word
   the_words = Refer (Some 1) ∷ Refer ws.sys ∷ data_words 2 (module_data m.functions)
 
@@ -88,7 +88,7 @@ module _ (m : Module) (k : Bool) (w : outside.World) (x : World) (r : Process) (
       }
 
 -- A block of the opening is there later too, but for the data.
-pub block_kept : (m : Module) (k : Bool) (w : outside.World) (x : World) → WorldStands m k w x → (serial : ℕ) (t : List ℕ) → slice_get (opening_blocks (module_data m.functions)) serial ≡ Some (memory.Text t) → slice_get x.blocks serial ≡ Some (memory.Text t)
+pub block_kept : (m : Module) (k : Known) (w : outside.World) (x : World) → WorldStands m k w x → (serial : ℕ) (t : List ℕ) → slice_get (opening_blocks (module_data m.functions)) serial ≡ Some (memory.Text t) → slice_get x.blocks serial ≡ Some (memory.Text t)
 block_kept m k w x ws zero t e = absurd cc
 block_kept m k w x ws (suc zero) t e = ap (λ bs. slice_get bs 1) ws.blocks ∙ e
 block_kept m k w x ws (suc (suc n)) t e = ap (λ bs. slice_get bs (suc (suc n))) ws.blocks ∙ front_get (data_texts (module_data m.functions)) ws.more n (memory.Text t) e

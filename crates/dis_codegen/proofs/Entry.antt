@@ -21,13 +21,13 @@ use Rattle.dis_meaning.specs.Step.{names, text_at, loaded, middle_immediate, tar
 use Rattle.dis_codegen.specs.Code.{place, slot, slot_offset, path_word, sys_word, inst, inst_code}
 use Rattle.dis_codegen.specs.Objects.{entry, begins, or_ends, entry_size, entry_length, base_of, context, functions_code, init_of, module_data, sys_imports, object_of}
 use Rattle.dis_codegen.specs.Start.{data_words, data_texts}
-use Rattle.dis_codegen.specs.Stands.{IsPlain, AnswersTo, HasSlots, Entering, FrameStands, StackStands, Running, Ready, loads, leaves, WorldStands}
+use Rattle.dis_codegen.specs.Stands.{Known, IsPlain, AnswersTo, HasSlots, Entering, FrameStands, StackStands, Running, Ready, loads, leaves, WorldStands}
 use Rattle.dis_codegen.specs.Stands as stands
 use Rattle.dis_codegen.specs.Paces as paces
 use Rattle.dis_codegen.proofs.Memory.{stored_at, set_same, set_other}
 use Rattle.dis_codegen.proofs.Instructions.{load, lea, jmp}
 use Rattle.dis_codegen.proofs.Lookups.{HasAt, has_behind, coded}
-use Rattle.dis_codegen.proofs.Runs.{behind_at, step_is, rests}
+use Rattle.dis_codegen.proofs.Runs.{as_known, behind_at, step_is, rests}
 use Rattle.dis_codegen.proofs.Data.{data_read}
 use Rattle.dis_codegen.proofs.Paces.{far_is}
 use Rattle.dis_codegen.proofs.Simple.{Done, Goal, within_code, some_size, some_code}
@@ -40,11 +40,11 @@ get_last : {A : Type 0} (xs : List A) (x : A) → slice_get (xs ++ x ∷ []) (le
 get_last [] x = refl
 get_last (y ∷ xs) x = get_last xs x
 
-module _ (m : Module) (proper : IsProper m) (k : Bool) (n : ℕ) (w : outside.World) (x : World) (ws : WorldStands m k w x) (p : machine.Process) (r : Process) where
+module _ (m : Module) (proper : IsProper m) (k : Known) (n : ℕ) (w : outside.World) (x : World) (ws : WorldStands m k w x) (p : machine.Process) (r : Process) where
   abbrev D : dis.Does → Type 0
   D e = Done m proper k n w x ws p r e
 
-  module _ (pc : ℕ) (b : Word) (h : Entering m p r pc b) where
+  module _ (pc : ℕ) (b : Word) (h : Entering m k p r pc b) where
     abbrev F : Function
     F = h.function
 
@@ -71,7 +71,7 @@ module _ (m : Module) (proper : IsProper m) (k : Bool) (n : ℕ) (w : outside.Wo
 
     -- The same process, a place further.
     abbrev on : (words : List Word) (b' : Word) (at : ℕ) → suc r.frame.pc ≡ at → HasSlots F p.frame.slots h.behind words → slice_get words 4 ≡ Some b' → IsPlain b' →
-        Entering m p (record { number = r.number; frame = record { serial = r.frame.serial; instance = r.frame.instance; pc = suc r.frame.pc; words = words }; below = r.below; made = r.made; frames = r.frames; printing = None }) at b'
+        Entering m k p (record { number = r.number; frame = record { serial = r.frame.serial; instance = r.frame.instance; pc = suc r.frame.pc; words = words }; below = r.below; made = r.made; printing = None }) at b'
     on words b' at here has answers pl = record {
       init = h.init;
       is_init = h.is_init;
@@ -92,6 +92,30 @@ module _ (m : Module) (proper : IsProper m) (k : Bool) (n : ℕ) (w : outside.Wo
     }
 
     -- ---- Sys is loaded
+
+    -- It is known to be, and no frame was made.
+    abbrev with_sys : Known
+    with_sys = record { loaded = true; frames = k.frames }
+
+    knowing : {q : Process} {at : ℕ} {b' : Word} → Entering m k p q at b' → Entering m with_sys p q at b'
+    knowing e = record {
+      init = e.init;
+      is_init = e.is_init;
+      function = e.function;
+      found = e.found;
+      number = e.number;
+      frame = e.frame;
+      alone = e.alone;
+      alone_too = e.alone_too;
+      here = e.here;
+      instance = e.instance;
+      behind = e.behind;
+      has = e.has;
+      answers = e.answers;
+      is_plain = e.is_plain;
+      frames = e.frames;
+      fresh = e.fresh;
+    }
 
     abbrev sys_block : Content
     sys_block = Sys (names sys_imports)
@@ -130,14 +154,14 @@ module _ (m : Module) (proper : IsProper m) (k : Bool) (n : ℕ) (w : outside.Wo
         by_entry (inst op.Load path_word (middle.Imm (pos 0)) sys_word) _ (subst (λ c. slice_get (object_of m).insts c ≡ Some (inst op.Load path_word (middle.Imm (pos 0)) sys_word)) (sym z) entry_is.0)
         (load frames_limit (object_of m) x r path_word sys_word (middle.Imm (pos 0)) (Refer (Some 1)) (Some 1) (codes "$Sys") 0 sys_imports (Data (pos 4)) (record { world = new_world; process = r })
         (data_read m k w x r ws h.instance 0 0 (Refer (Some 1)) refl refl) refl (ap (λ bs. or_wrong dead_address (slice_get bs 1) >>= dis_step.text_of) ws.blocks) refl refl refl is_loaded)
-        (rests m k n x w p (paces.place m r) true new_world _ (λ e. refl)
-        (loads {w = b} refl (on r.frame.words b 1 at h.has h.answers h.is_plain))
-        (record { outside = ws.outside; sys = Some (length x.blocks); more = more_blocks; blocks = new_blocks; loaded = λ e. (length x.blocks, refl, sys_there) })
+        (rests m k n x w p (paces.place m r) with_sys new_world _ (record { stays = λ e. refl; rises = omega arith })
+        (loads {w = b} refl (knowing (on r.frame.words b 1 at h.has h.answers h.is_plain)))
+        (record { outside = ws.outside; frames = ws.frames; sys = Some (length x.blocks); more = more_blocks; blocks = new_blocks; loaded = λ e. (length x.blocks, refl, sys_there) })
         (let a = far_in 0 (omega arith) in let c = far_in 1 (omega arith) in further_in 0 1 (ap (paces.far m) (h.here ∙ z) ∙ a) (ap (paces.far m) at ∙ c) (omega arith)))
 
     -- ---- the answer's place
 
-    pub loads_goes : pc ≡ 1 → k ≡ true → Goal m proper k n w x ws p r
+    pub loads_goes : pc ≡ 1 → k.loaded ≡ true → Goal m proper k n w x ws p r
     loads_goes z loaded_already =
         let at : suc r.frame.pc ≡ 2 = let a = h.here in omega (arith, a, z) in
         let new = Address (InFrame r.frame.serial) (slot_offset F.slots) in
@@ -145,7 +169,7 @@ module _ (m : Module) (proper : IsProper m) (k : Bool) (n : ℕ) (w : outside.Wo
         by_entry (inst op.Lea (slot F.slots) middle.None (operand.Fp (pos 16))) _ (subst (λ c. slice_get (object_of m).insts c ≡ Some (inst op.Lea (slot F.slots) middle.None (operand.Fp (pos 16)))) (sym z) entry_is.1.0)
         (lea frames_limit (object_of m) x r (slot F.slots) (operand.Fp (pos 16)) (Own (slot_offset F.slots)) (Own (pos 16)) h.behind _ refl (behind_at F p.frame.slots h.behind r.frame.words h.has) refl
         (ap (λ a. a >>= λ ws. Found (record { world = x; process = with_frames r (with_words r.frame ws) r.below r.made })) (stored_at r.frame.words 16 4 b new refl h.answers h.is_plain tt)))
-        (rests m k n x w p (paces.place m r) k x _ (λ e. e)
+        (rests m k n x w p (paces.place m r) k x _ (as_known k)
         (leaves {w = new} loaded_already (on words new 2 at (with_linkage F p.frame.slots h.behind r.frame.words new h.has) (set_same r.frame.words 4 new b h.answers) tt) (set_same r.frame.words 4 new b h.answers)) ws
         (let a = far_in 1 (omega arith) in let c = far_in 2 (omega arith) in further_in 1 2 (ap (paces.far m) (h.here ∙ z) ∙ a) (ap (paces.far m) at ∙ c) (omega arith)))
 
@@ -169,12 +193,12 @@ module _ (m : Module) (proper : IsProper m) (k : Bool) (n : ℕ) (w : outside.Wo
         let stands = subst (λ a. HasAt (object_of m).insts a (inst_code (context m.functions p.frame.function F) p.frame.pc c.datum runs.inst)) place_is c.code in
         ap (λ t. if t then Found base else Wrong bad_jump) (within_code (object_of m).insts base _ stands (some_code (context m.functions p.frame.function F) p.frame.pc c.datum runs.inst))
 
-    pub leaves_goes : pc ≡ 2 → k ≡ true → AnswersTo r.frame.words (InFrame r.frame.serial) (slot_offset F.slots) → Goal m proper k n w x ws p r
+    pub leaves_goes : pc ≡ 2 → k.loaded ≡ true → AnswersTo r.frame.words (InFrame r.frame.serial) (slot_offset F.slots) → Goal m proper k n w x ws p r
     leaves_goes z loaded_already answers =
         let new : Frame = record { serial = r.frame.serial; instance = r.frame.instance; pc = base; words = r.frame.words } in
         by_entry (inst op.Jmp operand.None middle.None (operand.Imm (pos base))) _ (subst (λ c. slice_get (object_of m).insts c ≡ Some (inst op.Jmp operand.None middle.None (operand.Imm (pos base)))) (sym z) entry_is.1.1.0)
         (jmp frames_limit (object_of m) x r (operand.Imm (pos base)) base in_code)
-        (rests m k n x w p (paces.place m r) k x (with_frames r new r.below r.made) (λ e. e)
+        (rests m k n x w p (paces.place m r) k x (with_frames r new r.below r.made) (as_known k)
         (stands.begins {w = h.behind} (record {
           loaded = loaded_already;
           number = h.number;

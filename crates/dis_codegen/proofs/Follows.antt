@@ -21,9 +21,9 @@ use Rattle.dis_meaning.specs.Process.{Process, with_words, with_frames}
 use Rattle.dis_meaning.specs.Step as dis_step
 use Rattle.dis_meaning.specs.Step.{word_of, outside_is}
 use Rattle.dis_codegen.specs.Code.{slot_offset}
-use Rattle.dis_codegen.specs.Stands.{Running, Ready, enters, loads, leaves, begins, compares, fails, result, framed, moved, addressed, formats, formatted, passed, prints, returns, Asking, WorldStands, sides}
+use Rattle.dis_codegen.specs.Stands.{Known, Running, Ready, enters, loads, leaves, begins, compares, fails, result, framed, moved, addressed, formats, formatted, passed, prints, returns, Asking, WorldStands, sides}
 use Rattle.dis_codegen.proofs.Memory.{stored_at, word_plain}
-use Rattle.dis_codegen.proofs.Runs.{slots_put, linkage_kept, stack_same}
+use Rattle.dis_codegen.proofs.Runs.{as_known, slots_put, linkage_kept, stack_same}
 use Rattle.dis_codegen.proofs.Far.{own_stored}
 use Rattle.dis_codegen.proofs.Simple.{Goal, set_goes, move_goes, unless_goes, jump_goes, back_goes}
 use Rattle.dis_codegen.proofs.Operations.{operate_goes, compares_goes, fails_goes, result_goes}
@@ -32,7 +32,7 @@ use Rattle.dis_codegen.proofs.Prints.{format_goes, formats_goes, formatted_goes,
 use Rattle.dis_codegen.proofs.Returns.{return_goes, leave_goes, ret_goes}
 use Rattle.dis_codegen.proofs.Entry.{enters_goes, loads_goes, leaves_goes}
 
-module _ (m : Module) (proper : IsProper m) (k : Bool) (n : ℕ) (w : outside.World) (x : World) (ws : WorldStands m k w x) (p : machine.Process) (r : Process) where
+module _ (m : Module) (proper : IsProper m) (k : Known) (n : ℕ) (w : outside.World) (x : World) (ws : WorldStands m k w x) (p : machine.Process) (r : Process) where
   abbrev G : Type 0
   G = Goal m proper k n w x ws p r
 
@@ -70,12 +70,12 @@ module _ (m : Module) (proper : IsProper m) (k : Bool) (n : ℕ) (w : outside.Wo
 
 -- ---- replies
 
-module _ (m : Module) (proper : IsProper m) (k : Bool) (n : ℕ) (w : outside.World) (x : World) (ws : WorldStands m k w x) (p : machine.Process) (r : Process) (h : Asking m k p r) where
+module _ (m : Module) (proper : IsProper m) (k : Known) (n : ℕ) (w : outside.World) (x : World) (ws : WorldStands m k w x) (p : machine.Process) (r : Process) (h : Asking m k p r) where
   abbrev M : Effect outside.World machine.Process Value Request Ending → dis.Does → Type 0
   M e f = MatchesReply (sides m) k n x e f
 
   outside_stands : (v : outside.World) → WorldStands m k v (outside_is x v)
-  outside_stands v = record { outside = refl; sys = ws.sys; more = ws.more; blocks = ws.blocks; loaded = ws.loaded }
+  outside_stands v = record { outside = refl; frames = ws.frames; sys = ws.sys; more = ws.more; blocks = ws.blocks; loaded = ws.loaded }
 
   hears_alike : (g : Printing) → M (machine.hears w p g) (dis_step.hears x r (InFrame r.frame.serial) (slot_offset p.frame.into) g)
   hears_alike (Answers v a) =
@@ -87,7 +87,7 @@ module _ (m : Module) (proper : IsProper m) (k : Bool) (n : ℕ) (w : outside.Wo
       (stored_at r.frame.words (32 + 4 * into) (8 + into) (word_of (p.frame.slots into)) (word_of a) (omega arith) (h.waits.stands.has.ints into h.waits.into) (word_plain (p.frame.slots into)) (word_plain a))))
       (record {
         now = k;
-        changes = λ e. e;
+        changes = as_known k;
         world = v;
         after = _;
         does = refl;
@@ -111,7 +111,7 @@ module _ (m : Module) (proper : IsProper m) (k : Bool) (n : ℕ) (w : outside.Wo
       })
   hears_alike (Requests v req kk) = record {
     now = k;
-    changes = λ e. e;
+    changes = as_known k;
     world = v;
     after = _;
     does = refl;

@@ -62,11 +62,11 @@ module _ (limit : ℕ) (o : Object) (x : World) (r : Process) where
   pub jmp : (dst : Operand) (pc : ℕ) → target o dst ≡ Found pc → obey limit o x r (inst op.Jmp operand.None middle.None dst) op.Jmp ≡ Found (jumps x r pc)
   jmp dst pc a = ap (λ e. e >>= λ pc. Found (jumps x r pc)) a
 
-  pub frame : (n : ℕ) (dst : Operand) (desc : TypeDesc) (d : Spot) (after : Memory) → slice_get o.types n ≡ Some desc → spot x r dst ≡ Found d → store x r d (Address (InFrame r.frames) (pos 0)) ≡ Found after →
+  pub frame : (n : ℕ) (dst : Operand) (desc : TypeDesc) (d : Spot) (after : Memory) → slice_get o.types n ≡ Some desc → spot x r dst ≡ Found d → store x r d (Address (InFrame x.frames) (pos 0)) ≡ Found after →
       obey limit o x r (inst op.Frame (operand.Imm (pos n)) middle.None dst) op.Frame ≡ Found (next (framed after (blank desc)))
   frame n dst desc d after a b c =
-      ap (λ e. or_wrong type_check e >>= λ desc. spot x r dst >>= λ d. store x r d (Address (InFrame r.frames) (pos 0)) >>= λ m. Found (next (framed m (blank desc)))) a
-      ∙ ap (λ e. e >>= λ d. store x r d (Address (InFrame r.frames) (pos 0)) >>= λ m. Found (next (framed m (blank desc)))) b
+      ap (λ e. or_wrong type_check e >>= λ desc. spot x r dst >>= λ d. store x r d (Address (InFrame x.frames) (pos 0)) >>= λ m. Found (next (framed m (blank desc)))) a
+      ∙ ap (λ e. e >>= λ d. store x r d (Address (InFrame x.frames) (pos 0)) >>= λ m. Found (next (framed m (blank desc)))) b
       ∙ ap (λ e. e >>= λ m. Found (next (framed m (blank desc)))) c
 
   pub call : (src dst : Operand) (w : Word) (f : Frame) (pc : ℕ) → source_word x r src ≡ Found w → frame_at x r w ≡ Found f → target o dst ≡ Found pc →

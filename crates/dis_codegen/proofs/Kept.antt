@@ -24,7 +24,7 @@ use Rattle.dis_codegen.specs.Objects.{module_data, init_of, object_of, frame_des
 use Rattle.dis_codegen.specs.Start.{opening, first_process, entry_words, data_words, data_texts}
 use Rattle.dis_codegen.specs.Stands.{Ready, enters, WorldStands, HasSlots, sides}
 use Rattle.dis_codegen.specs.Paces.{place}
-use Rattle.dis_codegen.specs.Laws.{Keeps, NeverFaults, IsFew}
+use Rattle.dis_codegen.specs.Laws.{at_first, Keeps, NeverFaults, IsFew}
 use Rattle.dis_codegen.proofs.Lookups.{insts_length, frame_type_is, found_within, none_found}
 use Rattle.dis_codegen.proofs.Frames.{blank_slots, blank_linkage}
 use Rattle.dis_codegen.proofs.Follows.{goes}
@@ -52,7 +52,7 @@ module _ (m : Module) (proper : IsProper m) (init : ℕ) (e : init_of m ≡ Some
       ap (λ o. entry_words (slice_get (object_of m).types (entry_type_of m.functions o))) e
       ∙ ap entry_words (frame_type_is m init F there)
 
-  begins : Ready m false (core_rules.first_process init) (first_process m)
+  begins : Ready m at_first (core_rules.first_process init) (first_process m)
   begins =
       let fits = (proper init F there).variables in
       enters {w = Plain (pos 0)} (record {
@@ -74,9 +74,10 @@ module _ (m : Module) (proper : IsProper m) (init : ℕ) (e : init_of m ≡ Some
         fresh = omega arith;
       })
 
-begins_in : (m : Module) → WorldStands m false opening_world (opening m)
+begins_in : (m : Module) → WorldStands m at_first opening_world (opening m)
 begins_in m = record {
   outside = refl;
+  frames = refl;
   sys = None;
   more = [];
   blocks = ap (λ l. Instance 0 (Refer (Some 1) ∷ Refer None ∷ data_words 2 (module_data m.functions)) ∷ memory.Text (codes "$Sys") ∷ l) (sym (append-nil (data_texts (module_data m.functions))));

@@ -27,12 +27,12 @@ use Rattle.dis_meaning.specs.Step as dis_step
 use Rattle.dis_meaning.specs.Step.{word_of, target}
 use Rattle.dis_codegen.specs.Code.{operation_size, size, slot, slot_offset, Context, place, inst, operation, comparison, operate}
 use Rattle.dis_codegen.specs.Objects.{context, module_data, object_of}
-use Rattle.dis_codegen.specs.Stands.{IsPlain, HasSlots, Running, begins, compares, fails, result, compared, IsComparison, WorldStands}
+use Rattle.dis_codegen.specs.Stands.{Known, IsPlain, HasSlots, Running, begins, compares, fails, result, compared, IsComparison, WorldStands}
 use Rattle.dis_codegen.specs.Paces as paces
 use Rattle.dis_codegen.proofs.Memory.{plain_is, word_plain}
 use Rattle.dis_codegen.proofs.Instructions.{movw, operated, tested}
 use Rattle.dis_codegen.proofs.Lookups.{HasAt, Coded}
-use Rattle.dis_codegen.proofs.Runs.{slots_put, slots_behind, behind_at, slot_stored, behind_stored, place_on, rests, steps_once, remade, linkage_kept}
+use Rattle.dis_codegen.proofs.Runs.{as_known, slots_put, slots_behind, behind_at, slot_stored, behind_stored, place_on, rests, steps_once, remade, linkage_kept}
 use Rattle.dis_codegen.proofs.Paces.{far_is}
 use Rattle.dis_codegen.proofs.Simple.{number_of, Done, Goal, core_is, by_instruction, its_code, is_proper, slot_number, slot_middle, within_code}
 
@@ -66,7 +66,7 @@ compared_word Add v u c = absurd c
 compared_word Subtract v u c = absurd c
 compared_word Multiply v u c = absurd c
 
-module _ (m : Module) (proper : IsProper m) (k : Bool) (n : ℕ) (w : outside.World) (x : World) (ws : WorldStands m k w x) (p : machine.Process) (r : Process) where
+module _ (m : Module) (proper : IsProper m) (k : Known) (n : ℕ) (w : outside.World) (x : World) (ws : WorldStands m k w x) (p : machine.Process) (r : Process) where
   abbrev D : dis.Does → Type 0
   D e = Done m proper k n w x ws p r e
 
@@ -87,8 +87,8 @@ module _ (m : Module) (proper : IsProper m) (k : Bool) (n : ℕ) (w : outside.Wo
     wrote last s v is on does =
         steps_once m k n x w p (paces.place m r) w _ x _ (core_is m w p H i h.frame.found there_is ∙ does)
         (begins
-        (remade m k p r offset b [] h (put p.frame.slots s v) (slice_set r.frame.words (8 + s) (word_of v)) b (suc p.frame.pc) on.inst p.frame.format None r.made [] r.frames 0 (suc r.frame.pc) None
-        on.there (let z = h.frame.here in let a = place_on K p.frame.pc i there_is in omega (arith, z, a, last)) (slots_put H p.frame.slots b r.frame.words h.frame.has s v is) (linkage_kept r.frame.words s (word_of v)) (omega arith) h.frames)
+        (remade m k p r offset b [] h (put p.frame.slots s v) (slice_set r.frame.words (8 + s) (word_of v)) b (suc p.frame.pc) on.inst p.frame.format None r.made [] 0 (suc r.frame.pc) None
+        on.there (let z = h.frame.here in let a = place_on K p.frame.pc i there_is in omega (arith, z, a, last)) (slots_put H p.frame.slots b r.frame.words h.frame.has s v is) (linkage_kept r.frame.words s (word_of v)) h.frames)
         on.other) ws
 
     -- The machine goes on in the code of the instruction: it is further then.
@@ -100,17 +100,17 @@ module _ (m : Module) (proper : IsProper m) (k : Bool) (n : ℕ) (w : outside.Wo
 
     -- The word behind the slots was written.
     abbrev pub kept_behind : (b' : Word) (offset' pc' : ℕ) → IsPlain b' → pc' ≡ offset' + place K p.frame.pc →
-        Running m k p (record { number = r.number; frame = record { serial = r.frame.serial; instance = r.frame.instance; pc = pc'; words = slice_set r.frame.words (8 + H.slots) b' }; below = r.below; made = r.made; frames = r.frames; printing = None }) offset' b' []
+        Running m k p (record { number = r.number; frame = record { serial = r.frame.serial; instance = r.frame.instance; pc = pc'; words = slice_set r.frame.words (8 + H.slots) b' }; below = r.below; made = r.made; printing = None }) offset' b' []
     kept_behind b' offset' pc' pl at =
-        remade m k p r offset b [] h p.frame.slots (slice_set r.frame.words (8 + H.slots) b') b' p.frame.pc i p.frame.format p.printing r.made [] r.frames offset' pc' None
-        there_is at (slots_behind H p.frame.slots b r.frame.words h.frame.has b' pl) (linkage_kept r.frame.words H.slots b') (omega arith) h.frames
+        remade m k p r offset b [] h p.frame.slots (slice_set r.frame.words (8 + H.slots) b') b' p.frame.pc i p.frame.format p.printing r.made [] offset' pc' None
+        there_is at (slots_behind H p.frame.slots b r.frame.words h.frame.has b' pl) (linkage_kept r.frame.words H.slots b') h.frames
 
     -- Nothing but the place changed.
     abbrev pub kept_at : (offset' pc' : ℕ) → pc' ≡ offset' + place K p.frame.pc →
-        Running m k p (record { number = r.number; frame = record { serial = r.frame.serial; instance = r.frame.instance; pc = pc'; words = r.frame.words }; below = r.below; made = r.made; frames = r.frames; printing = None }) offset' b []
+        Running m k p (record { number = r.number; frame = record { serial = r.frame.serial; instance = r.frame.instance; pc = pc'; words = r.frame.words }; below = r.below; made = r.made; printing = None }) offset' b []
     kept_at offset' pc' at =
-        remade m k p r offset b [] h p.frame.slots r.frame.words b p.frame.pc i p.frame.format p.printing r.made [] r.frames offset' pc' None
-        there_is at h.frame.has refl (omega arith) h.frames
+        remade m k p r offset b [] h p.frame.slots r.frame.words b p.frame.pc i p.frame.format p.printing r.made [] offset' pc' None
+        there_is at h.frame.has refl h.frames
 
   -- ---- arithmetic
 
@@ -146,7 +146,7 @@ module _ (m : Module) (proper : IsProper m) (k : Bool) (n : ℕ) (w : outside.Wo
         by_instruction m proper k n w x ws p r 0 b [] h _ _ (first_at 0 _ (place L p.frame.pc) (omega arith) has.0)
         (movw frames_limit (object_of m) x r (operand.Imm (pos 1)) (slot J.slots) (Plain (pos 1)) (Own (slot_offset J.slots)) _ refl refl (behind_stored J p.frame.slots b r.frame.words h.frame.has x r (Plain (pos 1)) refl tt))
         (let at : suc r.frame.pc ≡ 1 + place L p.frame.pc = let z = h.frame.here in omega (arith, z) in
-        rests m k n x w p (paces.place m r) k x _ (λ e. e)
+        rests m k n x w p (paces.place m r) k x _ (as_known k)
         (compares {o = o} {into = into} {left = left} {right = right} (kept_behind 0 b h (core.Operate o into left right) e (Plain (pos 1)) 1 (suc r.frame.pc) tt at) refl is) ws
         (further 0 b h (core.Operate o into left right) e 1 (suc r.frame.pc) (omega arith) (omega (arith, four)) at))
 
@@ -210,16 +210,16 @@ module _ (m : Module) (proper : IsProper m) (k : Bool) (n : ℕ) (w : outside.Wo
 
     -- Nothing but the place changed, and the word behind the slots is known.
     abbrev kept_word : (b' : Word) → b ≡ b' → place M p.frame.pc + 3 ≡ 3 + place M p.frame.pc →
-        Running m k p (record { number = r.number; frame = record { serial = r.frame.serial; instance = r.frame.instance; pc = place M p.frame.pc + 3; words = r.frame.words }; below = r.below; made = r.made; frames = r.frames; printing = None }) 3 b' []
+        Running m k p (record { number = r.number; frame = record { serial = r.frame.serial; instance = r.frame.instance; pc = place M p.frame.pc + 3; words = r.frame.words }; below = r.below; made = r.made; printing = None }) 3 b' []
     kept_word b' same at =
-        remade m k p r offset b [] h p.frame.slots r.frame.words b' p.frame.pc i p.frame.format p.printing r.made [] r.frames 3 (place M p.frame.pc + 3) None
-        (there_is offset b h i e) at (subst (λ b. HasSlots I p.frame.slots b r.frame.words) same h.frame.has) refl (omega arith) h.frames
+        remade m k p r offset b [] h p.frame.slots r.frame.words b' p.frame.pc i p.frame.format p.printing r.made [] 3 (place M p.frame.pc + 3) None
+        (there_is offset b h i e) at (subst (λ b. HasSlots I p.frame.slots b r.frame.words) same h.frame.has) refl h.frames
 
     abbrev kept_one : b ≡ Plain (pos 1) → suc r.frame.pc ≡ 2 + place M p.frame.pc →
-        Running m k p (record { number = r.number; frame = record { serial = r.frame.serial; instance = r.frame.instance; pc = suc r.frame.pc; words = r.frame.words }; below = r.below; made = r.made; frames = r.frames; printing = None }) 2 (Plain (pos 1)) []
+        Running m k p (record { number = r.number; frame = record { serial = r.frame.serial; instance = r.frame.instance; pc = suc r.frame.pc; words = r.frame.words }; below = r.below; made = r.made; printing = None }) 2 (Plain (pos 1)) []
     kept_one same at =
-        remade m k p r offset b [] h p.frame.slots r.frame.words (Plain (pos 1)) p.frame.pc i p.frame.format p.printing r.made [] r.frames 2 (suc r.frame.pc) None
-        (there_is offset b h i e) at (subst (λ b. HasSlots I p.frame.slots b r.frame.words) same h.frame.has) refl (omega arith) h.frames
+        remade m k p r offset b [] h p.frame.slots r.frame.words (Plain (pos 1)) p.frame.pc i p.frame.format p.printing r.made [] 2 (suc r.frame.pc) None
+        (there_is offset b h i e) at (subst (λ b. HasSlots I p.frame.slots b r.frame.words) same h.frame.has) refl h.frames
 
     -- The result goes into its slot.
     pub result_goes : offset ≡ 3 → b ≡ compared o (p.frame.slots left) (p.frame.slots right) → Goal m proper k n w x ws p r
@@ -240,7 +240,7 @@ module _ (m : Module) (proper : IsProper m) (k : Bool) (n : ℕ) (w : outside.Wo
         by_instruction m proper k n w x ws p r offset b [] h _ _ (subst (λ a. slice_get (object_of m).insts a ≡ Some (inst op.Movw (operand.Imm (pos 0)) middle.None (slot I.slots))) at stands_there.1.1.0)
         (movw frames_limit (object_of m) x r (operand.Imm (pos 0)) (slot I.slots) (Plain (pos 0)) (Own (slot_offset I.slots)) _ refl refl
         (ap (store x r (Own (slot_offset I.slots))) (sym is_zero) ∙ behind_stored I p.frame.slots b r.frame.words h.frame.has x r its_word refl (word_plain its_value)))
-        (rests m k n x w p (paces.place m r) k x _ (λ e. e)
+        (rests m k n x w p (paces.place m r) k x _ (as_known k)
         (result {o = o} {into = into} {left = left} {right = right} (kept_behind offset b h i e its_word 3 (suc r.frame.pc) (word_plain its_value) here) refl is) ws
         (further offset b h i e 3 (suc r.frame.pc) (omega (arith, off)) (let f = four in omega (arith, f)) here))
 
@@ -270,11 +270,11 @@ module _ (m : Module) (proper : IsProper m) (k : Bool) (n : ℕ) (w : outside.Wo
         by_test : (t : Bool) → test_of o (number_of (p.frame.slots left)) (number_of (p.frame.slots right)) ≡ t → D (dis_step.branch x r t (place M p.frame.pc + 3))
         by_test true q =
             let here : place M p.frame.pc + 3 ≡ 3 + place M p.frame.pc = omega arith in
-            rests m k n x w p (paces.place m r) k x _ (λ e. e)
+            rests m k n x w p (paces.place m r) k x _ (as_known k)
             (result {o = o} {into = into} {left = left} {right = right} (kept_word its_word (is_one ∙ sym (compared_is true q)) here) refl is) ws
             (further offset b h i e 3 (place M p.frame.pc + 3) (omega (arith, off)) (let f = four in omega (arith, f)) here)
         by_test false q =
             let here : suc r.frame.pc ≡ 2 + place M p.frame.pc = let z = h.frame.here in omega (arith, z, off) in
-            rests m k n x w p (paces.place m r) k x _ (λ e. e)
+            rests m k n x w p (paces.place m r) k x _ (as_known k)
             (fails {o = o} {into = into} {left = left} {right = right} (kept_one is_one here) refl is (compared_is false q)) ws
             (further offset b h i e 2 (suc r.frame.pc) (omega (arith, off)) (let f = four in omega (arith, f)) here)

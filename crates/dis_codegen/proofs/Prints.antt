@@ -26,17 +26,17 @@ use Rattle.dis_meaning.specs.Process.{Frame, Process, with_words, with_frames, a
 use Rattle.dis_meaning.specs.Places.{Own, Far, behind, place_in}
 use Rattle.dis_meaning.specs.Formats.{formatted}
 use Rattle.dis_meaning.specs.Step as dis_step
-use Rattle.dis_meaning.specs.Step.{word_of, names, numbers, text_at, frame_at, printed, print_call, outside_is, answer_spot, place_of}
+use Rattle.dis_meaning.specs.Step.{with_frame_made, word_of, names, numbers, text_at, frame_at, printed, print_call, outside_is, answer_spot, place_of}
 use Rattle.dis_codegen.specs.Code.{Context, place, moved_size, slot, slot_offset, in_made, datum_offset, sys_word, format_text, inst, arguments, answer_to}
 use Rattle.dis_codegen.specs.Objects.{context, module_data, most_of_all, print_desc, sys_imports, object_of}
 use Rattle.dis_codegen.specs.Start.{opening_blocks}
-use Rattle.dis_codegen.specs.Stands.{IsPlain, HasSlots, made_at, Made, ForFormat, ForPrint, FrameStands, FrameWaits, Running, Ready, begins, formats, passed, prints, Asking, WorldStands, sides}
+use Rattle.dis_codegen.specs.Stands.{Known, IsPlain, HasSlots, made_at, Made, ForFormat, ForPrint, FrameStands, FrameWaits, Running, Ready, begins, formats, passed, prints, Asking, WorldStands, sides}
 use Rattle.dis_codegen.specs.Stands as stands
 use Rattle.dis_codegen.specs.Paces as paces
 use Rattle.dis_codegen.proofs.Memory.{at_word, replaced_fit, stored_at, word_plain}
 use Rattle.dis_codegen.proofs.Instructions.{frame, movp, mcall}
 use Rattle.dis_codegen.proofs.Lookups.{HasAt, Coded, has_back, arguments_length, print_type_is}
-use Rattle.dis_codegen.proofs.Runs.{slots_behind, slots_put, behind_at, behind_stored, place_on, rests, at_once, steps_once, remade, stack_same, linkage_kept}
+use Rattle.dis_codegen.proofs.Runs.{as_known, with_frame, more_frames, up, world_up, slots_behind, slots_put, behind_at, behind_stored, place_on, rests, at_once, steps_once, remade, stack_same, linkage_kept}
 use Rattle.dis_codegen.proofs.Data.{data_read, text_read, block_kept}
 use Rattle.dis_codegen.proofs.Far.{NoneHas, made_stored, made_found, own_stored}
 use Rattle.dis_codegen.proofs.Texts.{format_is, numbers_are, get_seam, set_seam, drop_seam, rows_seam, zeros_plain, blank_print, most_of}
@@ -44,7 +44,7 @@ use Rattle.dis_codegen.proofs.Frames.{rows, ArePlain, taken_length}
 use Rattle.dis_codegen.proofs.Simple.{Done, core_is}
 use Rattle.dis_codegen.proofs.Calls.{G, by, on, further, there_is, coded_as, proper_as, none_above, not_own, not_below, in_made_is, passes, addresses, with_other, still, still_made}
 
-module _ (m : Module) (proper : IsProper m) (k : Bool) (n : ℕ) (w : outside.World) (x : World) (ws : WorldStands m k w x) (p : machine.Process) (r : Process) where
+module _ (m : Module) (proper : IsProper m) (k : Known) (n : ℕ) (w : outside.World) (x : World) (ws : WorldStands m k w x) (p : machine.Process) (r : Process) where
   abbrev D : dis.Does → Type 0
   D e = Done m proper k n w x ws p r e
 
@@ -58,7 +58,7 @@ module _ (m : Module) (proper : IsProper m) (k : Bool) (n : ℕ) (w : outside.Wo
     O = h.frame.function
 
     abbrev new : Frame
-    new = record { serial = r.frames; instance = r.frame.instance; pc = 0; words = blank (print_desc m.functions) }
+    new = record { serial = x.frames; instance = r.frame.instance; pc = 0; words = blank (print_desc m.functions) }
 
     abbrev with_new : Process
     with_new = record {
@@ -66,9 +66,11 @@ module _ (m : Module) (proper : IsProper m) (k : Bool) (n : ℕ) (w : outside.Wo
       frame = record { serial = r.frame.serial; instance = r.frame.instance; pc = suc r.frame.pc; words = slice_set r.frame.words (8 + O.slots) (made_at new) };
       below = r.below;
       made = r.made ++ new ∷ [];
-      frames = suc r.frames;
       printing = None;
     }
+
+    is_new : Made (with_frame k) with_new new
+    is_new = record { later = let f = h.fresh in let e = ws.frames in omega (arith, f, e); given = let e = ws.frames in omega (arith, e); instance = h.frame.instance }
 
     for_format : ForFormat m new
     for_format = record {
@@ -90,16 +92,16 @@ module _ (m : Module) (proper : IsProper m) (k : Bool) (n : ℕ) (w : outside.Wo
         by m proper k n w x ws p r 0 b [] h i e _ _ (place C p.frame.pc) (omega arith) cd.code.0
         (frame frames_limit (object_of m) x r (suc (length m.functions)) (slot O.slots) (print_desc m.functions) (Own (slot_offset O.slots)) _ (print_type_is m) refl
         (behind_stored O p.frame.slots b r.frame.words h.frame.has x r (made_at new) refl tt))
-        (rests m k n x w p (paces.place m r) k x with_new (λ e. e)
+        (rests m k n x w p (paces.place m r) (with_frame k) (with_frame_made x) with_new (more_frames k)
         (formats {pieces = pieces} {made = new}
-        (on m proper k n w x ws p r 0 b [] h i e (slice_set r.frame.words (8 + O.slots) (made_at new)) (made_at new) (r.made ++ new ∷ []) (new ∷ []) (suc r.frames) 1 at
-        (slots_behind O p.frame.slots b r.frame.words h.frame.has (made_at new) tt) (linkage_kept r.frame.words O.slots (made_at new)) (omega arith) (ap (λ l. l ++ new ∷ []) h.frames))
-        refl (record { later = h.fresh; given = omega arith; instance = h.frame.instance }) for_format) ws
+        (up m k (with_frame k) p with_new 1 (made_at new) (new ∷ []) (more_frames k) (on m proper k n w x ws p r 0 b [] h i e (slice_set r.frame.words (8 + O.slots) (made_at new)) (made_at new) (r.made ++ new ∷ []) (new ∷ []) 1 at
+        (slots_behind O p.frame.slots b r.frame.words h.frame.has (made_at new) tt) (linkage_kept r.frame.words O.slots (made_at new)) (ap (λ l. l ++ new ∷ []) h.frames)))
+        refl is_new for_format) (world_up m k w x ws)
         (further m proper k n w x ws p r 0 b [] h i e 1 (suc r.frame.pc) (omega arith) (omega arith) at))
 
   -- ---- a format: the text is there
 
-  module _ (made : Frame) (h : Running m k p r 1 (made_at made) (made ∷ [])) (is : Made r made) (pieces : List Piece) (e : h.frame.inst ≡ core.Format pieces) (its : ForFormat m made) where
+  module _ (made : Frame) (h : Running m k p r 1 (made_at made) (made ∷ [])) (is : Made k r made) (pieces : List Piece) (e : h.frame.inst ≡ core.Format pieces) (its : ForFormat m made) where
     abbrev R : Function
     R = h.frame.function
 
@@ -156,8 +158,8 @@ module _ (m : Module) (proper : IsProper m) (k : Bool) (n : ℕ) (w : outside.Wo
 
     abbrev runs : (serial : ℕ) → Running m k core_formatted (with_other m proper k n w x ws p r 1 made h is (texted serial)) 0 (made_at made) (texted serial ∷ [])
     runs serial =
-        remade m k p r 1 (made_at made) (made ∷ []) h p.frame.slots r.frame.words (made_at made) (suc p.frame.pc) (core.Print next_is.args next_is.count next_is.into) pieces None (texted serial ∷ []) (texted serial ∷ []) r.frames 0 (suc r.frame.pc) None
-        next_is.there (let z = h.frame.here in let a = place_on C p.frame.pc (core.Format pieces) there in omega (arith, z, a)) h.frame.has refl (omega arith) refl
+        remade m k p r 1 (made_at made) (made ∷ []) h p.frame.slots r.frame.words (made_at made) (suc p.frame.pc) (core.Print next_is.args next_is.count next_is.into) pieces None (texted serial ∷ []) (texted serial ∷ []) 0 (suc r.frame.pc) None
+        next_is.there (let z = h.frame.here in let a = place_on C p.frame.pc (core.Format pieces) there in omega (arith, z, a)) h.frame.has refl refl
 
     -- Behind the format is a print.
     ready : (serial : ℕ) → slice_get (opening_blocks (module_data m.functions)) serial ≡ Some (memory.Text (format_text pieces)) → (count : ℕ) → next_is.count ≡ count → Ready m k core_formatted (with_other m proper k n w x ws p r 1 made h is (texted serial))
@@ -182,7 +184,7 @@ module _ (m : Module) (proper : IsProper m) (k : Bool) (n : ℕ) (w : outside.Wo
 
   -- ---- a print
 
-  module _ (offset : ℕ) (made : Frame) (h : Running m k p r offset (made_at made) (made ∷ [])) (is : Made r made) (args count into : ℕ) (e : h.frame.inst ≡ core.Print args count into) where
+  module _ (offset : ℕ) (made : Frame) (h : Running m k p r offset (made_at made) (made ∷ [])) (is : Made k r made) (args count into : ℕ) (e : h.frame.inst ≡ core.Print args count into) where
     abbrev S : Function
     S = h.frame.function
 
@@ -221,7 +223,7 @@ module _ (m : Module) (proper : IsProper m) (k : Bool) (n : ℕ) (w : outside.Wo
         let linkage_at : slice_get made.words 4 ≡ Some its.linkage = ap (λ l. slice_get l 4) its.words ∙ get_seam its.front its.linkage _ 4 its.long in
         by m proper k n w x ws p r offset (made_at made) (made ∷ []) h i e _ _ (place T p.frame.pc + moved_size count) (omega (arith, off)) tail_code.0
         (addresses m proper k n w x ws p r offset made h is into its.linkage pr.1 linkage_at its.is_plain)
-        (rests m k n x w p (paces.place m r) k x (with_other m proper k n w x ws p r offset made h is (with_words made words)) (λ e. e)
+        (rests m k n x w p (paces.place m r) k x (with_other m proper k n w x ws p r offset made h is (with_words made words)) (as_known k)
         (prints {args = args} {n = count} {into = into} {made = with_words made words} (still m proper k n w x ws p r offset made h is i e words (suc (moved_size count)) at) refl enough (still_made m proper k n w x ws p r offset made h is words)
         (record {
           linkage = answer_address;
@@ -292,7 +294,7 @@ module _ (m : Module) (proper : IsProper m) (k : Bool) (n : ℕ) (w : outside.Wo
 
     -- A world of which only the outside changed.
     outside_stands : (v : outside.World) → WorldStands m k v (outside_is x v)
-    outside_stands v = record { outside = refl; sys = ws.sys; more = ws.more; blocks = ws.blocks; loaded = ws.loaded }
+    outside_stands v = record { outside = refl; frames = ws.frames; sys = ws.sys; more = ws.more; blocks = ws.blocks; loaded = ws.loaded }
 
     core_prints : core_step.step frames_limit (bodies m) w p ≡ machine.prints w p into (print w (text_of p.frame.format its_args))
     core_prints = core_is m w p S i h.frame.found there_print
@@ -325,14 +327,14 @@ module _ (m : Module) (proper : IsProper m) (k : Bool) (n : ℕ) (w : outside.Wo
         subst D (found_same (sym (ap (λ c. c >>= λ m. Found (dis_step.next m)) (answer_stored v a)) ∙ f))
         (steps_once m k n x w p (paces.place m r) v _ (outside_is x v) _ (core_prints ∙ ap (machine.prints w p into) q)
         (begins
-        (remade m k p r offset (made_at made) (made ∷ []) h (put p.frame.slots into a) (slice_set r.frame.words (8 + into) (word_of a)) (made_at made) (suc p.frame.pc) pr.2.inst p.frame.format None [] [] r.frames 0 (suc r.frame.pc) None
-        pr.2.there (let z = h.frame.here in let s = place_on T p.frame.pc i there_print in omega (arith, z, s, off)) (slots_put S p.frame.slots (made_at made) r.frame.words h.frame.has into a pr.1) (linkage_kept r.frame.words into (word_of a)) (omega arith) refl)
+        (remade m k p r offset (made_at made) (made ∷ []) h (put p.frame.slots into a) (slice_set r.frame.words (8 + into) (word_of a)) (made_at made) (suc p.frame.pc) pr.2.inst p.frame.format None [] [] 0 (suc r.frame.pc) None
+        pr.2.there (let z = h.frame.here in let s = place_on T p.frame.pc i there_print in omega (arith, z, s, off)) (slots_put S p.frame.slots (made_at made) r.frame.words h.frame.has into a pr.1) (linkage_kept r.frame.words into (word_of a)) refl)
         pr.2.other) (outside_stands v))
     by_printing (Requests v req kk) q off e f =
         subst D (found_same f)
         (record {
           now = k;
-          changes = λ e. e;
+          changes = as_known k;
           world = v;
           after = record { number = p.number; frame = machine.waiting p.frame (suc p.frame.pc) into; below = p.below; printing = Some kk };
           comes = at_once m k n x w p (paces.place m r) _ (core_prints ∙ ap (machine.prints w p into) q);
@@ -370,7 +372,7 @@ module _ (m : Module) (proper : IsProper m) (k : Bool) (n : ℕ) (w : outside.Wo
         (by_printing (print w text) refl off c.effect c.is_so)
 
   -- The arguments of a print that has some.
-  module _ (made : Frame) (h : Running m k p r 0 (made_at made) (made ∷ [])) (is : Made r made) (args c into : ℕ) (e : h.frame.inst ≡ core.Print args (suc c) into) (its : ForPrint m p.frame.format [] made) where
+  module _ (made : Frame) (h : Running m k p r 0 (made_at made) (made ∷ [])) (is : Made k r made) (args c into : ℕ) (e : h.frame.inst ≡ core.Print args (suc c) into) (its : ForPrint m p.frame.format [] made) where
     abbrev U : Function
     U = h.frame.function
 
@@ -419,7 +421,7 @@ module _ (m : Module) (proper : IsProper m) (k : Bool) (n : ℕ) (w : outside.Wo
         let at : suc r.frame.pc ≡ moved_size (suc c) + place V p.frame.pc = let z = h.frame.here in omega (arith, z) in
         by m proper k n w x ws p r 0 (made_at made) (made ∷ []) h i e _ _ (place V p.frame.pc) (omega arith) cd.code.0
         (passes m proper k n w x ws p r 0 made h is args c cd.datum 36 9 pr.0 cd.held refl are_plain)
-        (rests m k n x w p (paces.place m r) k x (with_other m proper k n w x ws p r 0 made h is (with_words made words)) (λ e. e)
+        (rests m k n x w p (paces.place m r) k x (with_other m proper k n w x ws p r 0 made h is (with_words made words)) (as_known k)
         (passed {args = args} {n = suc c} {into = into} {made = with_words made words} (still m proper k n w x ws p r 0 made h is i e words (moved_size (suc c)) at) refl enough (still_made m proper k n w x ws p r 0 made h is words)
         (record {
           linkage = its.linkage;

@@ -23,17 +23,17 @@ use Rattle.dis_meaning.specs.Step as dis_step
 use Rattle.dis_meaning.specs.Step.{word_of}
 use Rattle.dis_codegen.specs.Code.{Context, place, size, slot, slot_offset, inst, answer}
 use Rattle.dis_codegen.specs.Objects.{context, object_of}
-use Rattle.dis_codegen.specs.Stands.{AnswersTo, answered, after_answer, Answers, StackStands, Running, begins, returns, WorldStands}
+use Rattle.dis_codegen.specs.Stands.{Known, AnswersTo, answered, after_answer, Answers, StackStands, Running, begins, returns, WorldStands}
 use Rattle.dis_codegen.specs.Paces as paces
 use Rattle.dis_codegen.proofs.Memory.{at_word, stored_at, word_plain}
 use Rattle.dis_codegen.proofs.Instructions.{movw}
 use Rattle.dis_codegen.proofs.Lookups.{HasAt, coded}
-use Rattle.dis_codegen.proofs.Runs.{slots_put, slots_behind, step_is, rests, at_once, steps_once, stack_same, linkage_kept}
+use Rattle.dis_codegen.proofs.Runs.{as_known, slots_put, slots_behind, step_is, rests, at_once, steps_once, stack_same, linkage_kept}
 use Rattle.dis_codegen.proofs.Far.{own_stored, below_stored}
 use Rattle.dis_codegen.proofs.Simple.{Done, core_is, slot_source}
 use Rattle.dis_codegen.proofs.Calls.{G, by, further, there_is, coded_as, proper_as, none_above}
 
-module _ (m : Module) (proper : IsProper m) (k : Bool) (n : ℕ) (w : outside.World) (x : World) (ws : WorldStands m k w x) (p : machine.Process) (r : Process) where
+module _ (m : Module) (proper : IsProper m) (k : Known) (n : ℕ) (w : outside.World) (x : World) (ws : WorldStands m k w x) (p : machine.Process) (r : Process) where
   abbrev D : dis.Does → Type 0
   D e = Done m proper k n w x ws p r e
 
@@ -74,7 +74,7 @@ module _ (m : Module) (proper : IsProper m) (k : Bool) (n : ℕ) (w : outside.Wo
         by_store (InFrame r.frame.serial) F.slots (record { world = x; process = after }) st
         (own_stored x r h.frames (none_above m F r.frame p.below r.below r.frame.serial (omega arith) h.stack) (slot_offset F.slots) (word_of v) words
         (stored_at r.frame.words (32 + 4 * F.slots) (8 + F.slots) b (word_of v) (omega arith) h.frame.has.behind h.frame.has.is_plain (word_plain v)))
-        (rests m k n x w p (paces.place m r) k x (with_frames r (at_pc (with_words r.frame words) (suc r.frame.pc)) r.below []) (λ e. e)
+        (rests m k n x w p (paces.place m r) k x (with_frames r (at_pc (with_words r.frame words) (suc r.frame.pc)) r.below []) (as_known k)
         (returns {w = word_of v} v (record {
           loaded = h.loaded;
           number = h.number;
@@ -92,7 +92,7 @@ module _ (m : Module) (proper : IsProper m) (k : Bool) (n : ℕ) (w : outside.Wo
         by_store (InFrame f.serial) g.into (record { world = x; process = after }) st.1
         (below_stored x r f fs re h.frames (λ e. let lt = st.2 in absurd (omega (arith, e, lt))) (none_above m into f gs fs f.serial (omega arith) st.3) (slot_offset g.into) (word_of v) words
         (stored_at f.words (32 + 4 * g.into) (8 + g.into) (word_of (g.slots g.into)) (word_of v) (omega arith) (st.0.stands.has.ints g.into st.0.into) (word_plain (g.slots g.into)) (word_plain v)))
-        (rests m k n x w p (paces.place m r) k x (with_frames r (at_pc r.frame (suc r.frame.pc)) (with_words f words ∷ fs) []) (λ e. e)
+        (rests m k n x w p (paces.place m r) k x (with_frames r (at_pc r.frame (suc r.frame.pc)) (with_words f words ∷ fs) []) (as_known k)
         (returns {w = b} v (record {
           loaded = h.loaded;
           number = h.number;
@@ -175,7 +175,7 @@ module _ (m : Module) (proper : IsProper m) (k : Bool) (n : ℕ) (w : outside.Wo
         subst (λ rs. D (dis_step.returns x r rs)) (sym re)
         (record {
           now = k;
-          changes = λ e. e;
+          changes = as_known k;
           world = w;
           comes = at_once m k n x w p (paces.place m r) _ (st ∙ ap (λ gs. machine.returns w p gs v) pe);
           worlds = ws;

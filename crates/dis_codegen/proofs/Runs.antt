@@ -27,10 +27,10 @@ use Rattle.dis_meaning.specs.Process as dis
 use Rattle.dis_meaning.specs.Process.{Frame, Process, with_words, with_frames}
 use Rattle.dis_meaning.specs.Places.{Own, store}
 use Rattle.dis_meaning.specs.Step as dis_step
-use Rattle.dis_meaning.specs.Step.{word_of}
+use Rattle.dis_meaning.specs.Step.{word_of, with_frame_made}
 use Rattle.dis_codegen.specs.Code.{size, sizes, slot_offset, Context, place}
 use Rattle.dis_codegen.specs.Objects.{context, object_of}
-use Rattle.dis_codegen.specs.Stands.{IsPlain, HasSlots, StackStands, Running, Ready, WorldStands, sides}
+use Rattle.dis_codegen.specs.Stands.{Known, Grows, IsPlain, HasSlots, StackStands, Running, Ready, WorldStands, sides}
 use Rattle.dis_codegen.specs.Paces as paces
 use Rattle.dis_codegen.proofs.Memory.{at_word, stored_at, word_plain, set_same, set_other, set_length}
 
@@ -93,7 +93,7 @@ place_on c pc i e = omega (arith, sizes_on c.code pc i e)
 -- ---- the step
 
 -- What the machine does is what the instruction at its place does.
-pub step_is : (m : Module) (k : Bool) (w : outside.World) (x : World) (r : Process) (i : code_inst.Inst) (e : dis.Does) → WorldStands m k w x → r.frame.instance ≡ 0 →
+pub step_is : (m : Module) (k : Known) (w : outside.World) (x : World) (r : Process) (i : code_inst.Inst) (e : dis.Does) → WorldStands m k w x → r.frame.instance ≡ 0 →
     slice_get (object_of m).insts r.frame.pc ≡ Some i → dis_step.obey frames_limit (object_of m) x r i i.op ≡ Found e → dis_step.step frames_limit (object_of m ∷ []) x r ≡ e
 step_is m k w x r i e ws z at h =
     ap (λ n. dis.or_fault x r (or_wrong dead_address (slice_get x.blocks n) >>= dis_step.object_of >>= (λ n. or_wrong type_check (slice_get (object_of m ∷ []) n)) >>= λ o. dis_step.work frames_limit o x r)) z
@@ -101,11 +101,30 @@ step_is m k w x r i e ws z at h =
     ∙ ap (λ o. dis.or_fault x r (or_wrong bad_jump o >>= λ i. dis_step.obey frames_limit (object_of m) x r i i.op)) at
     ∙ ap (dis.or_fault x r) h
 
+-- ---- what is known of the machine
+
+-- As much as before.
+pub as_known : (k : Known) → Grows k k
+as_known k = record { stays = λ e. e; rises = omega arith }
+
+-- One frame more was made.
+abbrev pub with_frame : Known → Known
+with_frame k = record { loaded = k.loaded; frames = suc k.frames }
+
+pub more_frames : (k : Known) → Grows k (with_frame k)
+more_frames k = record { stays = λ e. e; rises = omega arith }
+
+abbrev pub up : (m : Module) (a b : Known) (p : machine.Process) (r : Process) (offset : ℕ) (w : Word) (made : List Frame) → Grows a b → Running m a p r offset w made → Running m b p r offset w made
+up m a b p r offset w made g h = record { loaded = g.stays h.loaded; number = h.number; frame = h.frame; stack = h.stack; frames = h.frames; fresh = let f = h.fresh in let l = g.rises in omega (arith, f, l) }
+
+pub world_up : (m : Module) (k : Known) (w : outside.World) (x : World) → WorldStands m k w x → WorldStands m (with_frame k) w (with_frame_made x)
+world_up m k w x ws = record { outside = ws.outside; frames = ap suc ws.frames; sys = ws.sys; more = ws.more; blocks = ws.blocks; loaded = ws.loaded }
+
 -- ---- who moves
 
-module _ (m : Module) (k : Bool) (i : ℕ) (x0 : World) (w : outside.World) (p : machine.Process) (at : ℕ) where
+module _ (m : Module) (k : Known) (i : ℕ) (x0 : World) (w : outside.World) (p : machine.Process) (at : ℕ) where
   -- The other code stands still, and the place rises.
-  pub rests : (now : Bool) (x : World) (r : Process) → (k ≡ true → now ≡ true) → Ready m now p r → WorldStands m now w x → at < paces.place m r → Moves (sides m) (paces.place m) at k i w x0 p x r
+  pub rests : (now : Known) (x : World) (r : Process) → Grows k now → Ready m now p r → WorldStands m now w x → at < paces.place m r → Moves (sides m) (paces.place m) at k i w x0 p x r
   rests now x r g h ws lt = record { now = now; changes = g; steps = 0; world = w; after = p; burst = no_loss (quiets_none (core_rules.rules frames_limit (bodies m)) no_names w p); related = h; worlds = ws; pace = λ e. lt }
 
   -- What it does at once.
@@ -114,7 +133,7 @@ module _ (m : Module) (k : Bool) (i : ℕ) (x0 : World) (w : outside.World) (p :
 
   -- It makes one step.
   pub steps_once : (w' : outside.World) (p' : machine.Process) (x : World) (r : Process) → core_step.step frames_limit (bodies m) w p ≡ Went w' p' → Ready m k p' r → WorldStands m k w' x → Moves (sides m) (paces.place m) at k i w x0 p x r
-  steps_once w' p' x r st h ws = record { now = k; changes = λ e. e; steps = 1; world = w'; after = p'; burst = one_loss (quiets_none (core_rules.rules frames_limit (bodies m)) no_names w p) st; related = h; worlds = ws; pace = λ e. absurd cc }
+  steps_once w' p' x r st h ws = record { now = k; changes = as_known k; steps = 1; world = w'; after = p'; burst = one_loss (quiets_none (core_rules.rules frames_limit (bodies m)) no_names w p) st; related = h; worlds = ws; pace = λ e. absurd cc }
 
 -- ---- what becomes of a process
 
@@ -126,21 +145,21 @@ stack_same m f r r' [] (s ∷ rs) es e h = absurd h
 stack_same m f r r' (g ∷ gs) [] es e h = absurd h
 
 -- With other slots and words, at another place.
-abbrev pub remade : (m : Module) (k : Bool) (p : machine.Process) (r : Process) (offset : ℕ) (b : Word) (made : List Frame) (h : Running m k p r offset b made)
-    (slots : Slots) (words : List Word) (b' : Word) (pc : ℕ) (i : Inst) (format : List Piece) (printing : Option Writing) (made'' made' : List Frame) (frames offset' pc' : ℕ) (printing' : Option dis.Printing) →
+abbrev pub remade : (m : Module) (k : Known) (p : machine.Process) (r : Process) (offset : ℕ) (b : Word) (made : List Frame) (h : Running m k p r offset b made)
+    (slots : Slots) (words : List Word) (b' : Word) (pc : ℕ) (i : Inst) (format : List Piece) (printing : Option Writing) (made'' made' : List Frame) (offset' pc' : ℕ) (printing' : Option dis.Printing) →
     slice_get h.frame.function.code pc ≡ Some i → pc' ≡ offset' + place (context m.functions p.frame.function h.frame.function) pc →
-    HasSlots h.frame.function slots b' words → slice_get words 4 ≡ slice_get r.frame.words 4 → r.frames ≤ frames → made'' ≡ made' →
+    HasSlots h.frame.function slots b' words → slice_get words 4 ≡ slice_get r.frame.words 4 → made'' ≡ made' →
     Running m k
     (record { number = p.number; frame = record { function = p.frame.function; pc = pc; slots = slots; into = p.frame.into; format = format }; below = p.below; printing = printing })
-    (record { number = r.number; frame = record { serial = r.frame.serial; instance = r.frame.instance; pc = pc'; words = words }; below = r.below; made = made''; frames = frames; printing = printing' })
+    (record { number = r.number; frame = record { serial = r.frame.serial; instance = r.frame.instance; pc = pc'; words = words }; below = r.below; made = made''; printing = printing' })
     offset' b' made'
-remade m k p r offset b made h slots words b' pc i format printing made'' made' frames offset' pc' printing' there at has answers more same = record {
+remade m k p r offset b made h slots words b' pc i format printing made'' made' offset' pc' printing' there at has answers same = record {
   loaded = h.loaded;
   number = h.number;
   frame = record { function = h.frame.function; found = h.frame.found; inst = i; there = there; here = at; instance = h.frame.instance; has = has };
   stack = stack_same m h.frame.function r.frame _ p.below r.below refl answers h.stack;
   frames = same;
-  fresh = let f = h.fresh in omega (arith, f, more);
+  fresh = h.fresh;
 }
 
 -- What a store of a slot leaves at 16.

@@ -29,7 +29,7 @@ use Rattle.dis_meaning.specs.Step as dis_step
 use Rattle.dis_meaning.specs.Step.{word_of, target}
 use Rattle.dis_codegen.specs.Code.{operation_size, size, slot, slot_offset, fits_source, number_source, Context, place, to_place, inst, inst_code}
 use Rattle.dis_codegen.specs.Objects.{context, module_data, object_of}
-use Rattle.dis_codegen.specs.Stands.{Running, begins, WorldStands, sides}
+use Rattle.dis_codegen.specs.Stands.{Known, Running, begins, WorldStands, sides}
 use Rattle.dis_codegen.specs.Paces as paces
 use Rattle.dis_codegen.proofs.Memory.{plain_is, word_plain}
 use Rattle.dis_codegen.proofs.Instructions.{movw, tested, jmp}
@@ -90,7 +90,7 @@ core_is m w p f i e h =
     ap (λ c. core_step.work frames_limit (bodies m) w p (core_step.fetch c p.frame.pc)) (slice_get-map (λ f. f.code) m.functions p.frame.function ∙ ap (option_map (λ f. f.code)) e)
     ∙ ap (core_step.work frames_limit (bodies m) w p) h
 
-module _ (m : Module) (proper : IsProper m) (k : Bool) (n : ℕ) (w : outside.World) (x : World) (ws : WorldStands m k w x) (p : machine.Process) (r : Process) where
+module _ (m : Module) (proper : IsProper m) (k : Known) (n : ℕ) (w : outside.World) (x : World) (ws : WorldStands m k w x) (p : machine.Process) (r : Process) where
   abbrev pub Done : dis.Does → Type 0
   Done e = Matches (sides m) (paces.place m) (paces.place m r) k n w x p e
 
@@ -157,8 +157,8 @@ module _ (m : Module) (proper : IsProper m) (k : Bool) (n : ℕ) (w : outside.Wo
     written i e one s v is on does =
         steps_once m k n x w p (paces.place m r) w _ x _ (core_as i e ∙ does)
         (begins
-        (remade m k p r 0 b [] h (put p.frame.slots s v) (slice_set r.frame.words (8 + s) (word_of v)) b (suc p.frame.pc) on.inst p.frame.format None r.made [] r.frames 0 (suc r.frame.pc) None
-        on.there (let z = h.frame.here in let a = place_on C p.frame.pc i (there_as i e) in omega (arith, z, a, one)) (slots_put G p.frame.slots b r.frame.words h.frame.has s v is) (linkage_kept r.frame.words s (word_of v)) (omega arith) h.frames)
+        (remade m k p r 0 b [] h (put p.frame.slots s v) (slice_set r.frame.words (8 + s) (word_of v)) b (suc p.frame.pc) on.inst p.frame.format None r.made [] 0 (suc r.frame.pc) None
+        on.there (let z = h.frame.here in let a = place_on C p.frame.pc i (there_as i e) in omega (arith, z, a, one)) (slots_put G p.frame.slots b r.frame.words h.frame.has s v is) (linkage_kept r.frame.words s (word_of v)) h.frames)
         on.other) ws
 
     pub set_goes : (into : ℕ) (z : ℤ) → h.frame.inst ≡ core.Set into z → Goal
@@ -184,8 +184,8 @@ module _ (m : Module) (proper : IsProper m) (k : Bool) (n : ℕ) (w : outside.Wo
     led i e pc on does =
         steps_once m k n x w p (paces.place m r) w _ x _ (core_as i e ∙ does)
         (begins
-        (remade m k p r 0 b [] h p.frame.slots r.frame.words b pc on.inst p.frame.format None r.made [] r.frames 0 (place C pc) None
-        on.there (omega arith) h.frame.has refl (omega arith) h.frames)
+        (remade m k p r 0 b [] h p.frame.slots r.frame.words b pc on.inst p.frame.format None r.made [] 0 (place C pc) None
+        on.there (omega arith) h.frame.has refl h.frames)
         on.other) ws
 
     -- Both go on with the next instruction, and nothing else changed.
@@ -194,8 +194,8 @@ module _ (m : Module) (proper : IsProper m) (k : Bool) (n : ℕ) (w : outside.Wo
     falls i e does one on =
         steps_once m k n x w p (paces.place m r) w _ x _ (core_as i e ∙ does)
         (begins
-        (remade m k p r 0 b [] h p.frame.slots r.frame.words b (suc p.frame.pc) on.inst p.frame.format None r.made [] r.frames 0 (suc r.frame.pc) None
-        on.there (let z = h.frame.here in let a = place_on C p.frame.pc i (there_as i e) in omega (arith, z, a, one)) h.frame.has refl (omega arith) h.frames)
+        (remade m k p r 0 b [] h p.frame.slots r.frame.words b (suc p.frame.pc) on.inst p.frame.format None r.made [] 0 (suc r.frame.pc) None
+        on.there (let z = h.frame.here in let a = place_on C p.frame.pc i (there_as i e) in omega (arith, z, a, one)) h.frame.has refl h.frames)
         on.other) ws
 
     -- Every place of a function is in the code.

@@ -15,7 +15,7 @@ use Rattle.dis_meaning.specs.Words.{Word}
 use Rattle.dis_meaning.specs.Process.{Process}
 use Rattle.dis_codegen.specs.Code.{moved_size, size, sizes, start, place}
 use Rattle.dis_codegen.specs.Objects.{size_before, entry_size, entry_length, context}
-use Rattle.dis_codegen.specs.Stands.{FrameStands, Entering, Ready, IsComparison, Answers, enters, loads, leaves, begins, compares, fails, result, framed, moved, addressed, formats, formatted, passed, prints, returns}
+use Rattle.dis_codegen.specs.Stands.{Known, FrameStands, Entering, Ready, IsComparison, Answers, enters, loads, leaves, begins, compares, fails, result, framed, moved, addressed, formats, formatted, passed, prints, returns}
 use Rattle.dis_codegen.specs.Paces.{holding, all_insts, inst_at, print_rank}
 use Rattle.dis_codegen.proofs.Simple.{some_size}
 
@@ -57,7 +57,7 @@ inst_is m n f pc i offset at e h lt is =
     ∙ ap (holding (all_insts m.functions)) inner
     ∙ holding_all m.functions n f pc i offset e h lt
 
-module _ (m : Module) (proper : IsProper m) (k : Bool) (p : machine.Process) (r : Process) where
+module _ (m : Module) (proper : IsProper m) (k : Known) (p : machine.Process) (r : Process) where
   -- Both are for the same instruction.
   abbrev Same : Type 0
   Same = print_rank (inst_at m r.frame.pc) ≡ print_rank (fetch (slice_get (bodies m) p.frame.function) p.frame.pc)
@@ -84,7 +84,7 @@ module _ (m : Module) (proper : IsProper m) (k : Bool) (p : machine.Process) (r 
   other_rank (core.Return s) e = refl
   other_rank core.Leave e = refl
 
-  by_entry : (pc : ℕ) (b : Word) → Entering m p r pc b → pc < 3 → Same
+  by_entry : (pc : ℕ) (b : Word) → Entering m k p r pc b → pc < 3 → Same
   by_entry pc b h lt =
       let runs = (proper h.init h.function h.found).begins in
       let three : entry_size m.functions ≡ 3 = ap entry_length h.is_init in

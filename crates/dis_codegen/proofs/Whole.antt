@@ -16,7 +16,8 @@ use Rattle.dis_meaning.specs.Words.{Word}
 use Rattle.dis_meaning.specs.Process.{Frame, Process}
 use Rattle.dis_codegen.specs.Code.{operation_size, moved_size, size}
 use Rattle.dis_codegen.specs.Objects.{find, entry_size, entry_length}
-use Rattle.dis_codegen.specs.Stands.{Running, Ready, enters, loads, leaves, begins, compares, fails, result, framed, moved, addressed, formats, formatted, passed, prints, returns, Asking, code_and_object, sides}
+use Rattle.dis_codegen.proofs.Runs.{as_known, up}
+use Rattle.dis_codegen.specs.Stands.{Known, Grows, Made, Entering, Running, Ready, enters, loads, leaves, begins, compares, fails, result, framed, moved, addressed, formats, formatted, passed, prints, returns, Asking, code_and_object, sides}
 use Rattle.dis_codegen.specs.Paces.{all_sizes, within, far, place}
 use Rattle.dis_codegen.proofs.Follows.{goes, answers_alike}
 
@@ -83,33 +84,53 @@ far_small m pc = go (nat_lt pc (entry_size m.functions)) refl
 
 -- ---- while more is known
 
-abbrev up : (m : Module) (a b : Bool) (p : machine.Process) (r : Process) (offset : ℕ) (w : Word) (made : List Frame) → (a ≡ true → b ≡ true) → Running m a p r offset w made → Running m b p r offset w made
-up m a b p r offset w made g h = record { loaded = g h.loaded; number = h.number; frame = h.frame; stack = h.stack; frames = h.frames; fresh = h.fresh }
+abbrev up_entering : (m : Module) (a b : Known) (p : machine.Process) (r : Process) (pc : ℕ) (w : Word) → Grows a b → Entering m a p r pc w → Entering m b p r pc w
+up_entering m a b p r pc w g h = record {
+  init = h.init;
+  is_init = h.is_init;
+  function = h.function;
+  found = h.found;
+  number = h.number;
+  frame = h.frame;
+  alone = h.alone;
+  alone_too = h.alone_too;
+  here = h.here;
+  instance = h.instance;
+  behind = h.behind;
+  has = h.has;
+  answers = h.answers;
+  is_plain = h.is_plain;
+  frames = h.frames;
+  fresh = let f = h.fresh in let l = g.rises in omega (arith, f, l);
+}
 
-pub grows : (m : Module) (a b : Bool) (p : machine.Process) (r : Process) → (a ≡ true → b ≡ true) → Ready m a p r → Ready m b p r
-grows m a b p r g (enters h) = enters h
-grows m a b p r g (loads l h) = loads (g l) h
-grows m a b p r g (leaves l h s) = leaves (g l) h s
+up_made : (a b : Known) (r : Process) (n : Frame) → Grows a b → Made a r n → Made b r n
+up_made a b r n g is = record { later = is.later; given = let f = is.given in let l = g.rises in omega (arith, f, l); instance = is.instance }
+
+pub grows : (m : Module) (a b : Known) (p : machine.Process) (r : Process) → Grows a b → Ready m a p r → Ready m b p r
+grows m a b p r g (enters h) = enters (up_entering m a b p r _ _ g h)
+grows m a b p r g (loads l h) = loads (g.stays l) (up_entering m a b p r _ _ g h)
+grows m a b p r g (leaves l h s) = leaves (g.stays l) (up_entering m a b p r _ _ g h) s
 grows m a b p r g (begins h o) = begins (up m a b p r _ _ _ g h) o
 grows m a b p r g (compares {o = o} {into = into} {left = left} {right = right} h e c) = compares {o = o} {into = into} {left = left} {right = right} (up m a b p r _ _ _ g h) e c
 grows m a b p r g (fails {o = o} {into = into} {left = left} {right = right} h e c z) = fails {o = o} {into = into} {left = left} {right = right} (up m a b p r _ _ _ g h) e c z
 grows m a b p r g (result {o = o} {into = into} {left = left} {right = right} h e c) = result {o = o} {into = into} {left = left} {right = right} (up m a b p r _ _ _ g h) e c
-grows m a b p r g (framed {f = f} {args = args} {n = n} {into = into} {callee = callee} {made = made} h e t is its) = framed {f = f} {args = args} {n = n} {into = into} {callee = callee} {made = made} (up m a b p r _ _ _ g h) e t is its
-grows m a b p r g (moved {f = f} {args = args} {n = n} {into = into} {callee = callee} {made = made} h e t is its) = moved {f = f} {args = args} {n = n} {into = into} {callee = callee} {made = made} (up m a b p r _ _ _ g h) e t is its
-grows m a b p r g (addressed {f = f} {args = args} {n = n} {into = into} {callee = callee} {made = made} h e t is its s) = addressed {f = f} {args = args} {n = n} {into = into} {callee = callee} {made = made} (up m a b p r _ _ _ g h) e t is its s
-grows m a b p r g (formats {pieces = pieces} {made = made} h e is its) = formats {pieces = pieces} {made = made} (up m a b p r _ _ _ g h) e is its
-grows m a b p r g (formatted {args = args} {n = n} {into = into} {made = made} h e enough is its) = formatted {args = args} {n = n} {into = into} {made = made} (up m a b p r _ _ _ g h) e enough is its
-grows m a b p r g (passed {args = args} {n = n} {into = into} {made = made} h e enough is its) = passed {args = args} {n = n} {into = into} {made = made} (up m a b p r _ _ _ g h) e enough is its
-grows m a b p r g (prints {args = args} {n = n} {into = into} {made = made} h e enough is its s) = prints {args = args} {n = n} {into = into} {made = made} (up m a b p r _ _ _ g h) e enough is its s
-grows m a b p r g (returns v h s) = returns v (record { loaded = g h.loaded; number = h.number; frame = h.frame; stack = h.stack; frames = h.frames; fresh = h.fresh }) s
+grows m a b p r g (framed {f = f} {args = args} {n = n} {into = into} {callee = callee} {made = made} h e t is its) = framed {f = f} {args = args} {n = n} {into = into} {callee = callee} {made = made} (up m a b p r _ _ _ g h) e t (up_made a b r made g is) its
+grows m a b p r g (moved {f = f} {args = args} {n = n} {into = into} {callee = callee} {made = made} h e t is its) = moved {f = f} {args = args} {n = n} {into = into} {callee = callee} {made = made} (up m a b p r _ _ _ g h) e t (up_made a b r made g is) its
+grows m a b p r g (addressed {f = f} {args = args} {n = n} {into = into} {callee = callee} {made = made} h e t is its s) = addressed {f = f} {args = args} {n = n} {into = into} {callee = callee} {made = made} (up m a b p r _ _ _ g h) e t (up_made a b r made g is) its s
+grows m a b p r g (formats {pieces = pieces} {made = made} h e is its) = formats {pieces = pieces} {made = made} (up m a b p r _ _ _ g h) e (up_made a b r made g is) its
+grows m a b p r g (formatted {args = args} {n = n} {into = into} {made = made} h e enough is its) = formatted {args = args} {n = n} {into = into} {made = made} (up m a b p r _ _ _ g h) e enough (up_made a b r made g is) its
+grows m a b p r g (passed {args = args} {n = n} {into = into} {made = made} h e enough is its) = passed {args = args} {n = n} {into = into} {made = made} (up m a b p r _ _ _ g h) e enough (up_made a b r made g is) its
+grows m a b p r g (prints {args = args} {n = n} {into = into} {made = made} h e enough is its s) = prints {args = args} {n = n} {into = into} {made = made} (up m a b p r _ _ _ g h) e enough (up_made a b r made g is) its s
+grows m a b p r g (returns v h s) = returns v (record { loaded = g.stays h.loaded; number = h.number; frame = h.frame; stack = h.stack; frames = h.frames; fresh = let f = h.fresh in let l = g.rises in omega (arith, f, l) }) s
 
-pub grows_asking : (m : Module) (a b : Bool) (p : machine.Process) (r : Process) → (a ≡ true → b ≡ true) → Asking m a p r → Asking m b p r
-grows_asking m a b p r g h = record { loaded = g h.loaded; number = h.number; waits = h.waits; stack = h.stack; frames = h.frames; fresh = h.fresh; writing = h.writing; printing = h.printing; printing_too = h.printing_too }
+pub grows_asking : (m : Module) (a b : Known) (p : machine.Process) (r : Process) → Grows a b → Asking m a p r → Asking m b p r
+grows_asking m a b p r g h = record { loaded = g.stays h.loaded; number = h.number; waits = h.waits; stack = h.stack; frames = h.frames; fresh = let f = h.fresh in let l = g.rises in omega (arith, f, l); writing = h.writing; printing = h.printing; printing_too = h.printing_too }
 
 -- ---- all of it
 
 -- No process waits for another, and nothing belongs to one alone.
-pub keeps : (m : Module) (k now : Bool) (i : ℕ) (x x' : World) (d : Doing machine.Process Value) (e : Doing Process Value) → StandsAlike (sides m) k i x (Some d) (Some e) → (k ≡ true → now ≡ true) → StandsAlike (sides m) now i x' (Some d) (Some e)
+pub keeps : (m : Module) (k now : Known) (i : ℕ) (x x' : World) (d : Doing machine.Process Value) (e : Doing Process Value) → StandsAlike (sides m) k i x (Some d) (Some e) → Grows k now → StandsAlike (sides m) now i x' (Some d) (Some e)
 keeps m k now i x x' (doing.Ready p) (doing.Ready q) h g = grows m k now p q g h
 keeps m k now i x x' (doing.Asking p) (doing.Asking q) h g = grows_asking m k now p q g h
 keeps m k now i x x' (doing.Waiting bs p) (doing.Waiting cs q) h g = absurd h.1
@@ -118,7 +139,7 @@ keeps m k now i x x' _ _ h g = absurd h
 
 unfoldable pub object_follows : (m : Module) → IsProper m → Follows (sides m)
 object_follows m proper = record {
-  heaps = no_heap (code_and_object m) (λ k e. e) (λ a b c g h e. h (g e));
+  heaps = no_heap (code_and_object m) as_known (λ a b c g h. record { stays = λ e. h.stays (g.stays e); rises = let l = g.rises in let n = h.rises in omega (arith, l, n) });
   table = λ k i x bs cs p q h. absurd h.1;
   rooted = λ k i x d e h. tt;
   keeps = λ k now i x x' d e h g hold. keeps m k now i x x' d e h g;

@@ -14,20 +14,24 @@ use Rattle.dis_meaning.specs.Process.{Process}
 use Rattle.dis_meaning.specs.Step.{step}
 use Rattle.dis_codegen.specs.Objects.{init_of, object_of, code_instructions, frame_desc}
 use Rattle.dis_codegen.specs.Start.{opening, first_process}
-use Rattle.dis_codegen.specs.Stands.{Ready, WorldStands, sides}
+use Rattle.dis_codegen.specs.Stands.{Known, Ready, WorldStands, sides}
+
+-- At first Sys isn't loaded, and the first process has the only frame.
+abbrev pub at_first : Known
+at_first = record { loaded = false; frames = 1 }
 
 -- The object follows the module's code: whatever a process of the object does next, the other does too, after some steps of its own. Of
 -- seven instructions in a row at least one stands for a step. Both begin alike, where the module has an `init`.
 pub record Keeps (m : Module) : Type 0 where
   pub follows : Follows (sides m)
   pub pace : follows.bound ≡ 7
-  pub begins : (init : ℕ) → init_of m ≡ Some init → Ready m false (core_rules.first_process init) (first_process m)
-  pub begins_in : WorldStands m false opening_world (opening m)
+  pub begins : (init : ℕ) → init_of m ≡ Some init → Ready m at_first (core_rules.first_process init) (first_process m)
+  pub begins_in : WorldStands m at_first opening_world (opening m)
 
 -- No instruction of it is ever wrong.
 abbrev pub NeverFaults : Module → Type 0
 NeverFaults m =
-    (k : Bool) (w : outside.World) (x y : World) (p : machine.Process) (r : Process) (number pc : ℕ) →
+    (k : Known) (w : outside.World) (x y : World) (p : machine.Process) (r : Process) (number pc : ℕ) →
     Ready m k p r → WorldStands m k w x → step frames_limit (object_of m ∷ []) x r ≡ Ends y (Faulted number pc) → ⊥
 
 -- It has at most four instructions for each of the module's code, whose own beginning counts as one.

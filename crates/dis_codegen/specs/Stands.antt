@@ -48,10 +48,20 @@ AnswersTo words place at = slice_get words 4 ≡ Some (Address place at)
 abbrev pub made_at : Frame → Word
 made_at n = Address (InFrame n.serial) (pos 0)
 
+-- What is known of the machine: whether Sys is loaded, and how many frames were made.
+pub record Known : Type 0 where
+  pub loaded : Bool
+  pub frames : ℕ
+
+-- Of a machine that went on as much is known, or more.
+pub record Grows (a b : Known) : Type 0 where
+  pub stays : a.loaded ≡ true → b.loaded ≡ true
+  pub rises : a.frames ≤ b.frames
+
 -- A frame that is made: its serial is one that was given after the running frame's.
-pub record Made (r : Process) (n : Frame) : Type 0 where
+pub record Made (k : Known) (r : Process) (n : Frame) : Type 0 where
   pub later : r.frame.serial < n.serial
-  pub given : n.serial < r.frames
+  pub given : n.serial < k.frames
   pub instance : n.instance ≡ 0
 
 -- The number that a comparison gives.
@@ -105,13 +115,13 @@ module _ (m : Module) where
   StackStands f r (g ∷ gs) [] = ⊥
 
   -- A process whose frame is so many instructions behind, with this word behind its slots and these frames made.
-  pub record Running (k : Bool) (p : machine.Process) (r : Process) (offset : ℕ) (behind : Word) (made : List Frame) : Type 0 where
-    pub loaded : k ≡ true
+  pub record Running (k : Known) (p : machine.Process) (r : Process) (offset : ℕ) (behind : Word) (made : List Frame) : Type 0 where
+    pub loaded : k.loaded ≡ true
     pub number : p.number ≡ r.number
     pub frame : FrameStands p.frame r.frame offset behind
     pub stack : StackStands frame.function r.frame p.below r.below
     pub frames : r.made ≡ made
-    pub fresh : r.frame.serial < r.frames
+    pub fresh : r.frame.serial < k.frames
 
   -- It is for a call of this function, with these arguments.
   pub record ForCall (f : Function) (args : List Value) (n : Frame) : Type 0 where
@@ -145,7 +155,7 @@ module _ (m : Module) where
     pub words : n.words ≡ front ++ linkage ∷ (more ++ Refer None ∷ replicate (most_of_all m.functions) (Plain (pos 0)))
 
   -- The first process, in the entry of the code: its frame is at this instruction, and has this word for its linkage.
-  pub record Entering (p : machine.Process) (r : Process) (pc : ℕ) (linkage : Word) : Type 0 where
+  pub record Entering (k : Known) (p : machine.Process) (r : Process) (pc : ℕ) (linkage : Word) : Type 0 where
     pub init : ℕ
     pub is_init : init_of m ≡ Some init
     pub function : Function
@@ -161,14 +171,14 @@ module _ (m : Module) where
     pub answers : slice_get r.frame.words 4 ≡ Some linkage
     pub is_plain : IsPlain linkage
     pub frames : r.made ≡ []
-    pub fresh : r.frame.serial < r.frames
+    pub fresh : r.frame.serial < k.frames
 
   -- A process that is ready. Most instructions are one or the last of some; the others stand for no instruction of the other code.
-  pub data Ready (k : Bool) (p : machine.Process) (r : Process) : Type 0 where
+  pub data Ready (k : Known) (p : machine.Process) (r : Process) : Type 0 where
     -- in the entry: before Sys is loaded, and behind that
-    enters : {w : Word} → Entering p r 0 w → Ready k p r
-    loads : {w : Word} → k ≡ true → Entering p r 1 w → Ready k p r
-    leaves : {w : Word} → k ≡ true → (h : Entering p r 2 w) → AnswersTo r.frame.words (InFrame r.frame.serial) (slot_offset h.function.slots) → Ready k p r
+    enters : {w : Word} → Entering k p r 0 w → Ready k p r
+    loads : {w : Word} → k.loaded ≡ true → Entering k p r 1 w → Ready k p r
+    leaves : {w : Word} → k.loaded ≡ true → (h : Entering k p r 2 w) → AnswersTo r.frame.words (InFrame r.frame.serial) (slot_offset h.function.slots) → Ready k p r
     -- at the begin of an instruction
     begins : {w : Word} → (h : Running k p r 0 w []) → is_print h.frame.inst ≡ false → Ready k p r
     -- in a comparison: the 1 is there; the test failed; the result is there
@@ -178,46 +188,47 @@ module _ (m : Module) where
     result : {o : Operator} {into left right : ℕ} → (h : Running k p r 3 (compared o (p.frame.slots left) (p.frame.slots right)) []) → h.frame.inst ≡ core.Operate o into left right → IsComparison o → Ready k p r
     -- in a call: the frame is made; it has the arguments; it has the place for the answer
     framed : {f args n into : ℕ} {callee : Function} {made : Frame} → (h : Running k p r 1 (made_at made) (made ∷ [])) → h.frame.inst ≡ core.Call f args (suc n) into →
-        slice_get m.functions f ≡ Some callee → Made r made → ForCall callee [] made → Ready k p r
+        slice_get m.functions f ≡ Some callee → Made k r made → ForCall callee [] made → Ready k p r
     moved : {f args n into : ℕ} {callee : Function} {made : Frame} → (h : Running k p r (suc (moved_size n)) (made_at made) (made ∷ [])) → h.frame.inst ≡ core.Call f args n into →
-        slice_get m.functions f ≡ Some callee → Made r made → ForCall callee (taken p.frame.slots args n) made → Ready k p r
+        slice_get m.functions f ≡ Some callee → Made k r made → ForCall callee (taken p.frame.slots args n) made → Ready k p r
     addressed : {f args n into : ℕ} {callee : Function} {made : Frame} → (h : Running k p r (suc (suc (moved_size n))) (made_at made) (made ∷ [])) → h.frame.inst ≡ core.Call f args n into →
-        slice_get m.functions f ≡ Some callee → Made r made → ForCall callee (taken p.frame.slots args n) made → AnswersTo made.words (InFrame r.frame.serial) (slot_offset into) → Ready k p r
+        slice_get m.functions f ≡ Some callee → Made k r made → ForCall callee (taken p.frame.slots args n) made → AnswersTo made.words (InFrame r.frame.serial) (slot_offset into) → Ready k p r
     -- in a format: the frame is made
-    formats : {pieces : List Piece} {made : Frame} → (h : Running k p r 1 (made_at made) (made ∷ [])) → h.frame.inst ≡ core.Format pieces → Made r made → ForFormat made → Ready k p r
+    formats : {pieces : List Piece} {made : Frame} → (h : Running k p r 1 (made_at made) (made ∷ [])) → h.frame.inst ≡ core.Format pieces → Made k r made → ForFormat made → Ready k p r
     -- in a print: the format is there; the arguments are; the place for the answer is
-    formatted : {args n into : ℕ} {made : Frame} → (h : Running k p r 0 (made_at made) (made ∷ [])) → h.frame.inst ≡ core.Print args (suc n) into → holes p.frame.format ≤ suc n → Made r made → ForPrint p.frame.format [] made → Ready k p r
-    passed : {args n into : ℕ} {made : Frame} → (h : Running k p r (moved_size n) (made_at made) (made ∷ [])) → h.frame.inst ≡ core.Print args n into → holes p.frame.format ≤ n → Made r made → ForPrint p.frame.format (taken p.frame.slots args n) made → Ready k p r
-    prints : {args n into : ℕ} {made : Frame} → (h : Running k p r (suc (moved_size n)) (made_at made) (made ∷ [])) → h.frame.inst ≡ core.Print args n into → holes p.frame.format ≤ n → Made r made →
+    formatted : {args n into : ℕ} {made : Frame} → (h : Running k p r 0 (made_at made) (made ∷ [])) → h.frame.inst ≡ core.Print args (suc n) into → holes p.frame.format ≤ suc n → Made k r made → ForPrint p.frame.format [] made → Ready k p r
+    passed : {args n into : ℕ} {made : Frame} → (h : Running k p r (moved_size n) (made_at made) (made ∷ [])) → h.frame.inst ≡ core.Print args n into → holes p.frame.format ≤ n → Made k r made → ForPrint p.frame.format (taken p.frame.slots args n) made → Ready k p r
+    prints : {args n into : ℕ} {made : Frame} → (h : Running k p r (suc (moved_size n)) (made_at made) (made ∷ [])) → h.frame.inst ≡ core.Print args n into → holes p.frame.format ≤ n → Made k r made →
         (its : ForPrint p.frame.format (taken p.frame.slots args n) made) → its.linkage ≡ Address (InFrame r.frame.serial) (slot_offset into) → Ready k p r
     -- in a return: the frame below has the answer
     returns : {w : Word} (v : Value) → (h : Running k (after_answer v p) r 1 w []) → Answers h.frame.inst p.frame.slots v → Ready k p r
 
   -- A process that waits for a reply to its print.
-  pub record Asking (k : Bool) (p : machine.Process) (r : Process) : Type 0 where
-    pub loaded : k ≡ true
+  pub record Asking (k : Known) (p : machine.Process) (r : Process) : Type 0 where
+    pub loaded : k.loaded ≡ true
     pub number : p.number ≡ r.number
     pub waits : FrameWaits p.frame r.frame
     pub stack : StackStands waits.stands.function r.frame p.below r.below
     pub frames : r.made ≡ []
-    pub fresh : r.frame.serial < r.frames
+    pub fresh : r.frame.serial < k.frames
     pub writing : Writing
     pub printing : p.printing ≡ Some writing
     pub printing_too : r.printing ≡ Some (record { writing = writing; place = InFrame r.frame.serial; at = slot_offset p.frame.into })
 
   -- The module's data are as they were at the opening, but for the module Sys, which is there once it is loaded. More blocks may
   -- have come.
-  pub record WorldStands (k : Bool) (w : outside.World) (x : World) : Type 0 where
+  pub record WorldStands (k : Known) (w : outside.World) (x : World) : Type 0 where
     pub outside : x.outside ≡ w
+    pub frames : x.frames ≡ k.frames
     pub sys : Option ℕ
     pub more : List Content
     pub blocks : x.blocks ≡ Instance 0 (Refer (Some 1) ∷ Refer sys ∷ data_words 2 (module_data m.functions)) ∷ memory.Text path_of_sys ∷ (data_texts (module_data m.functions) ++ more)
-    pub loaded : k ≡ true → (n : ℕ) × (sys ≡ Some n) × (slice_get x.blocks n ≡ Some (Sys (names sys_imports)))
+    pub loaded : k.loaded ≡ true → (n : ℕ) × (sys ≡ Some n) × (slice_get x.blocks n ≡ Some (Sys (names sys_imports)))
 
-  -- Three-address code and its object. No process waits for another yet. What is known of the machine is whether Sys is loaded.
-  abbrev pub code_and_object : GrowingSides Bool outside.World World machine.Process Process Value Request Rmsg Ending
+  -- Three-address code and its object. No process waits for another yet.
+  abbrev pub code_and_object : GrowingSides Known outside.World World machine.Process Process Value Request Rmsg Ending
   code_and_object = record {
-    grows = λ a b. a ≡ true → b ≡ true;
+    grows = Grows;
     program = core_rules.rules frames_limit (bodies m);
     code = dis_rules.rules frames_limit (object_of m ∷ []);
     ready = Ready;
@@ -226,5 +237,5 @@ module _ (m : Module) where
     worlds = WorldStands;
   }
 
-  abbrev pub sides : Sides Bool outside.World World machine.Process Process Value Value Request Rmsg Ending
+  abbrev pub sides : Sides Known outside.World World machine.Process Process Value Value Request Rmsg Ending
   sides = opened code_and_object

@@ -25,7 +25,7 @@ abbrev pub opening_blocks : List Datum → List Content
 opening_blocks ds = Instance 0 (Refer (Some 1) ∷ Refer None ∷ data_words 2 ds) ∷ memory.Text (codes "$Sys") ∷ data_texts ds
 
 abbrev pub opening : Module → World
-opening m = record { blocks = opening_blocks (module_data m.functions); outside = opening_world }
+opening m = record { blocks = opening_blocks (module_data m.functions); frames = 1; outside = opening_world }
 
 -- The first process, number 1, at the object's entry, with a frame of the entry's type.
 abbrev pub entry_words : Option TypeDesc → List Word
@@ -38,6 +38,5 @@ first_process m = record {
   frame = record { serial = 0; instance = 0; pc = 0; words = entry_words (slice_get (object_of m).types (object_of m).entry_type) };
   below = [];
   made = [];
-  frames = 1;
   printing = None;
 }

@@ -13,8 +13,13 @@ use Rattle.dis_control_ops.specs.declared.word.Halt.{Halt}
 use Rattle.dis_control_ops.specs.declared.word.Halt.TheVariants as halt
 use Rattle.dis_control_ops.specs.declared.outcome.Does as code_does
 use Rattle.dis_control_ops.specs.declared.outcome.Does.TheVariants as does
+use Rattle.dis_control_ops.specs.declared.outcome.Stepped.{Stepped}
+use Rattle.dis_control_ops.specs.declared.outcome.Stepped.TheVariants as stepped
+use Rattle.dis_control_ops.specs.declared.outcome.Heard.{Heard}
+use Rattle.dis_control_ops.specs.declared.outcome.Heard.TheVariants as heard
+use Rattle.dis_meaning.specs.Given.{HasGiven, IsGivenAfter}
 use Rattle.dis_control_ops.specs.Words.{Gives, number_of}
-use Rattle.dis_control_ops.specs.Outcomes.{effect_of, went_of, stepped_of, Steps, Stays, stays_after, Kept}
+use Rattle.dis_control_ops.specs.Outcomes.{effect_of, went_of, stepped_of, Steps, Hears, Stays, stays_after, stays_after_reply, Kept}
 
 pub steps_told : (r : Result code_does.Does Halt) (x : World) (p : Process) (y : World) (q : Process) (a : Access Does) →
     Gives (λ d. effect_of d y q) r a → Kept r x p y q → Steps (stepped_of r) p y q (or_fault x p a)
@@ -57,3 +62,23 @@ gives_at see r limit o x p i k e h = subst (λ k. Gives see r (obey limit o x p 
 pub gives_op : (r : Result (Unit {0}) Halt) (s : Result code_does.Does Halt) (y : World) (q : Process) (limit : ℕ) (o : Object) (x : World) (p : Process) (i : Inst) (k : Op) → i.op ≡ k → s ≡ went_of r →
     Gives (λ _. Went y q) r (obey limit o x p i k) → Gives (λ d. effect_of d y q) s (obey limit o x p i i.op)
 gives_op r s y q limit o x p i k e w h = gives_at (λ d. effect_of d y q) s limit o x p i k e (gives_went r s y q (obey limit o x p i k) w h)
+
+-- ---- serials that were given
+
+as_before : (x y : World) (p q : Process) → (y ≡ x) × (q ≡ p) → HasGiven x p → HasGiven y q
+as_before x y p q same h = subst (λ y. HasGiven y q) (sym same.0) (subst (λ q. HasGiven x q) (sym same.1) h)
+
+pub given_after : (r : Stepped) (x y : World) (p q : Process) (e : Does) → Steps r p y q e → Stays (stays_after r) x p y q → IsGivenAfter x e → HasGiven x p → HasGiven y q
+given_after stepped.Went x y p q e is kept g h = (subst (IsGivenAfter x) is g).given
+given_after (stepped.Asked m) x y p q e is kept g h = (subst (IsGivenAfter x) is g).given
+given_after stepped.Ended x y p q e is kept g h = as_before x y p q kept h
+given_after (stepped.Broken text) x y p q e is kept g h = as_before x y p q kept h
+given_after (stepped.Fault f) x y p q e is kept g h = as_before x y p q kept h
+given_after stepped.NoMemory x y p q e is kept g h = as_before x y p q kept h
+
+pub given_heard : (r : Heard) (x y : World) (p q : Process) (e : Does) → Hears r p y q e → Stays (stays_after_reply r) x p y q → IsGivenAfter x e → HasGiven x p → HasGiven y q
+given_heard heard.Went x y p q e is kept g h = (subst (IsGivenAfter x) is g).given
+given_heard (heard.Asked m) x y p q e is kept g h = (subst (IsGivenAfter x) is g).given
+given_heard (heard.Fault f) x y p q e is kept g h = as_before x y p q kept h
+given_heard heard.Refused x y p q e is kept g h = as_before x y p q kept h
+given_heard heard.NoMemory x y p q e is kept g h = as_before x y p q kept h

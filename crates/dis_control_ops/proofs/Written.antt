@@ -12,7 +12,7 @@ use Rattle.dis_control_ops.specs.declared.word.Fault.{Fault}
 use Rattle.dis_control_ops.specs.declared.frame.Frame as code_frame
 use Rattle.dis_control_ops.specs.declared.process.Proc as code_proc
 use Rattle.dis_control_ops.specs.Words.{view_words, GivesFault}
-use Rattle.dis_control_ops.specs.Frames.{view_frame, view_frames, one, count, occurs, room, IsAt}
+use Rattle.dis_control_ops.specs.Frames.{view_frame, view_frames, one, count, occurs, IsAt}
 use Rattle.dis_control_ops.specs.View.{view_process}
 use Rattle.dis_control_ops.specs.Storing.{put_all, content_written, block_written}
 use Rattle.dis_control_ops.proofs.Serials.{one_same, count_reverse, count_set, count_at, words_past, no_words, words_among, among_at, among_reverse, same_here, change_here, change_elsewhere, change_none, change_at, map_reverse}
@@ -47,15 +47,8 @@ serial_seen s fs k f at is =
 
 -- ---- each serial is at most one frame's
 
-few : (frames n : ℕ) → room frames n ≤ 1
-few frames n = go (nat_lt n frames)
-  where
-    go : (b : Bool) → (if b then 1 else 0) ≤ 1
-    go true = omega arith
-    go false = omega arith
-
 pub once : (p : code_proc.Proc) (s : ℕ) → occurs s (view_frame p.frame) (view_frames p.below.items) (view_frames p.made.items) ≤ 1
-once p s = let o = p.once s in let f = few p.frames s in omega (arith, o, f)
+once p s = p.once s
 
 -- ---- the words of a frame
 

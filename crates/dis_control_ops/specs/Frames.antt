@@ -1,5 +1,5 @@
 -- Frames of the program, as the definitions have them, and how often a serial occurs among them.
-use Rattle.std.specs.Prelude.{◌≡◌, ℕ, ◌+◌, Some, slice_get, List, [], ◌∷◌, map, nat_eq, nat_lt, if◌then◌else◌}
+use Rattle.std.specs.Prelude.{◌≡◌, ℕ, ◌+◌, Some, slice_get, List, [], ◌∷◌, map, nat_eq, if◌then◌else◌}
 use Rattle.dis_meaning.specs.Process.{Frame}
 use Rattle.dis_control_ops.specs.declared.frame.Frame as code_frame
 use Rattle.dis_control_ops.specs.Words.{view_words}
@@ -21,10 +21,6 @@ count n (f ∷ fs) = one n f + count n fs
 -- How often a serial occurs in a process: in the frame that runs, those below and those that are made.
 abbrev pub occurs : (serial : ℕ) → Frame → List Frame → List Frame → ℕ
 occurs n f below made = one n f + count n below + count n made
-
--- How often it may: once, where it is below the number of frames made so far.
-abbrev pub room : (frames serial : ℕ) → ℕ
-room frames n = if nat_lt n frames then 1 else 0
 
 -- A frame of this serial stands at a place of a list.
 pub record IsAt (serial : ℕ) (fs : List Frame) (place : ℕ) : Type 0 where

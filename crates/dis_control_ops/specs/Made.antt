@@ -27,4 +27,4 @@ is_frame (InBlock n) s = false
 
 -- A process that waits for the reply to a print.
 abbrev pub waits : Process → Printing → Process
-waits p k = record { number = p.number; frame = p.frame; below = p.below; made = p.made; frames = p.frames; printing = Some k }
+waits p k = record { number = p.number; frame = p.frame; below = p.below; made = p.made; printing = Some k }

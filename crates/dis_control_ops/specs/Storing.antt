@@ -64,7 +64,7 @@ row_stored x p s vs =
 
 -- The address of a new frame is stored, the frame of these words is made, and the next instruction follows.
 abbrev pub frame_stored : World → Process → Spot → List Word → Access Does
-frame_stored x p s words = store x p s (Address (InFrame p.frames) (pos 0)) >>= λ m. Found (next (framed m words))
+frame_stored x p s words = store x p s (Address (InFrame x.frames) (pos 0)) >>= λ m. Found (next (framed m words))
 
 -- As many fit in without more memory as before.
 abbrev pub SameRoom : Vec Frame Global → Vec Frame Global → Type 0

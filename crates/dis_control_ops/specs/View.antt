@@ -20,7 +20,7 @@ view_content (content.Instance object words) = Instance object (view_words words
 view_content (content.Sys names) = Sys names.items
 
 abbrev pub view_world : code_store.Store → World
-view_world s = record { blocks = map view_content s.blocks.items; outside = outside.view_world s.outside }
+view_world s = record { blocks = map view_content s.blocks.items; frames = s.frames; outside = outside.view_world s.outside }
 
 abbrev pub view_asking : code_asking.Asking → Printing
 view_asking a = record { writing = view_writing a.writing; place = view_place a.place; at = a.at }
@@ -32,7 +32,6 @@ view_process p = record {
   frame = view_frame p.frame;
   below = reverse (view_frames p.below.items);
   made = view_frames p.made.items;
-  frames = p.frames;
   printing = option_map view_asking p.printing;
 }
 

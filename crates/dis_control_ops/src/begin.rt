@@ -23,7 +23,6 @@ pub fn first_process(alloc: Global, object: &Object, words: Vec<Word>) -> Proc
         },
         below: Vec::new(alloc),
         made: Vec::new(alloc),
-        frames: 1,
         printing: None,
     }
 }

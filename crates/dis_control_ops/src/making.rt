@@ -4,6 +4,7 @@ ghost use Rattle.std.specs.Prelude.{◌≡◌, ℕ, ◌+◌, ◌<◌, ◌^◌, O
 ghost use Rattle.process_model.specs.Process.{Went};
 ghost use Rattle.dis_isa.specs.declared.op.Op.TheVariants as op;
 ghost use Rattle.dis_meaning.specs.Words as words;
+ghost use Rattle.dis_meaning.specs.Given.{HasGiven};
 ghost use Rattle.dis_meaning.specs.Step as meaning;
 ghost use Rattle.dis_control_ops.specs.Words.{view_words, Gives, GivesFault};
 ghost use Rattle.dis_control_ops.specs.View.{view_process, view_world};
@@ -32,38 +33,41 @@ fn type_at(object: &Object, number: u32) -> Result<&TypeDesc, Fault>
 }
 
 // A frame of these words is made, and the process goes on.
-fn make(proc: &mut Proc, words: Vec<Word>)
+fn make(store: &mut Store, proc: &mut Proc, words: Vec<Word>)
     requires place { proc.old.frame.pc + 1 < 2 ^ 64 }
-    requires serial { proc.old.frames + 1 < 2 ^ 64 }
+    requires serial { store.old.frames + 1 < 2 ^ 64 }
+    requires given { HasGiven (view_world store.old) (view_process proc.old) }
     requires room { vec_len proc.old.made < vec_capacity proc.old.made }
-    ensures { view_process proc.new ≡ moved_on (meaning.new_frame (view_process proc.old) (view_words words.items)) }
+    ensures world { view_world store.new ≡ meaning.with_frame_made (view_world store.old) }
+    ensures process { view_process proc.new ≡ moved_on (meaning.new_frame store.old.frames (view_process proc.old) (view_words words.items)) }
 {
     let frame = Frame {
-        serial: proc.frames,
+        serial: store.frames,
         instance: proc.frame.instance,
         pc: 0,
         words,
     };
     proc.made.push_reserved(frame);
-    proc.frames += 1;
+    store.frames += 1;
     advance(proc);
 }
 
 // Its address is stored, it is made, and the process goes on.
 fn finish_frame(store: &mut Store, proc: &mut Proc, to: Spot, words: Vec<Word>) -> Result<(), Fault>
     requires place { proc.old.frame.pc + 1 < 2 ^ 64 }
-    requires serial { proc.old.frames + 1 < 2 ^ 64 }
+    requires serial { store.old.frames + 1 < 2 ^ 64 }
+    requires given { HasGiven (view_world store.old) (view_process proc.old) }
     requires room { vec_len proc.old.made < vec_capacity proc.old.made }
     ensures gives { GivesFault (λ _. Went (view_world store.new) (view_process proc.new)) result
         (frame_stored (view_world store.old) (view_process proc.old) (view_spot to) (view_words words.items)) }
     ensures kept { OnErr result ((view_world store.new ≡ view_world store.old) × (proc.new ≡ proc.old)) }
 {
     let address = Word::Address {
-        place: Place::Frame(proc.frames),
+        place: Place::Frame(store.frames),
         at: 0,
     };
     write(store, proc, to, &[address])?;
-    make(proc, words);
+    make(store, proc, words);
     Ok(())
 }
 
@@ -75,13 +79,14 @@ fn finish_type(
     to: Spot,
     desc: &TypeDesc,
 ) -> Result<(), Halt>
-    requires { proc.old.frame.pc + 1 < 2 ^ 64 }
+    requires place { proc.old.frame.pc + 1 < 2 ^ 64 }
+    requires given { HasGiven (view_world store.old) (view_process proc.old) }
     ensures gives { Gives (λ _. Went (view_world store.new) (view_process proc.new)) result
         (frame_stored (view_world store.old) (view_process proc.old) (view_spot to) (words.blank desc.now)) }
     ensures kept { OnErr result ((view_world store.new ≡ view_world store.old) × (view_process proc.new ≡ view_process proc.old)) }
 {
-    // No process comes to make so many frames.
-    if proc.frames == u64::MAX {
+    // No machine comes to make so many frames.
+    if store.frames == u64::MAX {
         return Err(Halt::NoMemory);
     }
     let words = blank(alloc, desc)?;
@@ -100,7 +105,8 @@ pub(crate) fn make_frame(
     proc: &mut Proc,
     inst: Inst,
 ) -> Result<(), Halt>
-    requires { proc.old.frame.pc + 1 < 2 ^ 64 }
+    requires place { proc.old.frame.pc + 1 < 2 ^ 64 }
+    requires given { HasGiven (view_world store.old) (view_process proc.old) }
     ensures gives { (limit : ℕ) → Gives (λ _. Went (view_world store.new) (view_process proc.new)) result
         (meaning.obey limit object.now (view_world store.old) (view_process proc.old) inst op.Frame) }
     ensures kept { OnErr result ((view_world store.new ≡ view_world store.old) × (view_process proc.new ≡ view_process proc.old)) }

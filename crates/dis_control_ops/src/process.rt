@@ -1,5 +1,5 @@
 ghost use Rattle.std.specs.Prelude.{ℕ, ◌≤◌};
-ghost use Rattle.dis_control_ops.specs.Frames.{view_frame, view_frames, occurs, room};
+ghost use Rattle.dis_control_ops.specs.Frames.{view_frame, view_frames, occurs};
 
 use crate::frame::Frame;
 use crate::word::{Place, Word};
@@ -15,16 +15,15 @@ pub struct Asking {
     pub at: i64,
 }
 
-/// A process: its number; the frame that runs; those that wait for it, the latest last; those that are made and not yet called; how
-/// many frames it made so far; and the print that waits for a reply, if one does.
+/// A process: its number; the frame that runs; those that wait for it, the latest last; those that are made and not yet called; and
+/// the print that waits for a reply, if one does.
 #[derive(Drop)]
 pub struct Proc {
     pub number: u32,
     pub frame: Frame,
     pub below: Vec<Frame>,
     pub made: Vec<Frame>,
-    pub frames: u64,
     pub printing: Option<Asking>,
-    // Each serial below `frames` is at most one frame's, and no other is any's.
-    ghost once: { (n : ℕ) → occurs n (view_frame frame) (view_frames below.items) (view_frames made.items) ≤ room frames n },
+    // Each serial is at most one frame's.
+    ghost once: { (n : ℕ) → occurs n (view_frame frame) (view_frames below.items) (view_frames made.items) ≤ 1 },
 }

@@ -3,6 +3,7 @@
 ghost use Rattle.std.specs.Prelude.{◌≡◌};
 ghost use Rattle.system_model.specs.Prints as prints;
 ghost use Rattle.system_model.specs.Values.{Num};
+ghost use Rattle.dis_meaning.specs.Given.{HasGiven};
 ghost use Rattle.dis_meaning.specs.Step as meaning;
 ghost use Rattle.sys_print.specs.Worlds as outside;
 ghost use Rattle.dis_control_ops.specs.Words.{view_place};
@@ -48,8 +49,8 @@ fn take_answer(
     }
 }
 
-/// What a reply does to a process. Where it is refused, for want of memory too, or where its answer has no place, nothing is changed.
-pub fn answer(alloc: Global, reply: &Rmsg, store: &mut Store, proc: &mut Proc) -> Heard
+// A reply to a process, as `answer` has it.
+fn take_reply(alloc: Global, reply: &Rmsg, store: &mut Store, proc: &mut Proc) -> Heard
     ensures effect { Hears result (view_process proc.old) (view_world store.new) (view_process proc.new)
         (meaning.answer reply.now (view_world store.old) (view_process proc.old)) }
     ensures kept { Stays (stays_after_reply result) (view_world store.old) (view_process proc.old)
@@ -73,4 +74,17 @@ pub fn answer(alloc: Global, reply: &Rmsg, store: &mut Store, proc: &mut Proc) -
         }
         Printing::NoReply => Heard::Refused,
     }
+}
+
+/// What a reply does to a process. Where it is refused, for want of memory too, or where its answer has no place, nothing is changed.
+pub fn answer(alloc: Global, reply: &Rmsg, store: &mut Store, proc: &mut Proc) -> Heard
+    ensures effect { Hears result (view_process proc.old) (view_world store.new) (view_process proc.new)
+        (meaning.answer reply.now (view_world store.old) (view_process proc.old)) }
+    ensures kept { Stays (stays_after_reply result) (view_world store.old) (view_process proc.old)
+        (view_world store.new) (view_process proc.new) }
+    ensures sent { SentAgain result proc.new.printing }
+    // Where each frame has a serial that the machine gave, so it stays.
+    ensures given { HasGiven (view_world store.old) (view_process proc.old) → HasGiven (view_world store.new) (view_process proc.new) }
+{
+    take_reply(alloc, reply, store, proc)
 }

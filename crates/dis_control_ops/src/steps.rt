@@ -2,6 +2,7 @@
 
 ghost use Rattle.std.specs.Prelude.{◌≡◌, ◌+◌, ◌<◌, ◌^◌, Option, slice_get, OnOk};
 ghost use Rattle.dis_meaning.specs.Words as words;
+ghost use Rattle.dis_meaning.specs.Given.{HasGiven};
 ghost use Rattle.dis_meaning.specs.Step as meaning;
 ghost use Rattle.dis_control_ops.specs.declared.process.Asking.{Asking};
 ghost use Rattle.dis_control_ops.specs.Words.{Gives, GivesFault};
@@ -88,7 +89,8 @@ fn obey(
     proc: &mut Proc,
     inst: Inst,
 ) -> Result<Does, Halt>
-    requires { proc.old.frame.pc + 1 < 2 ^ 64 }
+    requires place { proc.old.frame.pc + 1 < 2 ^ 64 }
+    requires given { HasGiven (view_world store.old) (view_process proc.old) }
     ensures gives { Gives (λ d. effect_of d (view_world store.new) (view_process proc.new)) result
         (meaning.obey limit object.now (view_world store.old) (view_process proc.old) inst inst.op) }
     ensures kept { Kept result (view_world store.old) (view_process proc.old) (view_world store.new) (view_process proc.new) }
@@ -123,6 +125,7 @@ fn run(
     store: &mut Store,
     proc: &mut Proc,
 ) -> Result<Does, Halt>
+    requires given { HasGiven (view_world store.old) (view_process proc.old) }
     ensures gives { Gives (λ d. effect_of d (view_world store.new) (view_process proc.new)) result
         (worked limit (codes_of objects.now) (view_world store.old) (view_process proc.old)) }
     ensures kept { Kept result (view_world store.old) (view_process proc.old) (view_world store.new) (view_process proc.new) }
@@ -164,6 +167,24 @@ fn told(outcome: Result<Does, Halt>) -> Stepped
     }
 }
 
+// One instruction of a process, as `step` has it.
+fn obey_next(
+    alloc: Global,
+    limit: usize,
+    objects: &[(Text, Object)],
+    store: &mut Store,
+    proc: &mut Proc,
+) -> Stepped
+    requires given { HasGiven (view_world store.old) (view_process proc.old) }
+    ensures effect { Steps result (view_process proc.old) (view_world store.new) (view_process proc.new)
+        (meaning.step limit (codes_of objects.now) (view_world store.old) (view_process proc.old)) }
+    ensures kept { Stays (stays_after result) (view_world store.old) (view_process proc.old)
+        (view_world store.new) (view_process proc.new) }
+    ensures sent { Sent result proc.new.printing }
+{
+    told(run(alloc, limit, objects, store, proc))
+}
+
 /// One instruction of a process, where at most `limit` frames may be called. Where it neither goes on nor asks, nothing is changed.
 pub fn step(
     alloc: Global,
@@ -172,11 +193,14 @@ pub fn step(
     store: &mut Store,
     proc: &mut Proc,
 ) -> Stepped
+    // Each frame has a serial that the machine gave, and so it stays.
+    requires given { HasGiven (view_world store.old) (view_process proc.old) }
+    ensures given { HasGiven (view_world store.new) (view_process proc.new) }
     ensures effect { Steps result (view_process proc.old) (view_world store.new) (view_process proc.new)
         (meaning.step limit (codes_of objects.now) (view_world store.old) (view_process proc.old)) }
     ensures kept { Stays (stays_after result) (view_world store.old) (view_process proc.old)
         (view_world store.new) (view_process proc.new) }
     ensures sent { Sent result proc.new.printing }
 {
-    told(run(alloc, limit, objects, store, proc))
+    obey_next(alloc, limit, objects, store, proc)
 }

@@ -11,9 +11,11 @@ pub enum Content {
     Sys(Vec<Text>),
 }
 
-/// What all processes share: the blocks by their serials, and the outside.
+/// What all processes share: the blocks by their serials; how many frames were made so far, which is the next one's serial; and the
+/// outside.
 #[derive(Drop)]
 pub struct Store {
     pub blocks: Vec<Content>,
+    pub frames: u64,
     pub outside: World,
 }

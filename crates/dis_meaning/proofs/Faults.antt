@@ -86,7 +86,7 @@ module _ (limit : ℕ) (o : Object) (x : World) (p : Process) (i : Inst) where
   obey_clean op.Beqw = tests_clean int_eq
   obey_clean op.Bltw = tests_clean int_lt
   obey_clean op.Jmp = clean_on (target o i.dst) _ (λ pc. found _ tt)
-  obey_clean op.Frame = clean_on (immediate i.src) _ (λ n. clean_on (or_wrong type_check (slice_get o.types n)) _ (λ desc. clean_on (spot x p i.dst) _ (λ d. clean_on (store x p d (Address (InFrame p.frames) (pos 0))) _ (λ m. found _ tt))))
+  obey_clean op.Frame = clean_on (immediate i.src) _ (λ n. clean_on (or_wrong type_check (slice_get o.types n)) _ (λ desc. clean_on (spot x p i.dst) _ (λ d. clean_on (store x p d (Address (InFrame x.frames) (pos 0))) _ (λ m. found _ tt))))
   obey_clean op.Call = clean_on (source_word x p i.src >>= frame_at x p) _ (λ f. clean_on (target o i.dst) _ (λ pc. found _ (calls_clean limit x p f pc)))
   obey_clean op.Ret = found _ (returns_clean x p p.below)
   obey_clean op.Load =

@@ -1,2 +1,4 @@
 pub mod Faults
 pub mod Counts
+pub mod Begins
+pub mod Given

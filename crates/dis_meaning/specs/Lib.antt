@@ -7,4 +7,5 @@ pub mod Step
 pub mod Rules
 pub mod Opening
 pub mod Counts
+pub mod Given
 pub mod Laws

@@ -66,7 +66,6 @@ entered o words = record {
   frame = record { serial = 0; instance = 0; pc = o.entry_pc; words = words };
   below = [];
   made = [];
-  frames = 1;
   printing = None;
 }
 
@@ -82,7 +81,7 @@ opened o =
     slice_get o.types 0 >>= λ data_type.
     with_items (record { words = blank data_type; texts = [] }) o.items >>= λ d.
     slice_get o.types o.entry_type >>= λ frame_type.
-    Some (record { world = record { blocks = opening_blocks d; outside = opening_world }; first = entered o (blank frame_type) })
+    Some (record { world = record { blocks = opening_blocks d; frames = 1; outside = opening_world }; first = entered o (blank frame_type) })
 
 -- The strings of an object are well-formed UTF-8.
 abbrev pub StringsSpell : Object → Type 0

@@ -7,7 +7,7 @@ use Rattle.system_model.specs.Ending.{Ending, Faulted}
 use Rattle.dis_meaning.specs.Words.{Place, Word, Access, Found, Wrong}
 use Rattle.dis_meaning.specs.World.{World}
 
--- A frame: its serial, the instance whose code it runs, by the serial of its block, the place in that code, and its words. The first
+-- A frame: its serial, which no other frame of the machine has, the instance whose code it runs, by the serial of its block, the place in that code, and its words. The first
 -- eight are linkage: of these the word at 16 has the address that the function's answer goes to.
 pub record Frame : Type 0 where
   pub serial : ℕ
@@ -21,14 +21,13 @@ pub record Printing : Type 0 where
   pub place : Place
   pub at : ℤ
 
--- A process: its number; the frame that runs; those that wait for it, the latest first; those that are made and not yet called; how
--- many frames it made so far; and the print that waits for a reply, if one does.
+-- A process: its number; the frame that runs; those that wait for it, the latest first; those that are made and not yet called; and
+-- the print that waits for a reply, if one does.
 pub record Process : Type 0 where
   pub number : ℕ
   pub frame : Frame
   pub below : List Frame
   pub made : List Frame
-  pub frames : ℕ
   pub printing : Option Printing
 
 abbrev pub Does : Type 0
@@ -47,7 +46,7 @@ with_words f words = record { serial = f.serial; instance = f.instance; pc = f.p
 
 -- The process with these frames.
 abbrev pub with_frames : Process → Frame → List Frame → List Frame → Process
-with_frames p f below made = record { number = p.number; frame = f; below = below; made = made; frames = p.frames; printing = None }
+with_frames p f below made = record { number = p.number; frame = f; below = below; made = made; printing = None }
 
 -- Nothing is there to do: a reply that is none.
 abbrev pub stands_still : World → Process → Does

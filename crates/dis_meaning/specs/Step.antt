@@ -103,7 +103,7 @@ abbrev pub word_of : Value → Word
 word_of (Num n) = Plain n
 
 abbrev pub outside_is : World → outside.World → World
-outside_is x w = record { blocks = x.blocks; outside = w }
+outside_is x w = record { blocks = x.blocks; frames = x.frames; outside = w }
 
 -- An answer goes to its place.
 abbrev pub answered : World → Process → Place → ℤ → Value → Access Memory
@@ -122,7 +122,6 @@ prints x p place at (Requests w m k) =
       frame = at_pc p.frame (suc p.frame.pc);
       below = p.below;
       made = p.made;
-      frames = p.frames;
       printing = Some (record { writing = k; place = place; at = at });
     }))
 prints x p place at NoReply = Found (stands_still x p)
@@ -159,19 +158,21 @@ loaded x p s path table =
     if bytes_eq path path_of_sys then store (with_block x (Sys (names table))) p s (Refer (Some (length x.blocks)))
     else store x p s (Refer None)
 
--- A new frame, and its address.
-abbrev pub new_frame : Process → List Word → Process
-new_frame p words = record {
+-- A new frame, which gets the next serial.
+abbrev pub with_frame_made : World → World
+with_frame_made x = record { blocks = x.blocks; frames = suc x.frames; outside = x.outside }
+
+abbrev pub new_frame : (serial : ℕ) → Process → List Word → Process
+new_frame s p words = record {
   number = p.number;
   frame = p.frame;
   below = p.below;
-  made = p.made ++ record { serial = p.frames; instance = p.frame.instance; pc = 0; words = words } ∷ [];
-  frames = suc p.frames;
+  made = p.made ++ record { serial = s; instance = p.frame.instance; pc = 0; words = words } ∷ [];
   printing = None;
 }
 
 abbrev pub framed : Memory → List Word → Memory
-framed m words = record { world = m.world; process = new_frame m.process words }
+framed m words = record { world = with_frame_made m.world; process = new_frame m.world.frames m.process words }
 
 -- A place in the code.
 abbrev pub target : Object → Operand → Access ℕ
@@ -244,7 +245,7 @@ module _ (limit : ℕ) (o : Object) where
       immediate i.src >>= λ n.
       or_wrong type_check (slice_get o.types n) >>= λ desc.
       spot x p i.dst >>= λ d.
-      store x p d (Address (InFrame p.frames) (pos 0)) >>= λ m.
+      store x p d (Address (InFrame x.frames) (pos 0)) >>= λ m.
       Found (next (framed m (blank desc)))
   obey x p i op.Call =
       source_word x p i.src >>= frame_at x p >>= λ f. target o i.dst >>= λ pc. Found (calls limit x p f pc)
@@ -289,7 +290,6 @@ hears x p place at (Requests w m k) =
       frame = p.frame;
       below = p.below;
       made = p.made;
-      frames = p.frames;
       printing = Some (record { writing = k; place = place; at = at });
     })
 hears x p place at NoReply = stands_still x p

@@ -10,10 +10,11 @@ pub data Content : Type 0 where
   Instance : (object : ℕ) → List Word → Content
   Sys : List (List ℕ) → Content
 
--- The blocks by their serials, each of which is used once, and the outside: open files and links. No instruction of this part lets a
--- block go.
+-- The blocks by their serials, each of which is used once; how many frames were made so far, by all processes: the next one gets this
+-- number as its serial; and the outside: open files and links. No instruction of this part lets a block go.
 pub record World : Type 0 where
   pub blocks : List Content
+  pub frames : ℕ
   pub outside : outside.World
 
 -- The block of this serial.
@@ -22,8 +23,8 @@ block x n = or_wrong dead_address (slice_get x.blocks n)
 
 -- A new block, which gets the next serial.
 abbrev pub with_block : World → Content → World
-with_block x c = record { blocks = x.blocks ++ c ∷ []; outside = x.outside }
+with_block x c = record { blocks = x.blocks ++ c ∷ []; frames = x.frames; outside = x.outside }
 
 -- The block of this serial has another content.
 abbrev pub with_content : World → ℕ → Content → World
-with_content x n c = record { blocks = slice_set x.blocks n c; outside = x.outside }
+with_content x n c = record { blocks = slice_set x.blocks n c; frames = x.frames; outside = x.outside }

@@ -3,7 +3,7 @@
 //! `specs/` in the order of reading: `Words` (words of memory, and the numbers of faults), `World` (blocks, and the outside), `Process`
 //! (frames), `Places` (the words that operands name), `Formats` (what a format makes of its arguments), `Step` (one instruction),
 //! `Rules` (the instructions as a language of process_model), `Opening` (what a machine of an object begins with), `Counts` (how many
-//! references to a block there are), `Laws`.
+//! references to a block there are), `Given` (which serials frames have), `Laws`.
 //!
 //! A word is plain, a reference or an address, and takes only its own kind. Blocks and frames have serials, each of which is used once. A
 //! frame is there for its own process alone. The instructions are so far `load`, `frame`, `call`, `mcall` of `print`, `ret`, `jmp`,
@@ -12,4 +12,4 @@
 
 mod laws;
 
-pub use laws::{faults_change_nothing, stores_count};
+pub use laws::{faults_change_nothing, serials_are_given, stores_count};

@@ -31,10 +31,10 @@ pub begun_spelled : (o : Object) (b : Opened) → opened o ≡ Some b → String
 begun_spelled o b h n item at is = by_type (slice_get o.types 0) h
   where
     by_items : (t : TypeDesc) (d : Option Data) → with_items (record { words = blank t; texts = [] }) o.items ≡ d →
-        (d >>= λ d. slice_get o.types o.entry_type >>= λ f. Some (record { world = record { blocks = opening_blocks d; outside = Rattle.system_model.specs.World.opening_world }; first = entered o (blank f) })) ≡ Some b → IsUtf8 item.content
+        (d >>= λ d. slice_get o.types o.entry_type >>= λ f. Some (record { world = record { blocks = opening_blocks d; frames = 1; outside = Rattle.system_model.specs.World.opening_world }; first = entered o (blank f) })) ≡ Some b → IsUtf8 item.content
     by_items t None k e = absurd cc
     by_items t (Some d) k e = items_spelled (record { words = blank t; texts = [] }) d o.items k n item at is
 
-    by_type : (t : Option TypeDesc) → (t >>= λ t. with_items (record { words = blank t; texts = [] }) o.items >>= λ d. slice_get o.types o.entry_type >>= λ f. Some (record { world = record { blocks = opening_blocks d; outside = Rattle.system_model.specs.World.opening_world }; first = entered o (blank f) })) ≡ Some b → IsUtf8 item.content
+    by_type : (t : Option TypeDesc) → (t >>= λ t. with_items (record { words = blank t; texts = [] }) o.items >>= λ d. slice_get o.types o.entry_type >>= λ f. Some (record { world = record { blocks = opening_blocks d; frames = 1; outside = Rattle.system_model.specs.World.opening_world }; first = entered o (blank f) })) ≡ Some b → IsUtf8 item.content
     by_type None e = absurd cc
     by_type (Some t) e = by_items t (with_items (record { words = blank t; texts = [] }) o.items) refl e

@@ -11,7 +11,7 @@ use Rattle.dis_meaning.specs.Opening.{◌>>=◌}
 use Rattle.dis_control_ops.specs.View.{view_process}
 use Rattle.machine_core.specs.declared.event.Event.{Event}
 use Rattle.machine_core.specs.declared.event.Event.TheVariants as event
-use Rattle.machine_core.specs.declared.running.Running.{Running}
+use Rattle.machine_core.specs.declared.state.Running.{Running}
 use Rattle.machine_core.specs.declared.running.Doing as doing
 use Rattle.machine_core.specs.declared.running.Doing.TheVariants as code
 use Rattle.machine_core.specs.declared.running.Turn.{Turn}

@@ -8,7 +8,7 @@ use Rattle.machine_core.specs.declared.event.Event.{Event}
 use Rattle.machine_core.specs.declared.event.Event.TheVariants as event
 use Rattle.machine_core.specs.declared.outcome.Faulted.{Faulted}
 use Rattle.machine_core.specs.declared.outcome.Outcome.{Outcome}
-use Rattle.machine_core.specs.declared.running.Running.{Running}
+use Rattle.machine_core.specs.declared.state.Running.{Running}
 use Rattle.machine_core.specs.declared.running.Doing.{Doing}
 use Rattle.machine_core.specs.declared.running.Doing.TheVariants as doing
 use Rattle.machine_core.specs.declared.running.Turn.{Turn}

@@ -3,7 +3,7 @@ use Rattle.std.proofs.Common.{◌≡◌, ℕ, ◌+◌, List, [], ◌++◌, Some,
 use Rattle.std.proofs.lemmas.List.{append-nil}
 use Rattle.dis_file.specs.declared.object.Object.{Object}
 use Rattle.system_model.specs.Trace.{Trace}
-use Rattle.machine_core.specs.declared.running.Running.{Running}
+use Rattle.machine_core.specs.declared.state.Running.{Running}
 use Rattle.machine_core.specs.declared.running.Turn.{Turn}
 use Rattle.machine_core.specs.declared.running.Turn.TheVariants.{Went, Asked, Ended, Broken, Fault, NoMemory}
 use Rattle.machine_core.specs.Running.{state_with, told_by, IsTurn, HadTurns}

@@ -7,7 +7,7 @@ use Rattle.system_model.specs.Trace.{Trace}
 use Rattle.sys_print.specs.Printing.{view_request}
 use Rattle.sys_print.specs.declared.writing.Request.{Request}
 use Rattle.machine_core.specs.declared.event.Event.{Event}
-use Rattle.machine_core.specs.declared.running.Running.{Running}
+use Rattle.machine_core.specs.declared.state.Running.{Running}
 use Rattle.machine_core.specs.declared.outcome.Broken.{Broken}
 use Rattle.machine_core.specs.declared.outcome.Faulted.{Faulted}
 use Rattle.machine_core.specs.declared.outcome.Outcome.{Outcome}

@@ -18,7 +18,7 @@ use Rattle.dis_control_ops.specs.View.{view_process, view_world}
 use Rattle.machine_core.specs.declared.event.Event.TheVariants as code
 use Rattle.machine_core.specs.declared.running.Doing.{Doing}
 use Rattle.machine_core.specs.declared.running.Doing.TheVariants as doing
-use Rattle.machine_core.specs.declared.running.Running.{Running}
+use Rattle.machine_core.specs.declared.state.Running.{Running}
 use Rattle.machine_core.specs.declared.running.Turn.{Turn}
 use Rattle.machine_core.specs.declared.running.Turn.TheVariants as turn
 use Rattle.machine_core.specs.Journal.{State, machine_rules, meant}

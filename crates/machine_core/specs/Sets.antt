@@ -3,7 +3,7 @@ use Rattle.std.specs.Prelude.{ℕ, Bool, List, Option}
 use Rattle.std.proofs.Props.{props}
 use Rattle.dis_file.specs.declared.object.Object.{Object}
 use Rattle.machine_core.specs.declared.event.Event.{Event}
-use Rattle.machine_core.specs.declared.running.Running.{Running}
+use Rattle.machine_core.specs.declared.state.Running.{Running}
 use Rattle.machine_core.specs.declared.outcome.Outcome.{Outcome}
 use Rattle.machine_core.specs.Kept.{IsKept}
 

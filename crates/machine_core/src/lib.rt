@@ -10,7 +10,7 @@
 //! definitions have it, and what an instruction and a reply tell), `Kept` (what a machine keeps), `Sets` (it has one proof), `Standing`
 //! (what calls do to a machine), `Taken` (which replies are taken).
 //!
-//! `opening` makes the world that an object opens with, `running` runs instructions and hears replies, `outcome` keeps what was told,
+//! `opening` makes the world that an object opens with, `state` is the process that runs, `running` runs instructions and hears replies, `outcome` keeps what was told,
 //! `machine` enters quanta and replies, `reply` reads replies, `standing` answers questions.
 #![tactic(auto)]
 
@@ -23,6 +23,7 @@ mod outcome;
 mod reply;
 mod running;
 mod standing;
+mod state;
 
 pub use end::End;
 pub use event::{Event, Journal};
@@ -31,5 +32,6 @@ pub use machine::{Machine, Setup};
 pub use opening::StartFault;
 pub use outcome::{Broken, Faulted, Outcome};
 pub use reply::ReplyFault;
-pub use running::{Doing, Running};
+pub use running::Doing;
 pub use standing::Parts;
+pub use state::Running;

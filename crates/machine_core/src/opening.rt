@@ -161,7 +161,11 @@ pub(crate) fn open(alloc: Global, object: &Object) -> Result<Opened, StartFault>
     blocks.insert(0, Content::Instance { object: 0, words })?;
     let outside = opening_world(alloc);
     Ok(Opened {
-        store: Store { blocks, outside },
+        store: Store {
+            blocks,
+            frames: 1,
+            outside,
+        },
         process: first_process(alloc, object, frame),
     })
 }

@@ -5,7 +5,8 @@ ghost use Rattle.std.specs.Option.{option_map};
 ghost use Rattle.machine_core.specs.Journal.{reply_in, tagged};
 ghost use Rattle.machine_core.specs.Running.{MeansReply};
 
-use crate::running::{Doing, Running};
+use crate::running::Doing;
+use crate::state::Running;
 use std::alloc::{AllocError, Global};
 use styx_msg::{Decoded, Rmsg, StyxFault, decode_r};
 

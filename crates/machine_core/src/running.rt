@@ -1,11 +1,12 @@
-//! The process that runs, and its instructions.
+//! Instructions of the process that runs, and replies to it.
 
 ghost use Rattle.std.specs.Prelude.{◌≡◌, ◌<◌, ◌≤◌, List, IfSome, MatchOption};
 ghost use Rattle.dis_file.specs.declared.object.Object.{Object as Code};
 ghost use Rattle.dis_control_ops.specs.View.{codes_of};
 ghost use Rattle.machine_core.specs.Running.{stands_after, stands_heard, IsTurn, HadTurns, IsHeard, NotHeard, Sent};
 
-use dis_control_ops::{Heard, Proc, Stepped, Store, answer, step};
+use crate::state::Running;
+use dis_control_ops::{Heard, Stepped, answer, step};
 use dis_file::Object;
 use inf_text::Text;
 use std::alloc::Global;
@@ -27,14 +28,6 @@ pub enum Doing {
     Asking,
     /// It is over.
     Gone,
-}
-
-/// The process that runs, and what processes share.
-#[derive(Drop)]
-pub struct Running {
-    pub process: Proc,
-    pub doing: Doing,
-    pub store: Store,
 }
 
 /// What an instruction came to.

@@ -69,6 +69,7 @@ fn store(alloc: Global) -> Result<Store, AllocError> {
     blocks.push(Content::Text(text(alloc, "n=%d\n")?))?;
     Ok(Store {
         blocks,
+        frames: 1,
         outside: opening_world(alloc),
     })
 }

@@ -27,8 +27,8 @@ returns-clause-gives c =
     let vs = view_words c.args.new.now in
     let whole = to_z-of_z w64 c.args.at c.ranges.at in
     let gives = subst (λ at. GivesFault (λ _. new) c.write_content.result (content_written old at vs)) whole c.write_content.ensures.gives in
-    let set : with_content x n new ≡ view_world (record { blocks = with_item c.args.store.now.blocks n c.write_content.new.content; outside = c.args.store.now.outside }) =
-    ap (λ bs. record { blocks = bs; outside = x.outside }) (sym (map-set view_content c.args.store.now.blocks.items n c.write_content.new.content)) in
+    let set : with_content x n new ≡ view_world (record { blocks = with_item c.args.store.now.blocks n c.write_content.new.content; frames = c.args.store.now.frames; outside = c.args.store.now.outside }) =
+    ap (λ bs. record { blocks = bs; frames = x.frames; outside = x.outside }) (sym (map-set view_content c.args.store.now.blocks.items n c.write_content.new.content)) in
     subst (GivesFault _ c.write_content.result) (sym (block_as_content x n old c.args.at vs (ap (or_wrong dead_address) (there c))))
     (gives_then c.write_content.result (content_written old c.args.at vs) (λ k. Found (with_content x n k)) (λ _. new) _ (λ _. ap Found set) gives)
 
@@ -36,7 +36,7 @@ pub returns-clause-kept : goal.returns-clause-kept
 returns-clause-kept c =
     let x = view_world c.args.store.now in
     on_err_weaker c.write_content.result
-    (λ e. ap (λ bs. record { blocks = bs; outside = x.outside })
+    (λ e. ap (λ bs. record { blocks = bs; frames = x.frames; outside = x.outside })
     (map-set view_content c.args.store.now.blocks.items c.args.serial c.write_content.new.content
     ∙ ap (λ k. slice_set x.blocks c.args.serial (view_content k)) e
     ∙ set_itself x.blocks c.args.serial (view_content c.index_mut.result.now) (there c)))

@@ -12,5 +12,5 @@ returns-in-Err-clause-gives c =
     let p = view_process c.args.proc.now in
     let s = view_spot c.args.to in
     ap (frame_stored x p s) (sym c.in_ok-words.ensures)
-    ∙ ap (λ made. frame_stored x (record { number = p.number; frame = p.frame; below = p.below; made = view_frames made; frames = p.frames; printing = p.printing }) s (view_words c.in_ok-words.words.items)) (sym c.reserve.ensures.items)
+    ∙ ap (λ made. frame_stored x (record { number = p.number; frame = p.frame; below = p.below; made = view_frames made; printing = p.printing }) s (view_words c.in_ok-words.words.items)) (sym c.reserve.ensures.items)
     ∙ c.in-Err.ensures.gives

@@ -6,7 +6,7 @@ use Rattle.dis_control_ops.specs.View.{codes_of, view_process, view_world}
 use Rattle.dis_control_ops.specs.Words.{number_of}
 use Rattle.machine_core.specs.Running.{view_doing, obeyed}
 use Rattle.machine_core.proofs.Turning.{one, went, asked, ended}
-use Rattle.machine_core.proofs.running.Running.turn.Goals as goal
+use Rattle.machine_core.proofs.state.Running.turn.Goals as goal
 
 pub returns-in-Went-clause-turn : goal.returns-in-Went-clause-turn
 returns-in-Went-clause-turn c = λ told.

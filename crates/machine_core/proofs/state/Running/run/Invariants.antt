@@ -6,7 +6,7 @@ use Rattle.dis_control_ops.specs.View.{codes_of}
 use Rattle.machine_core.specs.declared.running.Doing.TheVariants.{Ready}
 use Rattle.machine_core.specs.Journal.{machine_rules}
 use Rattle.machine_core.specs.Running.{state_with}
-use Rattle.machine_core.proofs.running.Running.run.Given as goal
+use Rattle.machine_core.proofs.state.Running.run.Given as goal
 
 -- The process is ready, and so many instructions were obeyed, which told nothing.
 abbrev pub invariant-loop-count : goal.invariant-loop-count

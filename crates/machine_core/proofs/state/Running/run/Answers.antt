@@ -2,7 +2,7 @@ use Rattle.std.proofs.Common.{arith, inl, inr, sym, subst}
 use Rattle.dis_control_ops.specs.View.{codes_of}
 use Rattle.machine_core.specs.Running.{HadTurns}
 use Rattle.machine_core.proofs.Stopping.{went_on, lacked, full, stopped}
-use Rattle.machine_core.proofs.running.Running.run.Goals as goal
+use Rattle.machine_core.proofs.state.Running.run.Goals as goal
 
 pub loop-count-preserved : goal.loop-count-preserved
 loop-count-preserved c =
