@@ -1,5 +1,7 @@
 //! Single instructions, and a call with a print.
 
+ghost use Rattle.std.specs.Prelude.{◌≡◌, IfOk};
+
 use crate::objects::{inst, seq};
 use dis_control_ops::{
     Content, Fault, Heard, Stepped, Store, Word, answer, blank, first_process, put, step,
@@ -59,7 +61,9 @@ fn calling(alloc: Global, insts: &[Inst]) -> Result<Object, AllocError> {
 }
 
 // The object's data, and the texts that they refer to.
-fn store(alloc: Global) -> Result<Store, AllocError> {
+fn store(alloc: Global) -> Result<Store, AllocError>
+    ensures { IfOk result (λ s. s.frames ≡ 1) }
+{
     let mut words = blank(alloc, &desc(alloc, 12, &[0xE0])?)?;
     let _ = put(&mut words, 0, Word::Refer(Some(1)));
     let _ = put(&mut words, 8, Word::Refer(Some(2)));
