@@ -1,3 +1,4 @@
+pub mod Words
 pub mod Code
 pub mod Objects
 pub mod Sites

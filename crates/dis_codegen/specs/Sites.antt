@@ -5,6 +5,7 @@ use Rattle.limbo_typed.specs.Typed.{Piece, Chars, Decimal}
 use Rattle.core_code.specs.Code as core
 use Rattle.core_code.specs.Code.{Inst, Function}
 use Rattle.core_code.specs.Proper.{ProperFunction}
+use Rattle.dis_codegen.specs.Words.{frame_words}
 use Rattle.dis_codegen.specs.Code.{doubled, size, sizes, frame_bytes}
 use Rattle.dis_codegen.specs.Objects.{entry_size, base_of, most_instructions}
 
@@ -60,6 +61,6 @@ piece_text Decimal = 37 ∷ 100 ∷ []
 -- The number of an instruction's datum fits a word.
 abbrev pub SmallDatum : Inst → Type 0
 SmallDatum (core.Set into n) = FitsSigned w32 n
-SmallDatum (core.Call f args count into) = count ≤ 16384
-SmallDatum (core.Print args count into) = count ≤ 16384
+SmallDatum (core.Call f args count into) = count ≤ frame_words
+SmallDatum (core.Print args count into) = count ≤ frame_words
 SmallDatum _ = Unit {0}

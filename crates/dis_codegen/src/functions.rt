@@ -9,19 +9,15 @@ ghost use Rattle.dis_codegen.specs.Site.{context_of, function_of, IsSite};
 
 use crate::insts::{emit_inst, put};
 use crate::items::data_count;
-use crate::operands::slot;
+use crate::operands::{ANSWER_PLACE, SYS, slot};
 use crate::site::Site;
 use crate::sizes::places_of;
 use core_code::CoreFn;
 use dis_isa::{Inst, Middle, Op, Operand};
 use std::alloc::{AllocError, Global};
 
-// Where the module's data hold the path of Sys and the module, and where a frame holds the address that takes its answer.
+// Where the module's data hold the path of Sys.
 const PATH: i32 = 0;
-
-const SYS: i32 = 4;
-
-const ANSWER_PLACE: i32 = 16;
 
 // Adds the code of the site's function, whose data have the numbers from this one on, and gives the number of the next.
 fn emit_function(insts: &mut Vec<Inst>, site: &Site<'_>, datum: u32) -> Result<u32, AllocError>

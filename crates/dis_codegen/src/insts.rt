@@ -4,9 +4,10 @@ ghost use Rattle.core_code.specs.Code as core;
 ghost use Rattle.core_code.specs.View.{view_inst};
 ghost use Rattle.dis_codegen.specs.Code as dis;
 ghost use Rattle.dis_codegen.specs.Site.{context_of, function_of, IsSite, HasInst};
+ghost use Rattle.dis_codegen.specs.Words.{frame_words};
 
 use crate::operands::{
-    datum_offset, in_made, make, number_middle, number_source, slot, slot_offset,
+    ANSWER_PLACE, SYS, datum_offset, in_made, make, number_middle, number_source, slot, slot_offset,
 };
 use crate::site::{Site, frame_type, place, print_type, to_entry, to_place};
 use core_code::CoreInst;
@@ -14,16 +15,12 @@ use dis_isa::{Inst, Middle, Op, Operand};
 use limbo_typed::BinaryOp;
 use std::alloc::AllocError;
 
-// Where a frame holds the address that takes its answer, its first argument, and the first that a format prints.
-const ANSWER_PLACE: i32 = 16;
-
+// Where a frame holds its first argument, and the first that a format prints.
 const FIRST_ARGUMENT: i32 = 32;
 
 const FIRST_PRINTED: i32 = 36;
 
-// Where the module's data hold the module Sys, and the number of `print` in its table.
-const SYS: i32 = 4;
-
+// The number of `print` in the table of Sys.
 const PRINT: i32 = 16;
 
 /// Adds one instruction.
@@ -49,9 +46,9 @@ fn put_arguments(
     datum: u32,
     to: i32,
 ) -> Result<(), AllocError>
-    requires slots { slots < 16384 }
-    requires args { 0 < count → args < 16384 }
-    requires count { count ≤ 16384 }
+    requires slots { slots < frame_words }
+    requires args { 0 < count → args < frame_words }
+    requires count { count ≤ frame_words }
     requires datum { datum ≤ 1048576 }
     ensures { OnOk result (insts.new.items ≡ insts.old.items ++ dis.arguments slots args count datum to) }
 {
@@ -64,8 +61,8 @@ fn put_arguments(
 
 // Adds what puts the address of the slot for the answer there.
 fn put_answer_to(insts: &mut Vec<Inst>, slots: u32, into: u32) -> Result<(), AllocError>
-    requires slots { slots < 16384 }
-    requires into { into < 16384 }
+    requires slots { slots < frame_words }
+    requires into { into < frame_words }
     ensures { OnOk result (insts.new.items ≡ insts.old.items ++ dis.answer_to slots into ∷ []) }
 {
     let dst = in_made(slots, ANSWER_PLACE);
@@ -80,9 +77,9 @@ fn put_operation(
     left: u32,
     right: u32,
 ) -> Result<(), AllocError>
-    requires into { into < 16384 }
-    requires left { left < 16384 }
-    requires right { right < 16384 }
+    requires into { into < frame_words }
+    requires left { left < frame_words }
+    requires right { right < frame_words }
     ensures { OnOk result (insts.new.items ≡ insts.old.items ++ dis.operation op into left right) }
 {
     let middle = Middle::Fp(slot_offset(left));
@@ -100,10 +97,10 @@ fn put_comparison(
     right: u32,
 ) -> Result<(), AllocError>
     requires here { here ≤ 1048576 }
-    requires slots { slots < 16384 }
-    requires into { into < 16384 }
-    requires left { left < 16384 }
-    requires right { right < 16384 }
+    requires slots { slots < frame_words }
+    requires into { into < frame_words }
+    requires left { left < frame_words }
+    requires right { right < frame_words }
     ensures { OnOk result (insts.new.items ≡ insts.old.items ++ dis.comparison op slots here into left right) }
 {
     let middle = Middle::Fp(slot_offset(right));

@@ -6,6 +6,7 @@ ghost use Rattle.dis_codegen.specs.Code as dis;
 ghost use Rattle.dis_codegen.specs.Objects as objects;
 ghost use Rattle.dis_codegen.specs.Sites.{SmallDatum};
 ghost use Rattle.dis_codegen.specs.Spelled.{IsSpelled, AreSpelled};
+ghost use Rattle.dis_codegen.specs.Words.{frame_words};
 
 use crate::formats::format_text;
 use crate::links::to_text;
@@ -117,7 +118,7 @@ fn put_number(
 
 // Adds how many bytes so many arguments take, unless it is an immediate.
 fn put_bytes(alloc: Global, items: &mut Vec<Item>, count: u32) -> Result<(), AllocError>
-    requires count { count ≤ 16384 }
+    requires count { count ≤ frame_words }
     requires few { length items.old.items ≤ 1048577 }
     requires spelled { AreSpelled items.old.items }
     ensures items { OnOk result (items.new.items ≡ items.old.items ++ objects.items_from (4 + 4 * length items.old.items) (dis.number_datum (dis.fits_middle (4 * count)) (pos (4 * count)))) }

@@ -1,5 +1,6 @@
 ghost use Rattle.std.specs.Prelude.{◌≡◌, ◌+◌, ◌*◌, ◌<◌, ◌≤◌, pos};
 ghost use Rattle.dis_codegen.specs.Code as dis;
+ghost use Rattle.dis_codegen.specs.Words.{frame_words};
 
 use dis_isa::{Inst, Middle, Op, Operand};
 
@@ -9,6 +10,12 @@ const LEAST_SOURCE: i64 = -536_870_912;
 const GREATEST_SOURCE: i64 = 536_870_911;
 
 const GREATEST_MIDDLE: u64 = 32_767;
+
+/// Where the module's data hold the module Sys.
+pub(crate) const SYS: i32 = 4;
+
+/// Where a frame holds the address that takes its answer.
+pub(crate) const ANSWER_PLACE: i32 = 16;
 
 /// An instruction of these operands.
 pub(crate) fn make(op: Op, src: Operand, middle: Middle, dst: Operand) -> Inst
@@ -24,7 +31,7 @@ pub(crate) fn make(op: Op, src: Operand, middle: Middle, dst: Operand) -> Inst
 
 /// Where a slot stands in its frame: behind the linkage.
 pub(crate) fn slot_offset(number: u32) -> i32
-    requires { number < 16384 }
+    requires { number < frame_words }
     ensures { result ≡ dis.slot_offset number }
 {
     (32 + 4 * number) as i32
@@ -32,7 +39,7 @@ pub(crate) fn slot_offset(number: u32) -> i32
 
 /// A slot.
 pub(crate) fn slot(number: u32) -> Operand
-    requires { number < 16384 }
+    requires { number < frame_words }
     ensures { result ≡ dis.slot number }
 {
     Operand::Fp(slot_offset(number))
@@ -40,7 +47,7 @@ pub(crate) fn slot(number: u32) -> Operand
 
 /// A word of the frame that is made in a function of so many slots.
 pub(crate) fn in_made(slots: u32, offset: i32) -> Operand
-    requires { slots < 16384 }
+    requires { slots < frame_words }
     ensures { result ≡ dis.in_made slots offset }
 {
     Operand::IndFp {

@@ -3,6 +3,7 @@ ghost use Rattle.core_code.specs.Code.{Function};
 ghost use Rattle.core_code.specs.View.{view_inst, view_function};
 ghost use Rattle.dis_codegen.specs.Objects as objects;
 ghost use Rattle.dis_codegen.specs.Sites.{SmallFrame, AllSmall};
+ghost use Rattle.dis_codegen.specs.Words.{frame_words};
 
 use core_code::{CoreFn, CoreInst};
 use dis_file::{Item, TypeDesc};
@@ -107,7 +108,7 @@ fn most_of_all(functions: &[CoreFn]) -> u32
 
 // The type of a print's frame.
 fn print_desc(alloc: Global, functions: &[CoreFn]) -> Result<TypeDesc, AllocError>
-    requires { objects.most_of_all (map view_function functions.now) ≤ 16384 }
+    requires { objects.most_of_all (map view_function functions.now) ≤ frame_words }
     ensures { IfOk result (λ desc. desc ≡ objects.print_desc (map view_function functions.now)) }
 {
     let size = 36 + 4 * most_of_all(functions);
@@ -141,7 +142,7 @@ pub(crate) fn types_of(
 ) -> Result<Seq<TypeDesc>, AllocError>
     requires small { AllSmall (map view_function functions.now) }
     requires few { length (objects.module_data (map view_function functions.now)) ≤ 1048576 }
-    requires most { objects.most_of_all (map view_function functions.now) ≤ 16384 }
+    requires most { objects.most_of_all (map view_function functions.now) ≤ frame_words }
     requires items { items.now ≡ objects.string_item 0 (codes "$Sys") ∷ objects.items_from 8 (objects.module_data (map view_function functions.now)) }
     ensures { IfOk result (λ types. types ≡ objects.data_desc (objects.module_data (map view_function functions.now)) ∷ (map objects.frame_desc (map view_function functions.now) ++ objects.print_desc (map view_function functions.now) ∷ [])) }
 {
