@@ -12,7 +12,9 @@ ghost use Rattle.console_server.specs.Exchange.{IsRequest, IsServed};
 use crate::console::Console;
 use inf_ports::Sink;
 use std::alloc::{AllocError, Global};
-use styx_msg::{Decoded, Rmsg, StyxFault, Tmsg, decode_t, encode_r};
+use styx_decoding::decode_t;
+use styx_encoding::encode_r;
+use styx_msg::{Decoded, Rmsg, StyxFault, Tmsg};
 
 /// The request under its tag that a frame is.
 ///

@@ -6,7 +6,7 @@ use Rattle.std.specs.Str.{IsUtf8, chars, all_scalars}
 use Rattle.std.proofs.lemmas.Int.{of_z-to_z}
 use Rattle.std.proofs.lemmas.List.{drop_all, length-drop}
 use Rattle.std.proofs.lemmas.Str.{is_utf8-from_IsUtf8, chars_from_encodes}
-use Rattle.styx_msg.proofs.Texts.{is_utf8-bad}
+use Rattle.styx_decoding.proofs.Texts.{is_utf8-bad}
 use Rattle.dis_meaning.specs.Words.{Word, Plain, stored}
 use Rattle.dis_meaning.specs.Opening.{◌>>=◌, if_found, characters, with_numbers}
 

@@ -4,18 +4,19 @@ use Rattle.std.specs.Prelude.{nat_le, ◌==◌, ◌&&◌}
 use Rattle.std.proofs.lemmas.List.{append-nil, length-drop, take_all, nil_from_length}
 use Rattle.byteorder.specs.Endian.{little_number}
 use Rattle.styx_msg.specs.declared.message.Rmsg.{Rmsg}
-use Rattle.styx_msg.specs.declared.kind.RKind.{RKind}
+use Rattle.styx_decoding.specs.declared.kind.RKind.{RKind}
 use Rattle.styx_msg.specs.Styx.{r_row, fields_bytes, Begins, stated_size, stated_type}
-use Rattle.styx_msg.specs.Reading.{r_number, r_kind_of, r_body_at}
+use Rattle.styx_decoding.specs.Reading.{r_number, r_kind_of, r_body_at}
 use Rattle.styx_msg.specs.declared.fault.StyxFault.{StyxFault}
 use Rattle.styx_msg.specs.declared.fault.StyxFault.TheVariants.{NoMemory}
 use Rattle.styx_msg.specs.declared.message.Decoded.{Decoded}
 use Rattle.styx_msg.specs.declared.message.Decoded.TheVariants.{Whole, Short}
-use Rattle.styx_msg.specs.Decoding.{IsFrame, OrNoMemory}
-use Rattle.styx_msg.proofs.Fields.{IsBytes}
-use Rattle.styx_msg.proofs.Rows.{r_kind_is, r_direction}
-use Rattle.styx_msg.proofs.Frames.{framed, determined}
-use Rattle.styx_msg.proofs.Frames as frames
+use Rattle.styx_msg.specs.Answers.{OrNoMemory}
+use Rattle.styx_decoding.specs.Decoding.{IsFrame}
+use Rattle.styx_decoding.proofs.Fields.{IsBytes}
+use Rattle.styx_decoding.proofs.Rows.{r_kind_is, r_direction}
+use Rattle.styx_decoding.proofs.Frames.{framed, determined}
+use Rattle.styx_decoding.proofs.Frames as frames
 use Rattle.dis_meaning.specs.Opening.{◌>>=◌}
 use Rattle.machine_core.specs.Journal.{Tagged, has_size, whole, reply_in}
 

@@ -5,7 +5,7 @@ use Rattle.std.proofs.lemmas.List.{append-nil}
 use Rattle.styx_msg.specs.Styx.{Fits, r_row, spelling}
 use Rattle.styx_msg.specs.declared.message.Rmsg.{Rmsg}
 use Rattle.styx_msg.specs.declared.message.Rmsg.TheVariants as reply
-use Rattle.styx_msg.proofs.Frames as frames
+use Rattle.styx_decoding.proofs.Frames as frames
 use Rattle.process_model.specs.Process.{Doing, Asking, Went, Parks, Polls, Spawns, Asks, Ends}
 use Rattle.process_model.specs.Machine as machine
 use Rattle.process_model.specs.Plain.{no_names}

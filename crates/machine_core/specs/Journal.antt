@@ -3,7 +3,7 @@ use Rattle.std.specs.Prelude.{◌≡◌, ◌≤◌, ℕ, zero, suc, Bool, false,
 use Rattle.styx_msg.specs.declared.message.Rmsg.{Rmsg}
 use Rattle.byteorder.specs.Endian.{little_number}
 use Rattle.styx_msg.specs.Styx.{stated_size, stated_type}
-use Rattle.styx_msg.specs.Reading.{r_kind_of, r_body_at}
+use Rattle.styx_decoding.specs.Reading.{r_kind_of, r_body_at}
 use Rattle.process_model.specs.Process.{Doing, Ready, Waiting, Asking, Gone, Rules, Requested, Replied, Passed, Over, Released, Lost}
 use Rattle.process_model.specs.Machine as model
 use Rattle.process_model.specs.Machine.{Quantum, Reply, turns}

@@ -8,7 +8,8 @@ ghost use Rattle.machine_core.specs.Running.{MeansReply};
 use crate::running::Doing;
 use crate::state::Running;
 use std::alloc::{AllocError, Global};
-use styx_msg::{Decoded, Rmsg, StyxFault, decode_r};
+use styx_decoding::decode_r;
+use styx_msg::{Decoded, Rmsg, StyxFault};
 
 /// The console's link.
 const CONSOLE: u32 = 1;

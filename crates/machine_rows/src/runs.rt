@@ -8,7 +8,8 @@ use machine_core::{End, Event, Machine, ReplyFault, Setup, StartFault};
 use std::alloc::{AllocError, Global};
 use std::process::Abort;
 use std::test::Fail;
-use styx_msg::{Decoded, Tmsg, decode_t};
+use styx_decoding::decode_t;
+use styx_msg::{Decoded, Tmsg};
 
 // A machine that may have three quanta.
 fn start(alloc: Global, object: Object) -> Result<Machine, StartFault> {

@@ -1,5 +1,5 @@
 -- What a call that can run out of memory says of a value that is stated.
-use Rattle.std.specs.Prelude.{◌≡◌, ⊤, ℕ, Option, Some, None, Result, Ok, Err}
+use Rattle.std.specs.Prelude.{◌≡◌, ◌⊎◌, ⊤, ℕ, Option, Some, None, Result, Ok, Err}
 use Rattle.std.specs.Global.{Vec}
 use Rattle.styx_msg.specs.declared.fault.StyxFault.{StyxFault}
 use Rattle.styx_msg.specs.Styx.{Row, spelling, IsShortEnough}
@@ -26,6 +26,10 @@ IsEncoding tag m (Err BadSize) = ⊥
 IsEncoding tag m (Err BadType) = ⊥
 IsEncoding tag m (Err BadBody) = ⊥
 IsEncoding tag m (Err TooLong) = IsShortEnough m → ⊥
+
+-- The call answered this, unless memory ran out.
+abbrev pub OrNoMemory : {X : Type 0} → Result X StyxFault → Result X StyxFault → Type 0
+OrNoMemory result answer = (result ≡ answer) ⊎ (result ≡ Err NoMemory)
 
 -- The number that a refusal is known by. Want of memory is no refusal.
 abbrev pub refusal_number : StyxFault → Option ℕ

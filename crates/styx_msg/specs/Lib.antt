@@ -1,5 +1,3 @@
 pub mod Styx
-pub mod Reading
-pub mod Writing
+pub mod Steps
 pub mod Answers
-pub mod Decoding

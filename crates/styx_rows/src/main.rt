@@ -9,7 +9,9 @@ ghost use Rattle.std.specs.Prelude.{◌≡◌, ◌≤◌, ◌↔◌, IsTrue, len
 use inf_text::{Seq, Text};
 use std::alloc::{AllocError, Global};
 use std::io;
-use styx_msg::{Decoded, StyxFault, Tmsg, decode_r, decode_t, encode_r, encode_t};
+use styx_decoding::{decode_r, decode_t};
+use styx_encoding::{encode_r, encode_t};
+use styx_msg::{Decoded, StyxFault, Tmsg};
 
 /// Whether the first `used` bytes are the spelling.
 fn is_spelling(bytes: &[u8], used: usize, spelling: &[u8]) -> bool

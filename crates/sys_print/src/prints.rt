@@ -11,7 +11,8 @@ use crate::outside::{World, begin_wait, copy_world, end_wait, free_tag, wrote};
 use crate::writing::{Request, Writing};
 use inf_text::{Seq, Text};
 use std::alloc::{AllocError, Global};
-use styx_msg::{Rmsg, StyxFault, Tmsg, encode_t};
+use styx_encoding::encode_t;
+use styx_msg::{Rmsg, StyxFault, Tmsg};
 
 /// The most bytes that one request carries.
 const LONGEST_PIECE: usize = 8192;

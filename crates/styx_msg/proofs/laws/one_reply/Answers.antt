@@ -1,5 +1,0 @@
-use Rattle.styx_msg.proofs.OneSpelling.{one_r}
-use Rattle.styx_msg.proofs.laws.one_reply.Goals as goal
-
-pub returns : goal.returns
-returns c = one_r

@@ -1,8 +1,0 @@
-use Rattle.std.proofs.Common.{◌≡◌, ◌-◌}
-use Rattle.styx_msg.specs.Reading.{items_at, qid_at}
-use Rattle.styx_msg.proofs.Loop.{with_front}
-use Rattle.styx_msg.proofs.reading.qids_at.Given as goal
-
-abbrev pub invariant-loop : goal.invariant-loop
-invariant-loop l = with_front l.qids.items (items_at qid_at (l.count - l.counter) l.rest)
-    ≡ items_at qid_at l.count l.bytes
