@@ -1,3 +1,4 @@
 pub mod Worlds
 pub mod Printing
 pub mod Sent
+pub mod Marks

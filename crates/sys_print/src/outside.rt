@@ -1,6 +1,7 @@
-ghost use Rattle.std.specs.Prelude.{◌≡◌, IfOk};
+ghost use Rattle.std.specs.Prelude.{◌≡◌, true, slice_set, IfOk};
 ghost use Rattle.system_model.specs.World as meaning;
 ghost use Rattle.sys_print.specs.Worlds.{view_link, view_world};
+ghost use Rattle.sys_print.specs.Marks.{AreMarks};
 
 use std::alloc::{AllocError, Global};
 
@@ -51,29 +52,39 @@ pub fn opening_world(alloc: Global) -> World
     }
 }
 
-fn is_among(n: u64, ms: &[u64]) -> bool
-    ensures { result ≡ meaning.is_among n ms.now }
+// Marks a tag as taken, where it is one of those that are marked.
+fn mark(marks: &mut Vec<bool>, tag: u64)
+    ensures { marks.new.items ≡ slice_set marks.old.items tag true }
 {
-    for m in ms {
-        if n == *m {
-            return true;
-        }
+    let place = tag as usize;
+    if place < marks.len() {
+        marks[place] = true;
     }
-    false
 }
 
-/// The smallest tag under which no request waits.
-#[tactic(auto, using(crate::proofs::Tags::least_on))]
-pub fn free_tag(link: &Link) -> u64
-    ensures { result ≡ meaning.free_tag (view_link link.now) }
+// Of each of the first so many tags whether a request waits under it.
+fn marks_of(alloc: Global, waiting: &[u64]) -> Result<Vec<bool>, AllocError>
+    ensures { IfOk result (λ v. AreMarks waiting.now v.items) }
 {
-    let tries = link.waiting.len() as u64;
+    let mut marks = vec![in alloc; false; waiting.len()]?;
+    for tag in waiting {
+        mark(&mut marks, *tag);
+    }
+    Ok(marks)
+}
+
+/// The smallest tag under which no request waits, found in the time of one look at each.
+pub fn free_tag(alloc: Global, link: &Link) -> Result<u64, AllocError>
+    ensures { IfOk result (λ tag. tag ≡ meaning.free_tag (view_link link.now)) }
+{
+    let marks = marks_of(alloc, &link.waiting)?;
+    let tries = marks.len();
     for tag in 0..tries {
-        if !is_among(tag, &link.waiting) {
-            return tag;
+        if !marks[tag] {
+            return Ok(tag as u64);
         }
     }
-    tries
+    Ok(tries as u64)
 }
 
 fn without(alloc: Global, n: u64, ms: &[u64]) -> Result<Vec<u64>, AllocError>

@@ -72,7 +72,7 @@ fn ask_piece(
     ensures sent { IfOk result Sent }
 {
     // A tag has 16 bits. That so many requests wait isn't met, as there are fewer processes.
-    let Ok(tag) = u16::try_from(free_tag(&world.links.console)) else {
+    let Ok(tag) = u16::try_from(free_tag(alloc, &world.links.console)?) else {
         return Err(AllocError);
     };
     let (piece, left) = bytes.split_at(LONGEST_PIECE.min(bytes.len()));
