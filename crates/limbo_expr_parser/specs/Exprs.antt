@@ -206,16 +206,19 @@ primary r ts = choose (after_mark mark.OpenParen ts) (leaf_at ts) λ us. do
   vs ← expect_mark mark.CloseParen es.1
   Ok (Group (exprs_of es.0), vs)
 
+-- what stands behind the ":" of a slice
+abbrev pub slice_at : Readers → Expr → Part → Reader Expr
+slice_at r e i ts = do
+  j ← part_before r mark.CloseBracket ts
+  Ok (Slice e i j.0, j.1)
+
 -- what stands behind the "[" of an index or a slice
 unfoldable pub index_at : Readers → Expr → Reader Expr
 index_at r e ts = choose (after_mark mark.Colon ts) (do
   i ← r.expr ts
   choose (after_mark mark.CloseBracket i.1) (do
     us ← expect_mark mark.Colon i.1
-    j ← part_before r mark.CloseBracket us
-    Ok (Slice e (Present i.0) j.0, j.1)) λ us. Ok (Index e i.0, us)) λ us. do
-      j ← part_before r mark.CloseBracket us
-      Ok (Slice e Absent j.0, j.1)
+    slice_at r e (Present i.0) us) λ us. Ok (Index e i.0, us)) λ us. slice_at r e Absent us
 
 abbrev pub postfix_of : Kind → Option PostfixOp
 postfix_of (kind.Mark mark.Increment) = Some postfix_op.Increment

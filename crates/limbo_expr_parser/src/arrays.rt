@@ -8,7 +8,7 @@ ghost use Rattle.limbo_tree.specs.View.{view_part};
 ghost use Rattle.limbo_expr_parser.specs.Exprs.{readers};
 ghost use Rattle.limbo_expr_parser.specs.Exprs as reading;
 
-use crate::boxes::boxed;
+use crate::boxes::built;
 use crate::expr::{chain_at, expr_in};
 use crate::lists::part_before;
 use crate::types::type_at;
@@ -36,8 +36,7 @@ pub fn array_at(
         let behind = expect_key(Key::Of, tokens)?;
         let behind = expect_key(Key::Byte, behind)?;
         let (operand, size, rest) = chain_at(alloc, inner, 0, behind)?;
-        let tree = boxed(alloc, Expr::Bytes { operand, span })?;
-        return Ok((tree, 1 + size, rest));
+        return built(alloc, Expr::Bytes { operand, span }, 1 + size, rest);
     };
     let (len, size, rest) = part_before(alloc, inner, Mark::CloseBracket, behind)?;
     let behind = expect_key(Key::Of, rest)?;
@@ -73,8 +72,7 @@ fn filled_at(
         comma,
         span,
     };
-    let tree = boxed(alloc, filled)?;
-    Ok((tree, 1 + size.max(items_size), rest))
+    built(alloc, filled, 1 + size.max(items_size), rest)
 }
 
 // The type of an array's elements.
@@ -98,8 +96,8 @@ fn sized_at(
         return Err(syntax(tokens));
     };
     let (element, element_size, rest) = type_at(alloc, inner, tokens)?;
-    let tree = boxed(alloc, Expr::Sized { len, element, span })?;
-    Ok((tree, 1 + size.max(element_size), rest))
+    let sized = Expr::Sized { len, element, span };
+    built(alloc, sized, 1 + size.max(element_size), rest)
 }
 
 /// What stands behind `chan`.
@@ -122,8 +120,7 @@ pub fn channel_at(
         element,
         span,
     };
-    let tree = boxed(alloc, channel)?;
-    Ok((tree, 1 + size, rest))
+    built(alloc, channel, 1 + size, rest)
 }
 
 // init `{"," init}`

@@ -8,7 +8,7 @@ ghost use Rattle.limbo_expr_parser.specs.Exprs.{readers};
 ghost use Rattle.limbo_expr_parser.specs.Exprs as reading;
 
 use crate::arrays::{array_at, channel_at};
-use crate::boxes::boxed;
+use crate::boxes::{boxed, built};
 use crate::lists::listed_at;
 use crate::operators::{assign_at_front, op_within, right_level, unary_at_front};
 use crate::postfix::postfixed_at;
@@ -105,16 +105,13 @@ pub fn expr_in(
     }
     let (right, right_size, rest) = expr_in(alloc, inner, behind)?;
     let span = place(tokens);
-    let tree = boxed(
-        alloc,
-        Expr::Assign {
-            op,
-            left,
-            right,
-            span,
-        },
-    )?;
-    Ok((tree, 1 + size.max(right_size), rest))
+    let tree = Expr::Assign {
+        op,
+        left,
+        right,
+        span,
+    };
+    built(alloc, tree, 1 + size.max(right_size), rest)
 }
 
 /// A tree of a level, of nesting up to the budget.
@@ -205,8 +202,7 @@ fn load_at(
 {
     let (module, behind) = expect_name(tokens)?;
     let (path, size, rest) = chain_at(alloc, inner, 12, behind)?;
-    let tree = boxed(alloc, Expr::Load { module, path, span })?;
-    Ok((tree, 1 + size, rest))
+    built(alloc, Expr::Load { module, path, span }, 1 + size, rest)
 }
 
 // A unary, whose parts nest up to the budget.
@@ -225,8 +221,7 @@ fn unary_above(
     let span = place(tokens);
     if let Some((op, behind)) = unary_at_front(tokens) {
         let (operand, size, rest) = chain_at(alloc, inner, 0, behind)?;
-        let tree = boxed(alloc, Expr::Unary { op, operand, span })?;
-        return Ok((tree, 1 + size, rest));
+        return built(alloc, Expr::Unary { op, operand, span }, 1 + size, rest);
     }
     if let Some(behind) = after_key(Key::Array, tokens) {
         return array_at(alloc, inner, span, behind);

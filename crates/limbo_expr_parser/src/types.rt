@@ -8,7 +8,7 @@ ghost use Rattle.limbo_expr_parser.specs.Front.{front};
 ghost use Rattle.limbo_expr_parser.specs.Types.{ty_at, simple_of};
 ghost use Rattle.limbo_expr_parser.specs.Types as reading;
 
-use crate::boxes::{boxed_type, push_type};
+use crate::boxes::{built_type, push_type};
 use inf_text::Span;
 use limbo_lexer::{Key, Kind, Mark, Token};
 use limbo_reading::{
@@ -70,22 +70,19 @@ fn type_above(
 {
     let span = place(tokens);
     if let Some((simple, rest)) = simple_at(tokens) {
-        return Ok((boxed_type(alloc, simple)?, 1, rest));
+        return built_type(alloc, simple, 1, rest);
     }
     if let Some(behind) = after_key(Key::Array, tokens) {
         let (element, size, rest) = element_at(alloc, inner, behind)?;
-        let tree = boxed_type(alloc, TypeTree::Array { element, span })?;
-        return Ok((tree, 1 + size, rest));
+        return built_type(alloc, TypeTree::Array { element, span }, 1 + size, rest);
     }
     if let Some(behind) = after_key(Key::List, tokens) {
         let (element, size, rest) = element_at(alloc, inner, behind)?;
-        let tree = boxed_type(alloc, TypeTree::List { element, span })?;
-        return Ok((tree, 1 + size, rest));
+        return built_type(alloc, TypeTree::List { element, span }, 1 + size, rest);
     }
     if let Some(behind) = after_key(Key::Chan, tokens) {
         let (element, size, rest) = element_at(alloc, inner, behind)?;
-        let tree = boxed_type(alloc, TypeTree::Chan { element, span })?;
-        return Ok((tree, 1 + size, rest));
+        return built_type(alloc, TypeTree::Chan { element, span }, 1 + size, rest);
     }
     if let Some(behind) = after_mark(Mark::OpenParen, tokens) {
         return tuple_at(alloc, inner, span, behind);
@@ -129,8 +126,7 @@ fn tuple_at(
         return Err(syntax(rest));
     }
     let rest = expect_mark(Mark::CloseParen, rest)?;
-    let tree = boxed_type(alloc, TypeTree::Tuple { parts, span })?;
-    Ok((tree, 1 + size, rest))
+    built_type(alloc, TypeTree::Tuple { parts, span }, 1 + size, rest)
 }
 
 // type `{"," type}`
@@ -167,12 +163,10 @@ fn named_at(alloc: Global, tokens: &[Token]) -> Result<(Box<TypeTree>, u32, &[To
     let span = place(tokens);
     if let Some(behind) = after_key(Key::Ref, tokens) {
         let (of, rest) = qual_at(behind)?;
-        let tree = boxed_type(alloc, TypeTree::Ref { of, span })?;
-        return Ok((tree, 1, rest));
+        return built_type(alloc, TypeTree::Ref { of, span }, 1, rest);
     }
     let (name, rest) = qual_at(tokens)?;
-    let tree = boxed_type(alloc, TypeTree::Named { name, span })?;
-    Ok((tree, 1, rest))
+    built_type(alloc, TypeTree::Named { name, span }, 1, rest)
 }
 
 // A qualified name.

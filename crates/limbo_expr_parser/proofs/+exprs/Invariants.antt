@@ -36,6 +36,9 @@ decreases-postfix::one_behind l = l.inner * 64 + 48
 abbrev pub decreases-postfix::index_at : goal.decreases-postfix::index_at
 decreases-postfix::index_at l = l.inner * 64 + 44
 
+abbrev pub decreases-postfix::slice_at : goal.decreases-postfix::slice_at
+decreases-postfix::slice_at l = l.inner * 64 + 42
+
 abbrev pub decreases-lists::list_at : goal.decreases-lists::list_at
 decreases-lists::list_at l = l.budget * 64 + 20
 

@@ -51,4 +51,4 @@ tuple_at-returns-then-len-lt2-clause-same t c =
 
 pub tuple_at-returns-clause-same : goal.tuple_at-returns-clause-same
 tuple_at-returns-clause-same t c =
-    rw (c.in_ok-tree.ensures.same, view_type-Tuple) (tuple_whole c.args.inner (kinds c.args.tokens.now) c.in_ok-parts.parts.items (kinds c.in_ok-parts.rest.now) (kinds c.in_ok-rest.rest.now) c.in_ok-parts.ensures.same (omega arith) c.in_ok-rest.ensures)
+    rw (tuple_whole c.args.inner (kinds c.args.tokens.now) c.in_ok-parts.parts.items (kinds c.in_ok-parts.rest.now) (kinds c.in_ok-rest.rest.now) c.in_ok-parts.ensures.same (omega arith) c.in_ok-rest.ensures) (rw view_type-Tuple at c.built_type.ensures.same)
