@@ -3,3 +3,4 @@ pub mod Heads
 pub mod Stmts
 pub mod Sources
 pub mod Parsing
+pub mod Refusals

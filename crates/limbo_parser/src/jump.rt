@@ -1,7 +1,8 @@
 //! Parts of statements that hold no statements, and the statements that end in a semicolon behind a keyword.
 
-ghost use Rattle.std.specs.Prelude.{◌≡◌, ◌<◌, IfOk, IfErr};
-ghost use Rattle.limbo_reading.specs.declared.fault.ReadError.TheVariants.{NoMemory};
+ghost use Rattle.std.specs.Prelude.{◌≡◌, ◌<◌, Ok, List};
+ghost use Rattle.limbo_lexer.specs.declared.token.Kind.{Kind};
+ghost use Rattle.limbo_tree.specs.Stmts as trees;
 ghost use Rattle.limbo_tree.specs.Exprs.{is_postfix};
 ghost use Rattle.limbo_tree.specs.View.{view_expr, view_stmt, view_boxed, name_of};
 ghost use Rattle.limbo_reading.specs.Reading.{kinds, Gives};
@@ -15,15 +16,14 @@ use limbo_reading::{ReadError, after_mark, expect_mark, expect_name, syntax};
 use limbo_tree::{Expr, Name, Stmt};
 use std::alloc::Global;
 
-/// The tree in a box of its own.
+/// A statement that was read, in a box of its own, and what stands behind it.
 ///
 /// # Errors
 /// `NoMemory`.
-pub fn boxed(alloc: Global, tree: Stmt) -> Result<Box<Stmt>, ReadError>
-    ensures same { IfOk result (λ b. b.value ≡ tree) }
-    ensures memory { IfErr result (λ e. e ≡ NoMemory) }
+pub fn built(alloc: Global, tree: Stmt, rest: &[Token]) -> Result<(Box<Stmt>, &[Token]), ReadError>
+    ensures { Gives {Y = trees.Stmt × List Kind} (λ x. (view_stmt x.0.value, kinds x.1.now)) result (Ok (view_stmt tree, kinds rest.now)) }
 {
-    Ok(Box::new(alloc, tree)?)
+    Ok((Box::new(alloc, tree)?, rest))
 }
 
 /// `[ID]`
@@ -119,10 +119,7 @@ fn is_call(value: &Expr) -> bool
         Expr::Assign { .. } | Expr::Load { .. } | Expr::Binary { .. } | Expr::Unary { .. } => false,
         Expr::Bytes { .. } | Expr::Filled { .. } | Expr::Sized { .. } => false,
         Expr::Channel { .. } | Expr::Listed { .. } => false,
-        Expr::Call { .. } | Expr::Index { .. } | Expr::Slice { .. } => true,
-        Expr::Dot { .. } | Expr::Arrow { .. } | Expr::Postfix { .. } => true,
-        Expr::Number { .. } | Expr::Chars { .. } | Expr::Name { .. } => true,
-        Expr::Nil { .. } | Expr::Group { .. } => true,
+        _ => true,
     }
 }
 
@@ -141,7 +138,7 @@ fn spawned_at(
         return Err(syntax(tokens));
     }
     let rest = expect_mark(Mark::Semicolon, rest)?;
-    Ok((boxed(alloc, Stmt::Spawn { call, span })?, rest))
+    built(alloc, Stmt::Spawn { call, span }, rest)
 }
 
 /// What stands behind the keyword of a statement that ends in a semicolon.
@@ -160,25 +157,25 @@ pub fn jump_at(
         Jump::Break => {
             let (label, rest) = label_at(tokens)?;
             let rest = expect_mark(Mark::Semicolon, rest)?;
-            Ok((boxed(alloc, Stmt::Break { label, span })?, rest))
+            built(alloc, Stmt::Break { label, span }, rest)
         }
         Jump::Continue => {
             let (label, rest) = label_at(tokens)?;
             let rest = expect_mark(Mark::Semicolon, rest)?;
-            Ok((boxed(alloc, Stmt::Continue { label, span })?, rest))
+            built(alloc, Stmt::Continue { label, span }, rest)
         }
         Jump::Return => {
             let (value, rest) = option_before(alloc, budget, Mark::Semicolon, tokens)?;
-            Ok((boxed(alloc, Stmt::Return { value, span })?, rest))
+            built(alloc, Stmt::Return { value, span }, rest)
         }
         Jump::Exit => {
             let rest = expect_mark(Mark::Semicolon, tokens)?;
-            Ok((boxed(alloc, Stmt::Exit { span })?, rest))
+            built(alloc, Stmt::Exit { span }, rest)
         }
         Jump::Spawn => spawned_at(alloc, budget, span, tokens),
         Jump::Raise => {
             let (value, rest) = option_before(alloc, budget, Mark::Semicolon, tokens)?;
-            Ok((boxed(alloc, Stmt::Raise { value, span })?, rest))
+            built(alloc, Stmt::Raise { value, span }, rest)
         }
     }
 }
