@@ -8,12 +8,13 @@ ghost use Rattle.limbo_reading.specs.Reading as reading;
 ghost use Rattle.limbo_reading.specs.Reading.{kinds, Gives};
 ghost use Rattle.limbo_reading.specs.Lists as lists;
 ghost use Rattle.limbo_lexer.specs.declared.token.Mark.TheVariants as mark;
-ghost use Rattle.limbo_expr_parser.specs.Types.{ty_at as ty_of_at};
+ghost use Rattle.limbo_expr_parts.specs.Types.{ty_at as ty_of_at};
 ghost use Rattle.limbo_decl_parser.specs.Decls as decls;
 
 use crate::members::{adt_at, ended_expr, ended_type, members_at, only_name};
 use inf_text::Span;
-use limbo_expr_parser::{expr_at, push_type, type_at};
+use limbo_expr_parser::expr_at;
+use limbo_expr_parts::{push_type, type_at};
 use limbo_lexer::{Key, Mark, Token};
 use limbo_reading::{
     ReadError, after_key, after_mark, expect_mark, expect_name, expect_names, place, syntax,

@@ -6,13 +6,14 @@ ghost use Rattle.limbo_tree.specs.Decls as trees;
 ghost use Rattle.limbo_reading.specs.declared.fault.ReadError.TheVariants.{NoMemory};
 ghost use Rattle.limbo_tree.specs.View.{names_of, view_type, view_expr, view_fn, view_field, view_variant, view_member};
 ghost use Rattle.limbo_reading.specs.Reading.{kinds, Gives};
-ghost use Rattle.limbo_expr_parser.specs.Types.{ty_at as ty_of_at};
+ghost use Rattle.limbo_expr_parts.specs.Types.{ty_at as ty_of_at};
 ghost use Rattle.limbo_decl_parser.specs.Decls as decls;
 ghost use Rattle.limbo_decl_parser.specs.View.{view_inside};
 
 use crate::params::fn_at;
 use inf_text::Span;
-use limbo_expr_parser::{expr_at, type_at};
+use limbo_expr_parser::expr_at;
+use limbo_expr_parts::type_at;
 use limbo_lexer::{Key, Kind, Mark, Token};
 use limbo_reading::{
     ReadError, after_key, after_mark, expect_choices, expect_key, expect_mark, expect_names, place,

@@ -1,21 +1,22 @@
 //! Expressions, read by recursive descent, and their operators by climbing.
 
-ghost use Rattle.std.specs.Prelude.{◌≡◌, ◌≤◌, ◌<◌, ◌+◌, None, Some, MatchOption, IfOk, length};
-ghost use Rattle.limbo_tree.specs.Exprs.{nesting, is_unary};
+ghost use Rattle.std.specs.Prelude.{◌≡◌, ◌≤◌, ◌<◌, ◌+◌, IfOk, length};
+ghost use Rattle.limbo_tree.specs.Exprs.{nesting};
 ghost use Rattle.limbo_tree.specs.View.{view_expr};
 ghost use Rattle.limbo_reading.specs.Reading.{kinds, Gives};
 ghost use Rattle.limbo_expr_parser.specs.Exprs.{readers};
 ghost use Rattle.limbo_expr_parser.specs.Exprs as reading;
 
-use crate::arrays::{array_at, channel_at};
-use crate::boxes::{boxed, built};
+use crate::arrays::array_at;
 use crate::lists::listed_at;
-use crate::operators::{assign_at_front, op_within, right_level, unary_at_front};
 use crate::postfix::postfixed_at;
 use inf_text::Span;
+use limbo_expr_parts::{
+    after_load, assign_after, boxed, built, channel_at, op_within, right_level, unary_at_front,
+};
 use limbo_lexer::{Key, Token};
 use limbo_reading::{ReadError, after_key, expect_name, place, too_deep};
-use limbo_tree::{AssignOp, Expr};
+use limbo_tree::Expr;
 use std::alloc::Global;
 
 /// An expression of nesting up to the budget, its nesting, and what stands behind it.
@@ -54,29 +55,6 @@ pub fn unary_at(
     ensures shorter { IfOk result (λ x. length (kinds x.2.now) < length (kinds tokens.now)) }
 {
     chain_at(alloc, budget, 0, tokens)
-}
-
-// An assignment's sign behind the tree, if it may be assigned to, and what follows the sign.
-fn assign_after<'a>(tree: &Expr, tokens: &'a [Token]) -> Option<(AssignOp, &'a [Token])>
-    ensures { MatchOption result (reading.assign_after (view_expr tree.now) (kinds tokens.now) ≡ None)
-        (λ x. reading.assign_after (view_expr tree.now) (kinds tokens.now) ≡ Some (x.0, kinds x.1.now)) }
-{
-    if is_unary(tree) {
-        assign_at_front(tokens)
-    } else {
-        None
-    }
-}
-
-// Whether the tree is a unary.
-#[tactic(auto, using(limbo_tree::proofs::Exprs::the_views))]
-fn is_unary(tree: &Expr) -> bool
-    ensures { result ≡ is_unary (view_expr tree.now) }
-{
-    match tree {
-        Expr::Assign { .. } | Expr::Load { .. } | Expr::Binary { .. } => false,
-        _ => true,
-    }
 }
 
 /// An expression of nesting up to the budget, its nesting, and what stands behind it.
@@ -172,18 +150,6 @@ fn chain_above(
         rest = after;
     }
     Ok((left, size, rest))
-}
-
-// What stands behind `load`, where a tree of the level may be a load.
-fn after_load(level: u32, tokens: &[Token]) -> Option<&[Token]>
-    ensures { MatchOption result (reading.after_load level (kinds tokens.now) ≡ None)
-        (λ rest. reading.after_load level (kinds tokens.now) ≡ Some (kinds rest.now)) }
-{
-    if level < 12 {
-        None
-    } else {
-        after_key(Key::Load, tokens)
-    }
 }
 
 // A load, behind its keyword.

@@ -8,9 +8,9 @@ ghost use Rattle.limbo_tree.specs.View.{view_part};
 ghost use Rattle.limbo_expr_parser.specs.Exprs.{readers};
 ghost use Rattle.limbo_expr_parser.specs.Exprs as reading;
 
-use crate::boxes::{built, push_expr};
 use crate::expr::expr_in;
 use inf_text::Span;
+use limbo_expr_parts::{built, push_expr};
 use limbo_lexer::{Key, Mark, Token};
 use limbo_reading::{ReadError, after_mark, expect_key, expect_mark};
 use limbo_tree::Expr;

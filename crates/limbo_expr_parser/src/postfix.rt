@@ -1,21 +1,18 @@
 //! Primaries, and what stands behind them.
 
-ghost use Rattle.std.specs.Prelude.{◌≡◌, ◌≤◌, ◌<◌, ◌+◌, None, Some, MatchOption, IfSome, IfOk, IfErr, nat_lt, max};
-ghost use Rattle.limbo_reading.specs.declared.fault.ReadError.TheVariants.{NoMemory};
+ghost use Rattle.std.specs.Prelude.{◌≡◌, ◌≤◌, ◌<◌, ◌+◌, IfOk, max};
 ghost use Rattle.limbo_tree.specs.Exprs.{nesting, part_nesting};
 ghost use Rattle.limbo_tree.specs.View.{view_expr, view_part};
 ghost use Rattle.limbo_reading.specs.Reading.{kinds, Gives};
-ghost use Rattle.limbo_expr_parser.specs.Strength.{strength};
 ghost use Rattle.limbo_expr_parser.specs.Exprs.{readers};
 ghost use Rattle.limbo_expr_parser.specs.Exprs as reading;
 
-use crate::boxes::built;
 use crate::expr::expr_in;
 use crate::lists::{list_at, list_before, part_before};
-use crate::operators::postfix_at_front;
 use inf_text::Span;
-use limbo_lexer::{Key, Kind, Mark, Token};
-use limbo_reading::{ReadError, after_mark, expect_mark, expect_name, place, syntax, too_deep};
+use limbo_expr_parts::{built, is_ended, leaf_at, part_behind};
+use limbo_lexer::{Mark, Token};
+use limbo_reading::{ReadError, after_mark, expect_mark, place, too_deep};
 use limbo_tree::Expr;
 use std::alloc::Global;
 
@@ -45,24 +42,6 @@ pub fn postfixed_at(
     Ok((tree, size, rest))
 }
 
-// Whether nothing more stands behind a postfix.
-fn is_ended(tokens: &[Token]) -> bool
-    ensures { result ≡ nat_lt 0 (strength (kinds tokens.now)) }
-{
-    let [first, ..] = tokens else {
-        return true;
-    };
-    match &first.kind {
-        Kind::Mark(Mark::OpenParen) => false,
-        Kind::Mark(Mark::OpenBracket) => false,
-        Kind::Mark(Mark::Dot) => false,
-        Kind::Mark(Mark::Arrow) => false,
-        Kind::Mark(Mark::Increment) => false,
-        Kind::Mark(Mark::Decrement) => false,
-        _ => true,
-    }
-}
-
 // A primary.
 #[tactic(auto, using(limbo_tree::proofs::Exprs::the_views), unfolding(crate::specs::Exprs::primary))]
 #[cycle(exprs)]
@@ -83,48 +62,6 @@ fn primary_at(
     let rest = expect_mark(Mark::CloseParen, rest)?;
     let span = place(tokens);
     built(alloc, Expr::Group { items, span }, 1 + size, rest)
-}
-
-// A number, a string, a name or `nil`.
-#[tactic(auto, unfolding(crate::specs::Exprs::leaf_at))]
-fn leaf_at(alloc: Global, tokens: &[Token]) -> Result<(Box<Expr>, u32, &[Token]), ReadError>
-    ensures same { Gives (λ x. (view_expr x.0.value, kinds x.2.now)) result (reading.leaf_at (kinds tokens.now)) }
-    ensures size { IfOk result (λ x. x.1 ≡ nesting (view_expr x.0.value)) }
-    ensures within { IfOk result (λ x. x.1 ≤ 1) }
-{
-    let [first, rest @ ..] = tokens else {
-        return Err(syntax(tokens));
-    };
-    match leaf_of(&first.kind, first.span)? {
-        Some(leaf) => built(alloc, leaf, 1, rest),
-        None => Err(syntax(tokens)),
-    }
-}
-
-// The tree that a token is by itself.
-#[tactic(auto, using(limbo_tree::proofs::Exprs::the_views))]
-fn leaf_of(kind: &Kind, span: Span) -> Result<Option<Expr>, ReadError>
-    ensures same { IfOk result (λ o. MatchOption o (reading.leaf_of kind.now ≡ None) (λ e. reading.leaf_of kind.now ≡ Some (view_expr e))) }
-    ensures one { IfOk result (λ o. IfSome o (λ e. nesting (view_expr e) ≡ 1)) }
-    ensures memory { IfErr result (λ e. e ≡ NoMemory) }
-{
-    match kind {
-        Kind::Number { value, wide } => Ok(Some(Expr::Number {
-            value: *value,
-            wide: *wide,
-            span,
-        })),
-        Kind::Chars(text) => Ok(Some(Expr::Chars {
-            text: text.clone()?,
-            span,
-        })),
-        Kind::Name(name) => Ok(Some(Expr::Name {
-            name: name.clone()?,
-            span,
-        })),
-        Kind::Key(Key::Nil) => Ok(Some(Expr::Nil { span })),
-        _ => Ok(None),
-    }
 }
 
 // One of those that may stand behind the base.
@@ -217,33 +154,4 @@ fn slice_at(
         span,
     };
     built(alloc, slice, 1 + size.max(to_size), rest)
-}
-
-// The name of a part, or a step, behind the base.
-#[tactic(auto, using(limbo_tree::proofs::Exprs::the_views), unfolding(crate::specs::Exprs::part_behind))]
-fn part_behind(
-    alloc: Global,
-    base: Box<Expr>,
-    size: u32,
-    span: Span,
-    tokens: &[Token],
-) -> Result<(Box<Expr>, u32, &[Token]), ReadError>
-    requires sized { size ≡ nesting (view_expr base.value) }
-    requires fits { size < 999 }
-    ensures same { Gives (λ x. (view_expr x.0.value, kinds x.2.now)) result (reading.part_behind (view_expr base.value) (kinds tokens.now)) }
-    ensures size { IfOk result (λ x. x.1 ≡ nesting (view_expr x.0.value)) }
-    ensures within { IfOk result (λ x. x.1 ≤ size + 1) }
-{
-    if let Some(behind) = after_mark(Mark::Dot, tokens) {
-        let (name, rest) = expect_name(behind)?;
-        return built(alloc, Expr::Dot { base, name, span }, 1 + size, rest);
-    }
-    if let Some(behind) = after_mark(Mark::Arrow, tokens) {
-        let (name, rest) = expect_name(behind)?;
-        return built(alloc, Expr::Arrow { base, name, span }, 1 + size, rest);
-    }
-    let Some((op, rest)) = postfix_at_front(tokens) else {
-        return Err(syntax(tokens));
-    };
-    built(alloc, Expr::Postfix { op, base, span }, 1 + size, rest)
 }

@@ -5,20 +5,22 @@ ghost use Rattle.std.specs.Prelude.{◌≡◌, ◌<◌, ◌++◌, [], ◌∷◌,
 ghost use Rattle.limbo_reading.specs.declared.fault.ReadError.TheVariants.{NoMemory};
 ghost use Rattle.limbo_tree.specs.View.{view_stmt, view_block, view_case_arm, view_alt_arm, view_pick_arm, view_handler_arm, name_of};
 ghost use Rattle.limbo_reading.specs.Reading.{kinds, Gives};
-ghost use Rattle.limbo_parser.specs.declared.start.Branch.TheVariants as branch;
-ghost use Rattle.limbo_parser.specs.declared.start.Choice.TheVariants as choice;
-ghost use Rattle.limbo_parser.specs.declared.start.Loop.TheVariants as loop;
-ghost use Rattle.limbo_parser.specs.declared.start.Region.TheVariants as region;
+ghost use Rattle.limbo_stmt_parts.specs.declared.start.Branch.TheVariants as branch;
+ghost use Rattle.limbo_stmt_parts.specs.declared.start.Choice.TheVariants as choice;
+ghost use Rattle.limbo_stmt_parts.specs.declared.start.Loop.TheVariants as loop;
+ghost use Rattle.limbo_stmt_parts.specs.declared.start.Region.TheVariants as region;
 ghost use Rattle.limbo_parser.specs.Stmts as stmts;
 
-use crate::heads::{alt_front_at, case_front_at, ends, handler_front_at, pick_front_at};
-use crate::jump::{ForHead, built, expr_before, for_head_at, jump_at, label_at, option_before};
-use crate::start::{Branch, Choice, Loop, Region, Start, beginning};
 use inf_text::Span;
 use limbo_decl_parser::decl_at;
 use limbo_lexer::{Key, Mark, Token};
 use limbo_reading::{
     ReadError, after_key, after_mark, expect_key, expect_mark, expect_name, place, too_deep,
+};
+use limbo_stmt_parts::{
+    Branch, Choice, ForHead, Loop, Region, Start, alt_front_at, beginning, built, case_front_at,
+    ends, expr_before, for_head_at, handler_front_at, jump_at, label_at, option_before,
+    pick_front_at,
 };
 use limbo_tree::{AltArm, Block, CaseArm, Handler, HandlerArm, Name, PickArm, Stmt};
 use std::alloc::Global;

@@ -3,7 +3,8 @@ use Rattle.limbo_lexer.specs.declared.token.Mark.TheVariants as mark
 use Rattle.limbo_tree.specs.View.{view_expr, view_init}
 use Rattle.limbo_reading.specs.Reading.{kinds, after_mark}
 use Rattle.limbo_reading.proofs.Loops.{Reading}
-use Rattle.limbo_expr_parser.specs.Exprs.{readers, list_at, inits_at, init_at, after_comma_inside}
+use Rattle.limbo_expr_parts.specs.Parts.{after_comma_inside}
+use Rattle.limbo_expr_parser.specs.Exprs.{readers, list_at, inits_at, init_at}
 use Rattle.limbo_expr_parser.proofs.ExprSteps.{exprs_size, inits_size, Chained, Postfixed}
 use Rattle.limbo_expr_parser.proofs.+exprs.Given as goal
 
