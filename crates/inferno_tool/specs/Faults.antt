@@ -5,9 +5,11 @@ use Rattle.limbo_lexer.specs.declared.token.Kind.{Kind}
 use Rattle.limbo_lexer.specs.declared.fault.LexFault.{LexFault}
 use Rattle.limbo_lexer.specs.declared.fault.LexFault.TheVariants as lex
 use Rattle.limbo_lexer.specs.Causes.{IsRefused}
+use Rattle.limbo_lexer.specs.Refusals as lexing
 use Rattle.limbo_tree.specs.Sources.{Source, IsTree, source_nesting}
 use Rattle.limbo_parser.specs.declared.tree.ParseFault.{ParseFault}
 use Rattle.limbo_parser.specs.declared.tree.ParseFault.TheVariants as parse
+use Rattle.limbo_parser.specs.Refusals as parsing
 use Rattle.limbo_typed.specs.Typed.{Module}
 use Rattle.limbo_names.specs.Numbers as conditions
 use Rattle.limbo_names.specs.Part.{is_built}
@@ -19,26 +21,10 @@ use Rattle.inferno_tool.specs.Built.{HasTokens, HasTree}
 use Rattle.inferno_tool.specs.declared.cause.SourceFault.{SourceFault}
 use Rattle.inferno_tool.specs.declared.cause.SourceFault.TheVariants.{Lex, Parse, Unbuilt, Unmet, NoInit, FrameTooLarge, CodeTooLarge}
 
--- the number of a refusal of bytes and tokens; want of memory is none, and has 0
-abbrev pub lex_number : LexFault → ℕ
-lex_number lex.NoMemory = 0
-lex_number (lex.BadUtf8 at) = 1
-lex_number (lex.BadChar span) = 20
-lex_number (lex.BadEscape span) = 21
-lex_number (lex.NumberTooWide span) = 22
-lex_number (lex.Unclosed span) = 23
-lex_number lex.SourceTooLong = 24
-
--- the number of a refusal of the grammar
-abbrev pub parse_number : ParseFault → ℕ
-parse_number parse.NoMemory = 0
-parse_number (parse.Syntax token) = 30
-parse_number (parse.TooDeep token) = 31
-
 -- the number of a refusal
 abbrev pub number_of : SourceFault → ℕ
-number_of (Lex fault) = lex_number fault
-number_of (Parse fault span) = parse_number fault
+number_of (Lex fault) = lexing.number_of fault
+number_of (Parse fault span) = parsing.number_of fault
 number_of Unbuilt = 25
 number_of (Unmet cause span) = conditions.number_of cause
 number_of NoInit = 45

@@ -1,8 +1,7 @@
 ghost use Rattle.std.specs.Prelude.{◌≡◌};
 ghost use Rattle.inferno_tool.specs.Closing.{status_of};
 ghost use Rattle.inferno_tool.specs.Outcome.{lacks_memory};
-ghost use Rattle.inferno_tool.specs.Faults.{lex_number, parse_number, number_of, place_of};
-ghost use Rattle.limbo_names.specs.Numbers as conditions;
+ghost use Rattle.inferno_tool.specs.Faults.{number_of, place_of};
 
 use dis_file::Object;
 use inf_text::{Span, Text};
@@ -30,46 +29,6 @@ pub enum SourceFault {
     CodeTooLarge,
 }
 
-/// The number of a refusal of bytes and tokens; 0 for want of memory, which is none.
-fn lex_number(fault: LexFault) -> u8
-    ensures { result ≡ lex_number fault }
-{
-    match fault {
-        LexFault::NoMemory => 0,
-        LexFault::BadUtf8 { .. } => 1,
-        LexFault::BadChar(_) => 20,
-        LexFault::BadEscape(_) => 21,
-        LexFault::NumberTooWide(_) => 22,
-        LexFault::Unclosed(_) => 23,
-        LexFault::SourceTooLong => 24,
-    }
-}
-
-/// The number of a refusal of the grammar; 0 for want of memory, which is none.
-fn parse_number(fault: ParseFault) -> u8
-    ensures { result ≡ parse_number fault }
-{
-    match fault {
-        ParseFault::NoMemory => 0,
-        ParseFault::Syntax { .. } => 30,
-        ParseFault::TooDeep { .. } => 31,
-    }
-}
-
-/// The number of a condition of names and types that isn't met.
-fn unmet_number(cause: Unmet) -> u8
-    ensures { result ≡ conditions.number_of cause }
-{
-    match cause {
-        Unmet::Twice => 41,
-        Unmet::Unknown => 42,
-        Unmet::TypeClash => 50,
-        Unmet::NotPlace => 51,
-        Unmet::BadFormat => 54,
-        Unmet::NoReturn => 63,
-    }
-}
-
 /// A line and a column of a source, counted from 1.
 #[derive(Clone, Copy)]
 pub struct Place {
@@ -94,14 +53,14 @@ impl Place {
 
 impl SourceFault {
     /// The refusal's number.
-    pub fn number(self) -> u8
+    pub fn number(self) -> u32
         ensures { result ≡ number_of self }
     {
         match self {
-            SourceFault::Lex { fault } => lex_number(fault),
-            SourceFault::Parse { fault, .. } => parse_number(fault),
+            SourceFault::Lex { fault } => fault.number(),
+            SourceFault::Parse { fault, .. } => fault.number(),
             SourceFault::Unbuilt => 25,
-            SourceFault::Unmet { cause, .. } => unmet_number(cause),
+            SourceFault::Unmet { cause, .. } => cause.number(),
             SourceFault::NoInit => 45,
             SourceFault::FrameTooLarge => 70,
             SourceFault::CodeTooLarge => 71,

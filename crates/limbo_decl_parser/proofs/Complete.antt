@@ -15,10 +15,10 @@ use Rattle.limbo_tree.specs.Tokens.{◌▸◌, ◌▹◌, spell_name, spell_name
 use Rattle.limbo_tree.specs.Types.{Ty, Tys, NoTys, MoreTys, spell_ty, spell_more_tys, tys_nesting, are_all_tys}
 use Rattle.limbo_tree.specs.Exprs.{Expr, spell}
 use Rattle.limbo_tree.specs.Decls.{Param, Raises, One, Several, FnType, Field, Variant, Member, VarMember, FnMember, ConMember, TypeMember, AdtMember, Members, Decl, Con, TypeName, Var, Define, Import, Exception, Module, Adt, spell_pname, spell_pnames, spell_self, spell_param, spell_params, spell_more_params, spell_answer, spell_raises, spell_fn, spell_field, spell_fields, spell_variant, spell_variants, spell_pick, spell_member, spell_members, spell_value, spell_values, spell_decl, option_nesting, answer_nesting, params_nesting, fn_nesting, fields_nesting, variants_nesting, pick_nesting, members_nesting, decl_nesting, IsOption, are_params, is_answer, is_raises, is_fn, are_fields, are_variants, is_pick, AreMembers, IsDecl}
-use Rattle.limbo_expr_parser.specs.Strength.{Stops}
-use Rattle.limbo_expr_parser.specs.Types.{ty_at}
+use Rattle.limbo_expr_parts.specs.Strength.{Stops}
+use Rattle.limbo_expr_parts.specs.Types.{ty_at}
 use Rattle.limbo_decl_parser.specs.Decls.{pname_at, pnames_at, self_at, param_at, params_at, answer_at, raises_at, fn_at, begins_field, field_at, fields_at, fields_end, variant_at, variants_at, variants_end, pick_at, Inside, ends_members, members_end, members_of_at, adt_of_at, member_behind, member_of_at, adt_at, member_at, value_at, values_at, module_at, decl_of_type, decl_behind, decl_at}
-use Rattle.limbo_expr_parser.specs.Strength.{begins_ty}
+use Rattle.limbo_expr_parts.specs.Strength.{begins_ty}
 use Rattle.limbo_expr_parser.proofs.Laws.{ty_again, expr_again, spell_ty_begins}
 use Rattle.limbo_decl_parser.proofs.Good.{three, each_any, others_names, others_choices, others_pnames, pname_grows, GoodTy, ty_list, tys_of_list, others_tys, each_ty, ty_grows, GoodParam, others_params, param_grows, each_param, GoodField, all_fields_spelled, each_field, GoodVariant, all_variants_spelled, each_variant, GoodMember, member_list, members_of_list, all_members_spelled, each_member}
 use Rattle.limbo_decl_parser.proofs.Places.{field_keeps, variant_keeps, member_keeps}

@@ -9,7 +9,7 @@ use Rattle.limbo_reading.specs.Lists.{items, names_at, choices_at}
 use Rattle.limbo_reading.proofs.Steps.{Deepens, deepens_same, deepens_bind, deepens_choose}
 use Rattle.limbo_reading.proofs.Lists.{items_deepens, until_deepens}
 use Rattle.limbo_tree.specs.Decls.{Member}
-use Rattle.limbo_expr_parser.specs.Types.{ty_at}
+use Rattle.limbo_expr_parts.specs.Types.{ty_at}
 use Rattle.limbo_decl_parser.specs.Decls.{ended, expr_at, pnames_at, self_at, param_at, params_at, answer_at, fn_at, field_at, fields_at, fields_end, variant_at, variants_at, variants_end, pick_at, Inside, members_end, members_of_at, only, adt_of_at, member_behind, member_of_at, adt_at, member_at, members_at, value_at, values_at, module_at, decl_of_type, decl_behind, decl_at}
 use Rattle.limbo_expr_parser.proofs.Laws.{ty_deepens, expr_deepens}
 

@@ -9,7 +9,7 @@ use Rattle.limbo_reading.specs.Reading.{after_mark, after_key}
 use Rattle.limbo_reading.proofs.Steps.{Deepens, Keeps}
 use Rattle.limbo_reading.proofs.Lists.{Took}
 use Rattle.limbo_tree.specs.Decls.{FnType, Decl, spell_fn, is_fn, fn_nesting, spell_decl, IsDecl, decl_nesting}
-use Rattle.limbo_expr_parser.specs.Strength.{Stops}
+use Rattle.limbo_expr_parts.specs.Strength.{Stops}
 use Rattle.limbo_decl_parser.specs.Decls.{fn_at, decl_at}
 use Rattle.limbo_decl_parser.proofs.Complete as complete
 use Rattle.limbo_decl_parser.proofs.Sound as sound

@@ -15,7 +15,7 @@ use Rattle.limbo_reading.proofs.Steps.{Keeps, KeepsRest, keeps_choose, keeps_mar
 use Rattle.limbo_reading.proofs.Lists.{items_keeps, until_keeps}
 use Rattle.limbo_tree.specs.Types.{Ty}
 use Rattle.limbo_tree.specs.Decls.{Param, Field, Variant, Member}
-use Rattle.limbo_expr_parser.specs.Types.{ty_at}
+use Rattle.limbo_expr_parts.specs.Types.{ty_at}
 use Rattle.limbo_decl_parser.specs.Decls.{ended, expr_at, pname_at, pnames_at, self_at, param_at, params_at, answer_at, raises_at, fn_at, field_at, fields_at, fields_end, variant_at, variants_at, variants_end, pick_at, Inside, members_end, members_of_at, only, adt_of_at, member_behind, member_of_at, adt_at, member_at, members_at, value_at, values_at, module_at, decl_of_type, decl_behind, decl_at}
 use Rattle.limbo_expr_parser.proofs.Laws.{ty_keeps, expr_keeps}
 

@@ -15,7 +15,7 @@ use Rattle.limbo_tree.specs.Types.{Ty, spell_ty, spell_tys, tys_nesting, are_all
 use Rattle.limbo_tree.specs.Exprs.{spell, nesting, IsAt}
 use Rattle.limbo_tree.specs.Decls.{Param, Raises, Member, Members, Decl, Con, Define, Import, Exception, Module, Adt, spell_pname, spell_pnames, spell_self, spell_param, spell_params, spell_answer, spell_raises, spell_fn, spell_field, spell_fields, spell_variant, spell_variants, spell_pick, spell_member, spell_members, spell_value, spell_values, spell_decl, option_nesting, answer_nesting, fn_nesting, fields_nesting, variants_nesting, pick_nesting, members_nesting, decl_nesting, IsOption, are_params, is_answer, is_raises, is_fn, are_fields, are_variants, is_pick, AreMembers, IsDecl}
 use Rattle.limbo_tree.specs.View.{tys_of, members_of}
-use Rattle.limbo_expr_parser.specs.Types.{ty_at}
+use Rattle.limbo_expr_parts.specs.Types.{ty_at}
 use Rattle.limbo_decl_parser.specs.Decls.{ended, expr_at, pname_at, pnames_at, self_at, param_at, params_at, answer_at, raises_at, fn_at, field_at, fields_at, fields_end, variant_at, variants_at, variants_end, pick_at, Inside, members_end, members_of_at, only, adt_of_at, member_behind, member_of_at, adt_at, member_at, members_at, value_at, values_at, module_at, decl_of_type, decl_behind, decl_at}
 use Rattle.limbo_expr_parser.proofs.Laws.{ty_took, expr_took}
 use Rattle.limbo_decl_parser.proofs.Good.{three_true, others_names, others_choices, others_pnames, GoodTy, others_tys, all_tys, GoodParam, others_params, all_params, GoodField, all_fields_spelled, all_fields, GoodVariant, all_variants_spelled, all_variants, GoodMember, all_members_spelled, all_members}

@@ -12,7 +12,7 @@ use Rattle.limbo_tree.specs.Types.{Ty, Tys, NoTys}
 use Rattle.limbo_tree.specs.Exprs.{Expr}
 use Rattle.limbo_tree.specs.Decls.{Param, Raises, One, Several, FnType, Field, Variant, Member, VarMember, FnMember, ConMember, TypeMember, AdtMember, Members, Decl, Con, TypeName, Var, Define, Import, Exception, Module, Adt}
 use Rattle.limbo_tree.specs.View.{tys_of, members_of}
-use Rattle.limbo_expr_parser.specs.Types.{ty_at}
+use Rattle.limbo_expr_parts.specs.Types.{ty_at}
 use Rattle.limbo_expr_parser.specs.Exprs.{readers}
 
 -- a thing and the ";" behind it

@@ -1,18 +1,20 @@
 //! Declarations.
 
-ghost use Rattle.std.specs.Prelude.{◌≡◌, ◌<◌, IfOk, IfErr, length, map, option_map};
-ghost use Rattle.limbo_reading.specs.declared.fault.ReadError.TheVariants.{NoMemory};
+ghost use Rattle.std.specs.Prelude.{◌≡◌, ◌<◌, Ok, IfOk, List, length, map};
+ghost use Rattle.limbo_lexer.specs.declared.token.Kind.{Kind};
+ghost use Rattle.limbo_tree.specs.Decls as trees;
 ghost use Rattle.limbo_tree.specs.View.{names_of, view_type, view_types, view_expr, view_members, view_decl, view_boxed};
 ghost use Rattle.limbo_reading.specs.Reading as reading;
 ghost use Rattle.limbo_reading.specs.Reading.{kinds, Gives};
 ghost use Rattle.limbo_reading.specs.Lists as lists;
 ghost use Rattle.limbo_lexer.specs.declared.token.Mark.TheVariants as mark;
-ghost use Rattle.limbo_expr_parser.specs.Types.{ty_at as ty_of_at};
+ghost use Rattle.limbo_expr_parts.specs.Types.{ty_at as ty_of_at};
 ghost use Rattle.limbo_decl_parser.specs.Decls as decls;
 
 use crate::members::{adt_at, ended_expr, ended_type, members_at, only_name};
 use inf_text::Span;
-use limbo_expr_parser::{expr_at, push_type, type_at};
+use limbo_expr_parser::expr_at;
+use limbo_expr_parts::{push_type, type_at};
 use limbo_lexer::{Key, Mark, Token};
 use limbo_reading::{
     ReadError, after_key, after_mark, expect_mark, expect_name, expect_names, place, syntax,
@@ -20,12 +22,11 @@ use limbo_reading::{
 use limbo_tree::{Decl, Expr, Member, Name, TypeTree};
 use std::alloc::Global;
 
-/// The tree in a box of its own.
-fn boxed_decl(alloc: Global, tree: Decl) -> Result<Box<Decl>, ReadError>
-    ensures same { IfOk result (λ b. b.value ≡ tree) }
-    ensures memory { IfErr result (λ e. e ≡ NoMemory) }
+/// A declaration that was read, in a box of its own, and what stands behind it.
+fn built(alloc: Global, tree: Decl, rest: &[Token]) -> Result<(Box<Decl>, &[Token]), ReadError>
+    ensures { Gives {Y = trees.Decl × List Kind} (λ x. (view_decl x.0.value, kinds x.1.now)) result (Ok (view_decl tree, kinds rest.now)) }
 {
-    Ok(Box::new(alloc, tree)?)
+    Ok((Box::new(alloc, tree)?, rest))
 }
 
 /// `["=" expr]`
@@ -120,7 +121,7 @@ fn var_decl(
         value,
         span,
     };
-    Ok((boxed_decl(alloc, tree)?, rest))
+    built(alloc, tree, rest)
 }
 
 /// A declaration that is an adt, from its `adt` on.
@@ -144,7 +145,7 @@ fn adt_decl(
         pick,
         span,
     };
-    Ok((boxed_decl(alloc, tree)?, rest))
+    built(alloc, tree, rest)
 }
 
 /// What stands behind the `:` of a declaration that has a body in braces, or a type.
@@ -169,7 +170,7 @@ fn decl_of_type(
             members,
             span,
         };
-        return Ok((boxed_decl(alloc, tree)?, rest));
+        return built(alloc, tree, rest);
     }
     if let Some(_) = after_key(Key::Adt, tokens) {
         return adt_decl(alloc, budget, names, span, tokens);
@@ -214,13 +215,11 @@ fn decl_behind(
 {
     if let Some(rest) = after_key(Key::Con, tokens) {
         let (value, rest) = ended_expr(alloc, budget, rest)?;
-        let tree = boxed_decl(alloc, Decl::Con { names, value, span })?;
-        return Ok((tree, rest));
+        return built(alloc, Decl::Con { names, value, span }, rest);
     }
     if let Some(rest) = after_key(Key::TypeWord, tokens) {
         let (of, rest) = ended_type(alloc, budget, rest)?;
-        let tree = boxed_decl(alloc, Decl::Type { names, of, span })?;
-        return Ok((tree, rest));
+        return built(alloc, Decl::Type { names, of, span }, rest);
     }
     if let Some(rest) = after_key(Key::Import, tokens) {
         let (module, rest) = ended_name(rest)?;
@@ -229,7 +228,7 @@ fn decl_behind(
             module,
             span,
         };
-        return Ok((boxed_decl(alloc, tree)?, rest));
+        return built(alloc, tree, rest);
     }
     if let Some(rest) = after_key(Key::Exception, tokens) {
         let (values, rest) = ended_values(alloc, budget, rest)?;
@@ -238,7 +237,7 @@ fn decl_behind(
             values,
             span,
         };
-        return Ok((boxed_decl(alloc, tree)?, rest));
+        return built(alloc, tree, rest);
     }
     decl_of_type(alloc, budget, names, span, tokens)
 }
@@ -257,8 +256,7 @@ fn decl_here(
     let span = place(tokens);
     if let Some(rest) = after_mark(Mark::Define, rest) {
         let (value, rest) = ended_expr(alloc, budget, rest)?;
-        let tree = boxed_decl(alloc, Decl::Define { names, value, span })?;
-        return Ok((tree, rest));
+        return built(alloc, Decl::Define { names, value, span }, rest);
     }
     let rest = expect_mark(Mark::Colon, rest)?;
     decl_behind(alloc, budget, names, span, rest)

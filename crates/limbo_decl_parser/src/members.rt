@@ -1,16 +1,19 @@
 //! Members of modules and adts, and the variants of a pick adt.
 
-ghost use Rattle.std.specs.Prelude.{◌≡◌, ◌<◌, ◌++◌, [], ◌∷◌, IfOk, IfErr, None, Some, MatchOption, map, option_map};
+ghost use Rattle.std.specs.Prelude.{◌≡◌, ◌<◌, ◌++◌, [], ◌∷◌, Ok, IfOk, IfErr, None, Some, MatchOption, List, map, option_map};
+ghost use Rattle.limbo_lexer.specs.declared.token.Kind.{Kind};
+ghost use Rattle.limbo_tree.specs.Decls as trees;
 ghost use Rattle.limbo_reading.specs.declared.fault.ReadError.TheVariants.{NoMemory};
 ghost use Rattle.limbo_tree.specs.View.{names_of, view_type, view_expr, view_fn, view_field, view_variant, view_member};
 ghost use Rattle.limbo_reading.specs.Reading.{kinds, Gives};
-ghost use Rattle.limbo_expr_parser.specs.Types.{ty_at as ty_of_at};
+ghost use Rattle.limbo_expr_parts.specs.Types.{ty_at as ty_of_at};
 ghost use Rattle.limbo_decl_parser.specs.Decls as decls;
 ghost use Rattle.limbo_decl_parser.specs.View.{view_inside};
 
 use crate::params::fn_at;
 use inf_text::Span;
-use limbo_expr_parser::{expr_at, type_at};
+use limbo_expr_parser::expr_at;
+use limbo_expr_parts::type_at;
 use limbo_lexer::{Key, Kind, Mark, Token};
 use limbo_reading::{
     ReadError, after_key, after_mark, expect_choices, expect_key, expect_mark, expect_names, place,
@@ -193,12 +196,15 @@ fn pick_at(
     Ok((Some(variants), rest))
 }
 
-/// The tree in a box of its own.
-fn boxed_member(alloc: Global, tree: Member) -> Result<Box<Member>, ReadError>
-    ensures same { IfOk result (λ b. b.value ≡ tree) }
-    ensures memory { IfErr result (λ e. e ≡ NoMemory) }
+/// A member that was read, in a box of its own, and what stands behind it.
+fn built_member(
+    alloc: Global,
+    tree: Member,
+    rest: &[Token],
+) -> Result<(Box<Member>, &[Token]), ReadError>
+    ensures { Gives {Y = trees.Member × List Kind} (λ x. (view_member x.0.value, kinds x.1.now)) result (Ok (view_member tree, kinds rest.now)) }
 {
-    Ok(Box::new(alloc, tree)?)
+    Ok((Box::new(alloc, tree)?, rest))
 }
 
 /// Adds a member to some.
@@ -270,25 +276,21 @@ fn member_behind(
 {
     if let Some(rest) = after_key(Key::Fn, tokens) {
         let (of, rest) = ended_fn(alloc, budget, rest)?;
-        let tree = boxed_member(alloc, Member::Function { names, of, span })?;
-        return Ok((tree, rest));
+        return built_member(alloc, Member::Function { names, of, span }, rest);
     }
     if let Some(rest) = after_key(Key::Con, tokens) {
         let (value, rest) = ended_expr(alloc, budget, rest)?;
-        let tree = boxed_member(alloc, Member::Con { names, value, span })?;
-        return Ok((tree, rest));
+        return built_member(alloc, Member::Con { names, value, span }, rest);
     }
     if let Some(rest) = after_key(Key::TypeWord, tokens) {
         let (of, rest) = ended_type(alloc, budget, rest)?;
-        let tree = boxed_member(alloc, Member::Type { names, of, span })?;
-        return Ok((tree, rest));
+        return built_member(alloc, Member::Type { names, of, span }, rest);
     }
     if let Some(_) = after_key(Key::Adt, tokens) {
         return adt_member(alloc, budget, names, span, tokens);
     }
     let (of, rest) = ended_type(alloc, budget, tokens)?;
-    let tree = boxed_member(alloc, Member::Var { names, of, span })?;
-    Ok((tree, rest))
+    built_member(alloc, Member::Var { names, of, span }, rest)
 }
 
 /// A member that is an adt, from its `adt` on.
@@ -314,7 +316,7 @@ fn adt_member(
         pick,
         span,
     };
-    Ok((boxed_member(alloc, tree)?, rest))
+    built_member(alloc, tree, rest)
 }
 
 /// The members and variants of an adt, from its `adt` on, and what stands behind its last `;`.

@@ -8,7 +8,7 @@ ghost use Rattle.limbo_reading.specs.Lists as lists;
 ghost use Rattle.limbo_lexer.specs.declared.token.Mark.TheVariants as mark;
 ghost use Rattle.limbo_decl_parser.specs.Decls as decls;
 
-use limbo_expr_parser::type_at;
+use limbo_expr_parts::type_at;
 use limbo_lexer::{Key, Mark, Token};
 use limbo_reading::{
     ReadError, after_key, after_mark, expect_mark, expect_name, expect_names, place,

@@ -17,12 +17,14 @@ use Rattle.limbo_reading.specs.Reading.{after_mark}
 use Rattle.limbo_reading.specs.Lists.{items}
 use Rattle.limbo_reading.proofs.Steps.{tell}
 use Rattle.limbo_reading.proofs.Lists.{Each, items_again}
-use Rattle.limbo_expr_parser.specs.Front.{front}
-use Rattle.limbo_expr_parser.specs.Strength.{strength, strength_of, Stops, begins_expr}
-use Rattle.limbo_expr_parser.specs.Exprs.{binary_of, assign_of, op_within, Readers, part_before, list_at, list_before, init_at, after_comma_inside, comma_and_brace, inits_at, filled_at, sized_at, array_at, channel_at, listed_at, leaf_at, primary, index_at, part_behind, one_behind, postfix, postfixed, unary, climb, load_at, chain, assigned, expr, step, readers}
-use Rattle.limbo_expr_parser.proofs.Steps.{front_is}
+use Rattle.limbo_expr_parts.specs.Front.{front}
+use Rattle.limbo_expr_parts.specs.Strength.{strength, strength_of, Stops, begins_expr}
+use Rattle.limbo_expr_parts.specs.Operators.{binary_of, assign_of, op_within}
+use Rattle.limbo_expr_parts.specs.Parts.{after_comma_inside, comma_and_brace, sized_at, channel_at, leaf_at, part_behind}
+use Rattle.limbo_expr_parser.specs.Exprs.{Readers, part_before, list_at, list_before, init_at, inits_at, filled_at, array_at, listed_at, primary, index_at, one_behind, postfix, postfixed, unary, climb, load_at, chain, assigned, expr, step, readers}
+use Rattle.limbo_expr_parts.proofs.Steps.{front_is}
 use Rattle.limbo_expr_parser.proofs.Table.{binary_back, binary_is, binary_strength, level_low, level_high, left_low, right_low, left_ends, unary_back, assign_back, assign_is, assign_strength}
-use Rattle.limbo_expr_parser.proofs.TypeLaws.{ty_again, spell_ty_begins}
+use Rattle.limbo_expr_parts.proofs.TypeLaws.{ty_again, spell_ty_begins}
 use Rattle.limbo_expr_parser.proofs.Shapes.{exprs_list, exprs_back, spell_exprs_list, inits_list, inits_back, spell_inits_list, expr_grows, an_init_grows, nesting_pos, spell_begins, init_begins, not_begun, not_begun_ty, no_rest, looser, unloaded, plain_spell, plain_unary, plain_array, plain_list, plain_chan}
 
 -- r reads each tree of nesting up to b

@@ -11,11 +11,13 @@ use Rattle.limbo_reading.specs.declared.fault.Fault.{Fault}
 use Rattle.limbo_reading.specs.Reading.{after_mark, after_key, expect_mark, expect_key, expect_name}
 use Rattle.limbo_reading.proofs.Steps.{Deepens, deepens_same, deepens_bind, deepens_choose, deepens_if}
 use Rattle.limbo_reading.proofs.Lists.{items_deepens}
-use Rattle.limbo_expr_parser.specs.Front.{front}
-use Rattle.limbo_expr_parser.specs.Types.{ty_at}
-use Rattle.limbo_expr_parser.specs.Strength.{strength}
-use Rattle.limbo_expr_parser.specs.Exprs.{unary_of, op_within, Readers, guard, part_before, list_at, list_before, after_rest, init_at, after_comma_inside, inits_at, filled_at, sized_at, array_at, channel_at, listed_at, primary, index_at, one_behind, postfix, postfixed, unary, climb, after_load, load_at, chain, assign_after, assigned, expr, step, readers}
-use Rattle.limbo_expr_parser.proofs.TypeLaws.{ty_deepens}
+use Rattle.limbo_expr_parts.specs.Front.{front}
+use Rattle.limbo_expr_parts.specs.Types.{ty_at}
+use Rattle.limbo_expr_parts.specs.Strength.{strength}
+use Rattle.limbo_expr_parts.specs.Operators.{unary_of, op_within, after_load, assign_after}
+use Rattle.limbo_expr_parts.specs.Parts.{after_rest, after_comma_inside, sized_at, channel_at}
+use Rattle.limbo_expr_parser.specs.Exprs.{Readers, guard, part_before, list_at, list_before, init_at, inits_at, filled_at, array_at, listed_at, primary, index_at, one_behind, postfix, postfixed, unary, climb, load_at, chain, assigned, expr, step, readers}
+use Rattle.limbo_expr_parts.proofs.TypeLaws.{ty_deepens}
 
 guarded : {A : Type 0} (b c n : ℕ) (ts : List Kind) (x y : Result A Fault) → b ≤ c → Deepens x y → Deepens (guard b n ts x) (guard c n ts y)
 guarded b c n ts x y le p = elim (cases_lt b n) [

@@ -13,9 +13,11 @@ use Rattle.limbo_reading.specs.declared.fault.Fault.TheVariants.{TooDeep}
 use Rattle.limbo_reading.specs.declared.fault.ReadError.{ReadError}
 use Rattle.limbo_reading.specs.Reading.{Fails}
 use Rattle.limbo_reading.proofs.Steps.{kept_shorter, fails_same, fails_bind}
-use Rattle.limbo_expr_parser.specs.Strength.{strength}
-use Rattle.limbo_expr_parser.specs.Exprs.{Readers, op_within, init_at, after_comma_inside, primary, one_behind, postfix, postfixed, unary, climb, after_load, load_at, chain, assign_after, assigned, expr, step, readers}
-use Rattle.limbo_expr_parser.proofs.Steps.{took_is}
+use Rattle.limbo_expr_parts.specs.Strength.{strength}
+use Rattle.limbo_expr_parts.specs.Operators.{op_within, after_load, assign_after}
+use Rattle.limbo_expr_parts.specs.Parts.{after_comma_inside}
+use Rattle.limbo_expr_parser.specs.Exprs.{Readers, init_at, primary, one_behind, postfix, postfixed, unary, climb, load_at, chain, assigned, expr, step, readers}
+use Rattle.limbo_expr_parts.proofs.Steps.{took_is}
 use Rattle.limbo_expr_parser.proofs.Shapes.{nesting_pos}
 use Rattle.limbo_expr_parser.proofs.Sound.{one_behind_deeper, comma_inside_is}
 use Rattle.limbo_expr_parser.proofs.Places.{keeping, init_keeps}

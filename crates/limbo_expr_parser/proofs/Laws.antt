@@ -6,11 +6,11 @@ use Rattle.limbo_tree.specs.Types.{Ty, spell_ty, ty_nesting, is_ty}
 use Rattle.limbo_tree.specs.Exprs.{Expr, spell, nesting, IsAt}
 use Rattle.limbo_reading.proofs.Steps.{Deepens, Keeps}
 use Rattle.limbo_reading.proofs.Lists.{Took}
-use Rattle.limbo_expr_parser.specs.Types.{ty_at}
+use Rattle.limbo_expr_parts.specs.Types.{ty_at}
 use Rattle.limbo_expr_parser.specs.Exprs.{readers}
-use Rattle.limbo_expr_parser.specs.Strength.{Stops, begins_expr, begins_ty}
-use Rattle.limbo_expr_parser.proofs.Steps.{took_first}
-use Rattle.limbo_expr_parser.proofs.TypeLaws as types
+use Rattle.limbo_expr_parts.specs.Strength.{Stops, begins_expr, begins_ty}
+use Rattle.limbo_expr_parts.proofs.Steps.{took_first}
+use Rattle.limbo_expr_parts.proofs.TypeLaws as types
 use Rattle.limbo_expr_parser.proofs.Shapes as shapes
 use Rattle.limbo_expr_parser.proofs.Complete.{complete}
 use Rattle.limbo_expr_parser.proofs.Sound.{sound}

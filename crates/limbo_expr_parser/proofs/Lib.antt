@@ -1,5 +1,3 @@
-pub mod Steps
-pub mod TypeLaws
 pub mod Table
 pub mod Shapes
 pub mod Complete
@@ -7,6 +5,4 @@ pub mod Sound
 pub mod Deep
 pub mod Places
 pub mod Laws
-pub mod TypeSteps
 pub mod ExprSteps
-pub mod Unaries

@@ -12,12 +12,14 @@ use Rattle.limbo_reading.specs.declared.fault.Fault.{Fault}
 use Rattle.limbo_reading.specs.Reading.{◌>>=◌, after_mark, after_key, expect_mark, expect_key, expect_name}
 use Rattle.limbo_reading.proofs.Steps.{Keeps, keeps_less, keeps_bind, keeps_rest, keeps_choose, keeps_if, keeps_mark, keeps_key, keeps_name, after_mark_length, after_key_length}
 use Rattle.limbo_reading.proofs.Lists.{Took, items_keeps}
-use Rattle.limbo_expr_parser.specs.Front.{front}
-use Rattle.limbo_expr_parser.specs.Types.{ty_at}
-use Rattle.limbo_expr_parser.specs.Strength.{strength}
-use Rattle.limbo_expr_parser.specs.Exprs.{unary_of, leaf_of, postfix_of, op_within, Readers, guard, part_before, list_at, list_before, after_rest, init_at, after_comma_inside, comma_and_brace, inits_at, filled_at, sized_at, array_at, channel_at, listed_at, leaf_at, primary, index_at, part_behind, one_behind, postfix, postfixed, unary, climb, after_load, load_at, chain, assign_after, assigned, expr, step, readers}
-use Rattle.limbo_expr_parser.proofs.Steps.{front_length, keeps_in, keeps_took, took_both}
-use Rattle.limbo_expr_parser.proofs.TypeLaws.{ty_keeps}
+use Rattle.limbo_expr_parts.specs.Front.{front}
+use Rattle.limbo_expr_parts.specs.Types.{ty_at}
+use Rattle.limbo_expr_parts.specs.Strength.{strength}
+use Rattle.limbo_expr_parts.specs.Operators.{unary_of, postfix_of, op_within, after_load, assign_after}
+use Rattle.limbo_expr_parts.specs.Parts.{leaf_of, after_rest, after_comma_inside, comma_and_brace, sized_at, channel_at, leaf_at, part_behind}
+use Rattle.limbo_expr_parser.specs.Exprs.{Readers, guard, part_before, list_at, list_before, init_at, inits_at, filled_at, array_at, listed_at, primary, index_at, one_behind, postfix, postfixed, unary, climb, load_at, chain, assigned, expr, step, readers}
+use Rattle.limbo_expr_parts.proofs.Steps.{front_length, keeps_in, keeps_took, took_both}
+use Rattle.limbo_expr_parts.proofs.TypeLaws.{ty_keeps}
 use Rattle.limbo_expr_parser.proofs.Shapes.{spell_grows, nesting_pos}
 use Rattle.limbo_expr_parser.proofs.Sound.{Good, Plain, Sound, sound, after_rest_is, comma_inside_is, primary_took, one_behind_took, one_behind_deeper, unary_took, op_is, assign_shorter, loaded, chain_took}
 

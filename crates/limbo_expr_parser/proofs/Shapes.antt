@@ -14,11 +14,12 @@ use Rattle.limbo_tree.specs.View.{exprs_of, inits_of}
 use Rattle.limbo_reading.specs.Reading.{after_mark, after_key}
 use Rattle.limbo_reading.proofs.Steps.{tell, after_mark_is}
 use Rattle.limbo_reading.proofs.Lists.{spell_others}
-use Rattle.limbo_expr_parser.specs.Front.{front}
-use Rattle.limbo_expr_parser.specs.Strength.{begins_expr, begins_ty}
-use Rattle.limbo_expr_parser.specs.Exprs.{unary_of, after_rest, after_load}
+use Rattle.limbo_expr_parts.specs.Front.{front}
+use Rattle.limbo_expr_parts.specs.Strength.{begins_expr, begins_ty}
+use Rattle.limbo_expr_parts.specs.Operators.{unary_of, after_load}
+use Rattle.limbo_expr_parts.specs.Parts.{after_rest}
 use Rattle.limbo_expr_parser.proofs.Table.{level_high, left_low, unary_begins, unary_no_load}
-use Rattle.limbo_expr_parser.proofs.TypeLaws.{spell_ty_grows}
+use Rattle.limbo_expr_parts.proofs.TypeLaws.{spell_ty_grows}
 
 -- ---- lists of expressions and of inits
 

@@ -17,13 +17,15 @@ use Rattle.limbo_reading.specs.declared.fault.Fault.{Fault}
 use Rattle.limbo_reading.specs.Reading.{after_mark, after_key, expect_mark, expect_key, expect_name}
 use Rattle.limbo_reading.proofs.Steps.{tell, after_mark_is, after_key_is, took_bind, took_choose, took_if, took_mark, took_key, took_name}
 use Rattle.limbo_reading.proofs.Lists.{Each, Took, TookItems, items_took}
-use Rattle.limbo_expr_parser.specs.Front.{front}
-use Rattle.limbo_expr_parser.specs.Types.{ty_at}
-use Rattle.limbo_expr_parser.specs.Strength.{strength}
-use Rattle.limbo_expr_parser.specs.Exprs.{binary_of, unary_of, assign_of, leaf_of, postfix_of, op_within, Readers, part_before, list_at, list_before, after_rest, init_at, after_comma_inside, comma_and_brace, inits_at, filled_at, sized_at, array_at, channel_at, listed_at, leaf_at, primary, index_at, part_behind, one_behind, postfix, postfixed, unary, climb, after_load, load_at, chain, assign_after, assigned, expr, step, readers}
-use Rattle.limbo_expr_parser.proofs.Steps.{some_same, if_some, front_is, took_any}
+use Rattle.limbo_expr_parts.specs.Front.{front}
+use Rattle.limbo_expr_parts.specs.Types.{ty_at}
+use Rattle.limbo_expr_parts.specs.Strength.{strength}
+use Rattle.limbo_expr_parts.specs.Operators.{binary_of, unary_of, assign_of, postfix_of, op_within, after_load, assign_after}
+use Rattle.limbo_expr_parts.specs.Parts.{leaf_of, after_rest, after_comma_inside, comma_and_brace, sized_at, channel_at, leaf_at, part_behind}
+use Rattle.limbo_expr_parser.specs.Exprs.{Readers, part_before, list_at, list_before, init_at, inits_at, filled_at, array_at, listed_at, primary, index_at, one_behind, postfix, postfixed, unary, climb, load_at, chain, assigned, expr, step, readers}
+use Rattle.limbo_expr_parts.proofs.Steps.{some_same, if_some, front_is, took_any}
 use Rattle.limbo_expr_parser.proofs.Table.{binary_is, unary_is, assign_is, postfix_is, level_high, right_low, left_fits}
-use Rattle.limbo_expr_parser.proofs.TypeLaws.{ty_took, behind}
+use Rattle.limbo_expr_parts.proofs.TypeLaws.{ty_took, behind}
 use Rattle.limbo_expr_parser.proofs.Shapes.{spell_exprs_of, spell_inits_of, looser}
 
 -- a tree of a level and of nesting up to b

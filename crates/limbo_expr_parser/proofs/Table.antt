@@ -14,9 +14,9 @@ use Rattle.limbo_tree.specs.declared.operators.PostfixOp.{PostfixOp}
 use Rattle.limbo_tree.specs.declared.operators.PostfixOp.TheVariants as postfix_op
 use Rattle.limbo_tree.specs.Exprs.{assign_mark, binary_mark, unary_kind, postfix_mark, level, left_level, right_level}
 use Rattle.limbo_reading.specs.Reading.{after_key}
-use Rattle.limbo_expr_parser.specs.Strength.{strength_of, begins_expr}
-use Rattle.limbo_expr_parser.specs.Exprs.{binary_of, unary_of, assign_of, postfix_of}
-use Rattle.limbo_expr_parser.proofs.Steps.{some_same}
+use Rattle.limbo_expr_parts.specs.Strength.{strength_of, begins_expr}
+use Rattle.limbo_expr_parts.specs.Operators.{binary_of, unary_of, assign_of, postfix_of}
+use Rattle.limbo_expr_parts.proofs.Steps.{some_same}
 
 -- ---- operators between two operands
 

@@ -1,94 +1,20 @@
 -- Reading expressions, from left to right, with the first fault that is met. Operators are read by climbing: a tree goes on
 -- with each operator of its level or a tighter one, and reads what stands behind it at that operator's level.
-use Rattle.std.specs.Prelude.{ℕ, zero, suc, List, length, Bool, true, false, nat_le, nat_lt, Option, Some, None, Result, Ok, Err, if◌then◌else◌}
+use Rattle.std.specs.Prelude.{ℕ, zero, suc, List, length, nat_lt, Some, None, Result, Ok, Err, if◌then◌else◌}
 use Rattle.limbo_lexer.specs.declared.token.Kind.{Kind}
-use Rattle.limbo_lexer.specs.declared.token.Kind.TheVariants as kind
 use Rattle.limbo_lexer.specs.declared.token.Mark.{Mark}
 use Rattle.limbo_lexer.specs.declared.token.Mark.TheVariants as mark
 use Rattle.limbo_lexer.specs.declared.token.Key.TheVariants as key
-use Rattle.limbo_tree.specs.declared.operators.AssignOp.{AssignOp}
-use Rattle.limbo_tree.specs.declared.operators.AssignOp.TheVariants as assign_op
-use Rattle.limbo_tree.specs.declared.operators.BinaryOp.{BinaryOp}
-use Rattle.limbo_tree.specs.declared.operators.BinaryOp.TheVariants as binary_op
-use Rattle.limbo_tree.specs.declared.operators.UnaryOp.{UnaryOp}
-use Rattle.limbo_tree.specs.declared.operators.UnaryOp.TheVariants as unary_op
-use Rattle.limbo_tree.specs.declared.operators.PostfixOp.{PostfixOp}
-use Rattle.limbo_tree.specs.declared.operators.PostfixOp.TheVariants as postfix_op
 use Rattle.limbo_reading.specs.declared.fault.Fault.{Fault}
-use Rattle.limbo_reading.specs.declared.fault.Fault.TheVariants.{Syntax, TooDeep}
+use Rattle.limbo_reading.specs.declared.fault.Fault.TheVariants.{TooDeep}
 use Rattle.limbo_reading.specs.Reading.{◌>>=◌, Reader, choose, after_mark, after_key, expect_mark, expect_key, expect_name}
 use Rattle.limbo_reading.specs.Lists.{items}
-use Rattle.limbo_tree.specs.Exprs.{Expr, Part, Exprs, Init, Assign, Load, Binary, Unary, Bytes, Filled, Sized, Channel, Listed, Call, Index, Slice, Dot, Arrow, Postfix, Number, Chars, Name, Nil, Group, Absent, Present, NoExprs, Next, At, Rest, level, right_level, nesting, is_unary}
+use Rattle.limbo_tree.specs.Exprs.{Expr, Part, Exprs, Init, Assign, Load, Binary, Unary, Bytes, Filled, Listed, Call, Index, Slice, Group, Absent, Present, NoExprs, Next, At, Rest, right_level, nesting}
 use Rattle.limbo_tree.specs.View.{exprs_of, inits_of}
-use Rattle.limbo_expr_parser.specs.Types.{ty_at}
-use Rattle.limbo_expr_parser.specs.Strength.{strength}
-use Rattle.limbo_expr_parser.specs.Front.{front}
-
--- ---- operators
-
-abbrev pub binary_of : Kind → Option BinaryOp
-binary_of (kind.Mark mark.OrOr) = Some binary_op.OrOr
-binary_of (kind.Mark mark.AndAnd) = Some binary_op.AndAnd
-binary_of (kind.Mark mark.Cons) = Some binary_op.Cons
-binary_of (kind.Mark mark.Bar) = Some binary_op.Or
-binary_of (kind.Mark mark.Caret) = Some binary_op.Xor
-binary_of (kind.Mark mark.Ampersand) = Some binary_op.And
-binary_of (kind.Mark mark.Equal) = Some binary_op.Equal
-binary_of (kind.Mark mark.NotEqual) = Some binary_op.NotEqual
-binary_of (kind.Mark mark.Less) = Some binary_op.Less
-binary_of (kind.Mark mark.LessEqual) = Some binary_op.LessEqual
-binary_of (kind.Mark mark.Greater) = Some binary_op.Greater
-binary_of (kind.Mark mark.GreaterEqual) = Some binary_op.GreaterEqual
-binary_of (kind.Mark mark.Shl) = Some binary_op.Shl
-binary_of (kind.Mark mark.Shr) = Some binary_op.Shr
-binary_of (kind.Mark mark.Plus) = Some binary_op.Add
-binary_of (kind.Mark mark.Minus) = Some binary_op.Sub
-binary_of (kind.Mark mark.Star) = Some binary_op.Mul
-binary_of (kind.Mark mark.Slash) = Some binary_op.Div
-binary_of (kind.Mark mark.Percent) = Some binary_op.Rem
-binary_of _ = None
-
-abbrev pub unary_of : Kind → Option UnaryOp
-unary_of (kind.Mark mark.Plus) = Some unary_op.Plus
-unary_of (kind.Mark mark.Minus) = Some unary_op.Minus
-unary_of (kind.Mark mark.Bang) = Some unary_op.Not
-unary_of (kind.Mark mark.Tilde) = Some unary_op.Complement
-unary_of (kind.Mark mark.Increment) = Some unary_op.Increment
-unary_of (kind.Mark mark.Decrement) = Some unary_op.Decrement
-unary_of (kind.Mark mark.Receive) = Some unary_op.Receive
-unary_of (kind.Mark mark.Star) = Some unary_op.Deref
-unary_of (kind.Key key.Ref) = Some unary_op.Ref
-unary_of (kind.Key key.Hd) = Some unary_op.Hd
-unary_of (kind.Key key.Tl) = Some unary_op.Tl
-unary_of (kind.Key key.Len) = Some unary_op.Len
-unary_of (kind.Key key.Tagof) = Some unary_op.Tagof
-unary_of (kind.Key key.Byte) = Some unary_op.Byte
-unary_of (kind.Key key.Int) = Some unary_op.Int
-unary_of (kind.Key key.Big) = Some unary_op.Big
-unary_of (kind.Key key.String) = Some unary_op.String
-unary_of _ = None
-
-abbrev pub assign_of : Kind → Option AssignOp
-assign_of (kind.Mark mark.Assign) = Some assign_op.Assign
-assign_of (kind.Mark mark.Define) = Some assign_op.Define
-assign_of (kind.Mark mark.Send) = Some assign_op.Send
-assign_of (kind.Mark mark.AddAssign) = Some assign_op.Add
-assign_of (kind.Mark mark.SubAssign) = Some assign_op.Sub
-assign_of (kind.Mark mark.MulAssign) = Some assign_op.Mul
-assign_of (kind.Mark mark.DivAssign) = Some assign_op.Div
-assign_of (kind.Mark mark.RemAssign) = Some assign_op.Rem
-assign_of (kind.Mark mark.AndAssign) = Some assign_op.And
-assign_of (kind.Mark mark.OrAssign) = Some assign_op.Or
-assign_of (kind.Mark mark.XorAssign) = Some assign_op.Xor
-assign_of (kind.Mark mark.ShlAssign) = Some assign_op.Shl
-assign_of (kind.Mark mark.ShrAssign) = Some assign_op.Shr
-assign_of _ = None
-
--- the operator at the front that has this level or a tighter one
-abbrev pub op_within : ℕ → List Kind → Option (BinaryOp × List Kind)
-op_within k ts = choose (front binary_of ts) None λ o. if nat_le (level o.0) k then Some o else None
-
--- ---- reading by a budget of nesting
+use Rattle.limbo_expr_parts.specs.Strength.{strength}
+use Rattle.limbo_expr_parts.specs.Front.{front}
+use Rattle.limbo_expr_parts.specs.Operators.{unary_of, op_within, after_load, assign_after}
+use Rattle.limbo_expr_parts.specs.Parts.{after_rest, after_comma_inside, comma_and_brace, sized_at, channel_at, leaf_at, part_behind}
 
 -- what reads the parts of a tree: an expression of a level, and any expression
 pub record Readers : Type 0 where
@@ -117,10 +43,6 @@ list_before r m ts = choose (after_mark m ts) (do
   us ← expect_mark m es.1
   Ok (exprs_of es.0, us)) λ us. Ok (NoExprs, us)
 
--- "*" "=>"
-abbrev pub after_rest : List Kind → Option (List Kind)
-after_rest ts = choose (after_mark mark.Star ts) None λ us. after_mark mark.FatArrow us
-
 -- init = expr | (expr | "*") "=>" expr
 unfoldable pub init_at : Readers → Reader Init
 init_at r ts = choose (after_rest ts) (do
@@ -130,18 +52,6 @@ init_at r ts = choose (after_rest ts) (do
     Ok (At i.0 e.0, e.1)) λ us. do
       e ← r.expr us
       Ok (Rest e.0, e.1)
-
--- a comma behind which another item stands: no brace closes them there
-abbrev pub after_comma_inside : List Kind → Option (List Kind)
-after_comma_inside ts = choose (after_mark mark.Comma ts) None λ us. choose (after_mark mark.CloseBrace us) (Some us) λ vs. None
-
--- [","] "}"
-abbrev pub comma_and_brace : Reader Bool
-comma_and_brace ts = choose (after_mark mark.Comma ts) (do
-  us ← expect_mark mark.CloseBrace ts
-  Ok (false, us)) λ us. do
-    vs ← expect_mark mark.CloseBrace us
-    Ok (true, vs)
 
 -- init {"," init}
 unfoldable pub inits_at : Readers → Reader (List Init)
@@ -154,13 +64,6 @@ filled_at r n ts = do
   c ← comma_and_brace is.1
   Ok (Filled n (inits_of is.0) c.0, c.1)
 
--- type, behind "array" "[" expr "]" "of"
-unfoldable pub sized_at : ℕ → Part → Reader Expr
-sized_at b Absent ts = Err (Syntax (length ts))
-sized_at b (Present e) ts = do
-  t ← ty_at b ts
-  Ok (Sized e t.0, t.1)
-
 -- what stands behind "array"
 unfoldable pub array_at : Readers → ℕ → Reader Expr
 array_at r b ts = choose (after_mark mark.OpenBracket ts) (do
@@ -172,13 +75,6 @@ array_at r b ts = choose (after_mark mark.OpenBracket ts) (do
     vs ← expect_key key.Of n.1
     choose (after_mark mark.OpenBrace vs) (sized_at b n.0 vs) λ ws. filled_at r n.0 ws
 
--- what stands behind "chan"
-unfoldable pub channel_at : ℕ → Reader Expr
-channel_at b ts = do
-  us ← expect_key key.Of ts
-  t ← ty_at b us
-  Ok (Channel Absent t.0, t.1)
-
 -- what stands behind "list"
 unfoldable pub listed_at : Readers → Reader Expr
 listed_at r ts = do
@@ -187,18 +83,6 @@ listed_at r ts = do
   es ← list_before r mark.CloseBrace vs
   Ok (Listed es.0, es.1)
 
--- NUM | STR | ID | "nil"
-abbrev pub leaf_of : Kind → Option Expr
-leaf_of (kind.Number v wide) = Some (Number v wide)
-leaf_of (kind.Chars s) = Some (Chars s)
-leaf_of (kind.Name n) = Some (Name n)
-leaf_of (kind.Key key.Nil) = Some Nil
-leaf_of _ = None
-
--- one of these
-unfoldable pub leaf_at : Reader Expr
-leaf_at ts = choose (front leaf_of ts) (Err (Syntax (length ts))) λ e. Ok e
-
 -- primary = NUM | STR | ID | "nil" | "(" expr {"," expr} ")"
 unfoldable pub primary : Readers → Reader Expr
 primary r ts = choose (after_mark mark.OpenParen ts) (leaf_at ts) λ us. do
@@ -206,33 +90,19 @@ primary r ts = choose (after_mark mark.OpenParen ts) (leaf_at ts) λ us. do
   vs ← expect_mark mark.CloseParen es.1
   Ok (Group (exprs_of es.0), vs)
 
+-- what stands behind the ":" of a slice
+abbrev pub slice_at : Readers → Expr → Part → Reader Expr
+slice_at r e i ts = do
+  j ← part_before r mark.CloseBracket ts
+  Ok (Slice e i j.0, j.1)
+
 -- what stands behind the "[" of an index or a slice
 unfoldable pub index_at : Readers → Expr → Reader Expr
 index_at r e ts = choose (after_mark mark.Colon ts) (do
   i ← r.expr ts
   choose (after_mark mark.CloseBracket i.1) (do
     us ← expect_mark mark.Colon i.1
-    j ← part_before r mark.CloseBracket us
-    Ok (Slice e (Present i.0) j.0, j.1)) λ us. Ok (Index e i.0, us)) λ us. do
-      j ← part_before r mark.CloseBracket us
-      Ok (Slice e Absent j.0, j.1)
-
-abbrev pub postfix_of : Kind → Option PostfixOp
-postfix_of (kind.Mark mark.Increment) = Some postfix_op.Increment
-postfix_of (kind.Mark mark.Decrement) = Some postfix_op.Decrement
-postfix_of _ = None
-
--- the name of a part, or a step, behind a postfix
-unfoldable pub part_behind : Expr → Reader Expr
-part_behind e ts = choose (after_mark mark.Dot ts) (choose (after_mark mark.Arrow ts) (choose (front postfix_of ts)
-    (Err (Syntax (length ts)))
-    λ o. Ok (Postfix o.0 e, o.1))
-    λ us. do
-      n ← expect_name us
-      Ok (Arrow e n.0, n.1))
-    λ us. do
-      n ← expect_name us
-      Ok (Dot e n.0, n.1)
+    slice_at r e (Present i.0) us) λ us. Ok (Index e i.0, us)) λ us. slice_at r e Absent us
 
 -- one of those that may stand behind a postfix
 unfoldable pub one_behind : Readers → Expr → Reader Expr
@@ -273,10 +143,6 @@ climb r b k (suc n) l ts = choose (op_within k ts) (Ok (l, ts)) λ o. guard b (n
   x ← r.chain (right_level o.0) o.1
   climb r b k n (Binary o.0 l x.0) x.1)
 
--- "load", where a tree of that level may be a load
-abbrev pub after_load : ℕ → List Kind → Option (List Kind)
-after_load k ts = if nat_lt k 12 then None else after_key key.Load ts
-
 -- load = "load" ID load, behind its keyword
 unfoldable pub load_at : Readers → Reader Expr
 load_at r ts = do
@@ -289,10 +155,6 @@ unfoldable pub chain : Readers → ℕ → ℕ → Reader Expr
 chain r b k ts = choose (after_load k ts) (do
   x ← unary r b ts
   climb r b k (suc b) x.0 x.1) λ us. load_at r us
-
--- an assignment's sign behind a tree, where the tree may be assigned to
-abbrev pub assign_after : Expr → List Kind → Option (AssignOp × List Kind)
-assign_after l ts = if is_unary l then front assign_of ts else None
 
 -- an assignment to the tree, if its sign follows
 unfoldable pub assigned : Readers → ℕ → Expr → Reader Expr

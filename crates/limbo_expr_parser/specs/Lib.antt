@@ -1,4 +1,1 @@
-pub mod Front
-pub mod Strength
-pub mod Types
 pub mod Exprs

@@ -1,6 +1,6 @@
-//! Arrays and channels.
+//! Arrays.
 
-ghost use Rattle.std.specs.Prelude.{◌≡◌, ◌≤◌, ◌<◌, ◌+◌, None, Some, MatchOption, IfOk, map};
+ghost use Rattle.std.specs.Prelude.{◌≡◌, ◌≤◌, ◌<◌, ◌+◌, IfOk, map};
 ghost use Rattle.limbo_tree.specs.Exprs.{nesting, part_nesting, init_nesting, inits_nesting};
 ghost use Rattle.limbo_tree.specs.View.{view_expr, view_init, inits_of};
 ghost use Rattle.limbo_reading.specs.Reading.{kinds, Gives};
@@ -8,13 +8,12 @@ ghost use Rattle.limbo_tree.specs.View.{view_part};
 ghost use Rattle.limbo_expr_parser.specs.Exprs.{readers};
 ghost use Rattle.limbo_expr_parser.specs.Exprs as reading;
 
-use crate::boxes::boxed;
 use crate::expr::{chain_at, expr_in};
 use crate::lists::part_before;
-use crate::types::type_at;
 use inf_text::Span;
+use limbo_expr_parts::{after_comma_inside, after_rest, built, comma_and_brace, sized_at};
 use limbo_lexer::{Key, Mark, Token};
-use limbo_reading::{ReadError, after_mark, expect_key, expect_mark, syntax};
+use limbo_reading::{ReadError, after_mark, expect_key};
 use limbo_tree::{Expr, Init};
 use std::alloc::Global;
 
@@ -36,8 +35,7 @@ pub fn array_at(
         let behind = expect_key(Key::Of, tokens)?;
         let behind = expect_key(Key::Byte, behind)?;
         let (operand, size, rest) = chain_at(alloc, inner, 0, behind)?;
-        let tree = boxed(alloc, Expr::Bytes { operand, span })?;
-        return Ok((tree, 1 + size, rest));
+        return built(alloc, Expr::Bytes { operand, span }, 1 + size, rest);
     };
     let (len, size, rest) = part_before(alloc, inner, Mark::CloseBracket, behind)?;
     let behind = expect_key(Key::Of, rest)?;
@@ -73,57 +71,7 @@ fn filled_at(
         comma,
         span,
     };
-    let tree = boxed(alloc, filled)?;
-    Ok((tree, 1 + size.max(items_size), rest))
-}
-
-// The type of an array's elements.
-#[tactic(auto, using(limbo_tree::proofs::Exprs::the_views), unfolding(crate::specs::Exprs::sized_at))]
-fn sized_at(
-    alloc: Global,
-    inner: u32,
-    len: Option<Box<Expr>>,
-    size: u32,
-    span: Span,
-    tokens: &[Token],
-) -> Result<(Box<Expr>, u32, &[Token]), ReadError>
-    requires small { inner < 999 }
-    requires sized { size ≡ part_nesting (view_part len) }
-    requires fits { size ≤ inner }
-    ensures same { Gives (λ x. (view_expr x.0.value, kinds x.2.now)) result (reading.sized_at inner (view_part len) (kinds tokens.now)) }
-    ensures size { IfOk result (λ x. x.1 ≡ nesting (view_expr x.0.value)) }
-    ensures within { IfOk result (λ x. x.1 ≤ inner + 1) }
-{
-    let Some(len) = len else {
-        return Err(syntax(tokens));
-    };
-    let (element, element_size, rest) = type_at(alloc, inner, tokens)?;
-    let tree = boxed(alloc, Expr::Sized { len, element, span })?;
-    Ok((tree, 1 + size.max(element_size), rest))
-}
-
-/// What stands behind `chan`.
-#[tactic(auto, using(limbo_tree::proofs::Exprs::the_views), unfolding(crate::specs::Exprs::channel_at))]
-pub fn channel_at(
-    alloc: Global,
-    inner: u32,
-    span: Span,
-    tokens: &[Token],
-) -> Result<(Box<Expr>, u32, &[Token]), ReadError>
-    requires { inner < 999 }
-    ensures same { Gives (λ x. (view_expr x.0.value, kinds x.2.now)) result (reading.channel_at inner (kinds tokens.now)) }
-    ensures size { IfOk result (λ x. x.1 ≡ nesting (view_expr x.0.value)) }
-    ensures within { IfOk result (λ x. x.1 ≤ inner + 1) }
-{
-    let behind = expect_key(Key::Of, tokens)?;
-    let (element, size, rest) = type_at(alloc, inner, behind)?;
-    let channel = Expr::Channel {
-        size: None,
-        element,
-        span,
-    };
-    let tree = boxed(alloc, channel)?;
-    Ok((tree, 1 + size, rest))
+    built(alloc, filled, 1 + size.max(items_size), rest)
 }
 
 // init `{"," init}`
@@ -169,37 +117,4 @@ fn init_at(alloc: Global, budget: u32, tokens: &[Token]) -> Result<(Init, u32, &
     };
     let (value, value_size, rest) = expr_in(alloc, budget, behind)?;
     Ok((Init::At { index, value }, index_size.max(value_size), rest))
-}
-
-// What stands behind `* =>`.
-fn after_rest(tokens: &[Token]) -> Option<&[Token]>
-    ensures { MatchOption result (reading.after_rest (kinds tokens.now) ≡ None)
-        (λ rest. reading.after_rest (kinds tokens.now) ≡ Some (kinds rest.now)) }
-{
-    let behind = after_mark(Mark::Star, tokens)?;
-    after_mark(Mark::FatArrow, behind)
-}
-
-// What stands behind a comma, where no brace closes the items there.
-fn after_comma_inside(tokens: &[Token]) -> Option<&[Token]>
-    ensures { MatchOption result (reading.after_comma_inside (kinds tokens.now) ≡ None)
-        (λ rest. reading.after_comma_inside (kinds tokens.now) ≡ Some (kinds rest.now)) }
-{
-    let behind = after_mark(Mark::Comma, tokens)?;
-    match after_mark(Mark::CloseBrace, behind) {
-        Some(_) => None,
-        None => Some(behind),
-    }
-}
-
-// `[","] "}"`: whether the comma stands there.
-fn comma_and_brace(tokens: &[Token]) -> Result<(bool, &[Token]), ReadError>
-    ensures { Gives (λ x. (x.0, kinds x.1.now)) result (reading.comma_and_brace (kinds tokens.now)) }
-{
-    if let Some(behind) = after_mark(Mark::Comma, tokens) {
-        let rest = expect_mark(Mark::CloseBrace, behind)?;
-        return Ok((true, rest));
-    }
-    let rest = expect_mark(Mark::CloseBrace, tokens)?;
-    Ok((false, rest))
 }

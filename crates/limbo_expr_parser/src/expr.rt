@@ -1,21 +1,22 @@
 //! Expressions, read by recursive descent, and their operators by climbing.
 
-ghost use Rattle.std.specs.Prelude.{◌≡◌, ◌≤◌, ◌<◌, ◌+◌, None, Some, MatchOption, IfOk, length};
-ghost use Rattle.limbo_tree.specs.Exprs.{nesting, is_unary};
+ghost use Rattle.std.specs.Prelude.{◌≡◌, ◌≤◌, ◌<◌, ◌+◌, IfOk, length};
+ghost use Rattle.limbo_tree.specs.Exprs.{nesting};
 ghost use Rattle.limbo_tree.specs.View.{view_expr};
 ghost use Rattle.limbo_reading.specs.Reading.{kinds, Gives};
 ghost use Rattle.limbo_expr_parser.specs.Exprs.{readers};
 ghost use Rattle.limbo_expr_parser.specs.Exprs as reading;
 
-use crate::arrays::{array_at, channel_at};
-use crate::boxes::boxed;
+use crate::arrays::array_at;
 use crate::lists::listed_at;
-use crate::operators::{assign_at_front, op_within, right_level, unary_at_front};
 use crate::postfix::postfixed_at;
 use inf_text::Span;
+use limbo_expr_parts::{
+    after_load, assign_after, boxed, built, channel_at, op_within, right_level, unary_at_front,
+};
 use limbo_lexer::{Key, Token};
 use limbo_reading::{ReadError, after_key, expect_name, place, too_deep};
-use limbo_tree::{AssignOp, Expr};
+use limbo_tree::Expr;
 use std::alloc::Global;
 
 /// An expression of nesting up to the budget, its nesting, and what stands behind it.
@@ -56,29 +57,6 @@ pub fn unary_at(
     chain_at(alloc, budget, 0, tokens)
 }
 
-// An assignment's sign behind the tree, if it may be assigned to, and what follows the sign.
-fn assign_after<'a>(tree: &Expr, tokens: &'a [Token]) -> Option<(AssignOp, &'a [Token])>
-    ensures { MatchOption result (reading.assign_after (view_expr tree.now) (kinds tokens.now) ≡ None)
-        (λ x. reading.assign_after (view_expr tree.now) (kinds tokens.now) ≡ Some (x.0, kinds x.1.now)) }
-{
-    if is_unary(tree) {
-        assign_at_front(tokens)
-    } else {
-        None
-    }
-}
-
-// Whether the tree is a unary.
-#[tactic(auto, using(limbo_tree::proofs::Exprs::the_views))]
-fn is_unary(tree: &Expr) -> bool
-    ensures { result ≡ is_unary (view_expr tree.now) }
-{
-    match tree {
-        Expr::Assign { .. } | Expr::Load { .. } | Expr::Binary { .. } => false,
-        _ => true,
-    }
-}
-
 /// An expression of nesting up to the budget, its nesting, and what stands behind it.
 #[tactic(auto, using(limbo_tree::proofs::Exprs::the_views, crate::proofs::ExprSteps::the_budget), unfolding(crate::specs::Exprs::expr, crate::specs::Exprs::assigned))]
 #[cycle(exprs)]
@@ -105,16 +83,13 @@ pub fn expr_in(
     }
     let (right, right_size, rest) = expr_in(alloc, inner, behind)?;
     let span = place(tokens);
-    let tree = boxed(
-        alloc,
-        Expr::Assign {
-            op,
-            left,
-            right,
-            span,
-        },
-    )?;
-    Ok((tree, 1 + size.max(right_size), rest))
+    let tree = Expr::Assign {
+        op,
+        left,
+        right,
+        span,
+    };
+    built(alloc, tree, 1 + size.max(right_size), rest)
 }
 
 /// A tree of a level, of nesting up to the budget.
@@ -177,18 +152,6 @@ fn chain_above(
     Ok((left, size, rest))
 }
 
-// What stands behind `load`, where a tree of the level may be a load.
-fn after_load(level: u32, tokens: &[Token]) -> Option<&[Token]>
-    ensures { MatchOption result (reading.after_load level (kinds tokens.now) ≡ None)
-        (λ rest. reading.after_load level (kinds tokens.now) ≡ Some (kinds rest.now)) }
-{
-    if level < 12 {
-        None
-    } else {
-        after_key(Key::Load, tokens)
-    }
-}
-
 // A load, behind its keyword.
 #[tactic(auto, using(limbo_tree::proofs::Exprs::the_views), unfolding(crate::specs::Exprs::load_at))]
 #[cycle(exprs)]
@@ -205,8 +168,7 @@ fn load_at(
 {
     let (module, behind) = expect_name(tokens)?;
     let (path, size, rest) = chain_at(alloc, inner, 12, behind)?;
-    let tree = boxed(alloc, Expr::Load { module, path, span })?;
-    Ok((tree, 1 + size, rest))
+    built(alloc, Expr::Load { module, path, span }, 1 + size, rest)
 }
 
 // A unary, whose parts nest up to the budget.
@@ -225,8 +187,7 @@ fn unary_above(
     let span = place(tokens);
     if let Some((op, behind)) = unary_at_front(tokens) {
         let (operand, size, rest) = chain_at(alloc, inner, 0, behind)?;
-        let tree = boxed(alloc, Expr::Unary { op, operand, span })?;
-        return Ok((tree, 1 + size, rest));
+        return built(alloc, Expr::Unary { op, operand, span }, 1 + size, rest);
     }
     if let Some(behind) = after_key(Key::Array, tokens) {
         return array_at(alloc, inner, span, behind);

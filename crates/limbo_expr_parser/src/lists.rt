@@ -8,9 +8,9 @@ ghost use Rattle.limbo_tree.specs.View.{view_part};
 ghost use Rattle.limbo_expr_parser.specs.Exprs.{readers};
 ghost use Rattle.limbo_expr_parser.specs.Exprs as reading;
 
-use crate::boxes::{boxed, push_expr};
 use crate::expr::expr_in;
 use inf_text::Span;
+use limbo_expr_parts::{built, push_expr};
 use limbo_lexer::{Key, Mark, Token};
 use limbo_reading::{ReadError, after_mark, expect_key, expect_mark};
 use limbo_tree::Expr;
@@ -101,6 +101,5 @@ pub fn listed_at(
     let behind = expect_key(Key::Of, tokens)?;
     let behind = expect_mark(Mark::OpenBrace, behind)?;
     let (items, size, rest) = list_before(alloc, inner, Mark::CloseBrace, behind)?;
-    let tree = boxed(alloc, Expr::Listed { items, span })?;
-    Ok((tree, 1 + size, rest))
+    built(alloc, Expr::Listed { items, span }, 1 + size, rest)
 }

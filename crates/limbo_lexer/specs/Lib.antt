@@ -4,3 +4,4 @@ pub mod Constants
 pub mod Tokens
 pub mod Pieces
 pub mod Causes
+pub mod Refusals

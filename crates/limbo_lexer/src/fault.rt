@@ -1,4 +1,5 @@
 ghost use Rattle.std.specs.Prelude.{◌≡◌};
+ghost use Rattle.limbo_lexer.specs.Refusals.{number_of};
 
 use inf_text::{Span, TextFault};
 use std::alloc::{AllocError, AllocFailed};
@@ -20,6 +21,23 @@ pub enum LexFault {
     Unclosed(Span),
     /// Refusal 24: the source has more than 1,048,576 bytes.
     SourceTooLong,
+}
+
+impl LexFault {
+    /// The number under which it is told; 0 for want of memory, which is no refusal.
+    pub fn number(self) -> u32
+        ensures { result ≡ number_of self }
+    {
+        match self {
+            LexFault::NoMemory => 0,
+            LexFault::BadUtf8 { .. } => 1,
+            LexFault::BadChar(_) => 20,
+            LexFault::BadEscape(_) => 21,
+            LexFault::NumberTooWide(_) => 22,
+            LexFault::Unclosed(_) => 23,
+            LexFault::SourceTooLong => 24,
+        }
+    }
 }
 
 impl From<TextFault> for LexFault {

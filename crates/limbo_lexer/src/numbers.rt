@@ -4,7 +4,7 @@ ghost use Rattle.std.specs.Prelude.{◌≡◌, ◌≤◌, ◌<◌, ◌^◌, ◌�
 ghost use Rattle.std.specs.Prelude.{IfOk, IfErr, MatchOption};
 ghost use Rattle.std.specs.List.{prefix_len};
 ghost use Rattle.std.specs.Char.{digit_value, is_digit};
-ghost use Rattle.limbo_lexer.specs.Numbers.{begins, begins_fraction, decimal_kind, digits_value};
+ghost use Rattle.limbo_lexer.specs.Numbers.{begins, begins_fraction, decimal_kind, digits_value, is_radix};
 ghost use Rattle.limbo_lexer.specs.Numbers.{is_decimal_value};
 ghost use Rattle.limbo_lexer.specs.Numbers.{is_radix_value, radix_kind};
 ghost use Rattle.limbo_lexer.specs.Causes.{IsCauseAt};
@@ -54,16 +54,30 @@ fn begins_fraction(text: &[char]) -> bool
     text.len() >= 2 && text[0] == '.' && digit_value(text[1]) < 10
 }
 
+/// The radix that decimal digits are, from 2 to 36.
+fn radix_value(digits: &[char]) -> Option<u32>
+    ensures { SomeIff result (is_radix digits.now ≡ true) (digits_value 10 digits.now) }
+{
+    let radix = u32::try_from(digits_value(10, digits)?).ok()?;
+    if radix < 2 || radix > 36 {
+        return None;
+    }
+    Some(radix)
+}
+
 /// The radix that decimal digits are, if a number with a radix goes on behind them.
 fn radix_of(digits: &[char], behind: &[char]) -> Option<u32>
     ensures { MatchOption result (goes_on digits.now behind.now ≡ false)
         (λ radix. (goes_on digits.now behind.now ≡ true) × (radix ≡ digits_value 10 digits.now)) }
 {
-    if behind.len() < 2 || (behind[0] != 'r' && behind[0] != 'R') {
+    let [sign, first, ..] = behind else {
+        return None;
+    };
+    if *sign != 'r' && *sign != 'R' {
         return None;
     }
-    let radix = u32::try_from(digits_value(10, digits)?).ok()?;
-    if radix < 2 || radix > 36 || digit_value(behind[1]) >= radix {
+    let radix = radix_value(digits)?;
+    if digit_value(*first) >= radix {
         return None;
     }
     Some(radix)

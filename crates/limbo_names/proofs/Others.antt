@@ -1,5 +1,5 @@
 -- What the tests of the part, and what is looked for in trees, come to where a tree is of no form that they name.
-use Rattle.std.proofs.Common.{◌≡◌, ℤ, Bool, false, Option, None, Vec, Box, Global, refl}
+use Rattle.std.proofs.Common.{◌≡◌, ℕ, ℤ, Bool, true, false, List, [], Option, None, Ok, Vec, Box, Global, refl}
 use Rattle.inf_text.specs.declared.span.Span.{Span}
 use Rattle.inf_text.specs.declared.text.Text.{Text}
 use Rattle.limbo_tree.specs.declared.name.Name as code_name
@@ -11,15 +11,19 @@ use Rattle.limbo_tree.specs.declared.operators.BinaryOp.{BinaryOp}
 use Rattle.limbo_tree.specs.declared.expr.Expr as code_expr
 use Rattle.limbo_tree.specs.declared.expr.Expr.TheVariants as make
 use Rattle.limbo_tree.specs.declared.decl.Decl as code_decl
+use Rattle.limbo_tree.specs.declared.decl.Decl.TheVariants as make_decl
+use Rattle.limbo_tree.specs.declared.decl.Member as code_member
 use Rattle.limbo_tree.specs.declared.stmt.Stmt as code_stmt
 use Rattle.limbo_tree.specs.declared.stmt.Stmt.TheVariants as make_stmt
 use Rattle.limbo_tree.specs.declared.stmt.Block as code_block
 use Rattle.limbo_tree.specs.Types as types
 use Rattle.limbo_tree.specs.Exprs as tree
 use Rattle.limbo_tree.specs.Stmts as stmts
-use Rattle.limbo_tree.specs.View.{view_type, view_expr, view_stmt}
+use Rattle.limbo_tree.specs.Sources.{Declared}
+use Rattle.limbo_tree.specs.View.{view_type, view_expr, view_decl, view_stmt}
 use Rattle.limbo_tree.proofs.Others as others
 use Rattle.limbo_names.specs.Part as part
+use Rattle.limbo_names.specs.Declaring as declaring
 
 -- ---- types
 
@@ -134,6 +138,47 @@ no_literal e never = other (view_expr e) (others.no_expr-Chars e never)
     other : (e : tree.Expr) → others.is_chars e ≡ false → part.is_expr e ≡ part.is_format e
     other (tree.Chars t) h = absurd cc
     other _ h = refl
+
+-- ---- declarations
+
+pub no_functions : (d : code_decl.Decl) → ((n : code_name.Name) (ms : Vec code_member.Member Global) (s : Span) → d ≡ make_decl.Module n ms s → ⊥) → declaring.functions_of_decl (view_decl d) ≡ []
+no_functions (make_decl.Module n ms s) never = absurd (never n ms s refl)
+no_functions _ never = refl
+
+pub no_names : (d : code_decl.Decl) → ((ns : Vec code_name.Name Global) (t : Box code_type.TypeTree Global) (v : Option (Box code_expr.Expr Global)) (s : Span) → d ≡ make_decl.Var ns t v s → ⊥) → ((n : code_name.Name) (ms : Vec code_member.Member Global) (s : Span) → d ≡ make_decl.Module n ms s → ⊥) → declaring.names_of_decl (view_decl d) ≡ []
+no_names (make_decl.Var ns t v s) never0 never1 = absurd (never0 ns t v s refl)
+no_names (make_decl.Module n ms s) never0 never1 = absurd (never1 n ms s refl)
+no_names _ never0 never1 = refl
+
+pub no_variables : (d : code_decl.Decl) → ((ns : Vec code_name.Name Global) (t : Box code_type.TypeTree Global) (v : Option (Box code_expr.Expr Global)) (s : Span) → d ≡ make_decl.Var ns t v s → ⊥) → declaring.variables_of_decl (view_decl d) ≡ []
+no_variables (make_decl.Var ns t v s) never = absurd (never ns t v s refl)
+no_variables _ never = refl
+
+pub no_module : (owner : List ℕ) (d : code_decl.Decl) → ((n : code_name.Name) (ms : Vec code_member.Member Global) (s : Span) → d ≡ make_decl.Module n ms s → ⊥) → false ≡ declaring.is_module_decl owner (view_decl d)
+no_module owner (make_decl.Module n ms s) never = absurd (never n ms s refl)
+no_module owner _ never = refl
+
+pub no_sys_variable : (sys : Bool) (d : code_decl.Decl) → ((ns : Vec code_name.Name Global) (t : Box code_type.TypeTree Global) (v : Option (Box code_expr.Expr Global)) (s : Span) → d ≡ make_decl.Var ns t v s → ⊥) → true ≡ declaring.is_sys_decl sys (view_decl d)
+no_sys_variable sys (make_decl.Var ns t v s) never = absurd (never ns t v s refl)
+no_sys_variable sys _ never = refl
+
+pub no_signatures : (draw : Bool) (d : code_decl.Decl) → ((n : code_name.Name) (ms : Vec code_member.Member Global) (s : Span) → d ≡ make_decl.Module n ms s → ⊥) → declaring.decl_signatures draw (view_decl d) ≡ Ok []
+no_signatures draw (make_decl.Module n ms s) never = absurd (never n ms s refl)
+no_signatures draw _ never = refl
+
+pub no_local : (d : code_decl.Decl) → ((ns : Vec code_name.Name Global) (t : Box code_type.TypeTree Global) (v : Option (Box code_expr.Expr Global)) (s : Span) → d ≡ make_decl.Var ns t v s → ⊥) → ((ns : Vec code_name.Name Global) (e : Box code_expr.Expr Global) (s : Span) → d ≡ make_decl.Define ns e s → ⊥) → false ≡ part.is_local (view_decl d)
+no_local (make_decl.Var ns t v s) never0 never1 = absurd (never0 ns t v s refl)
+no_local (make_decl.Define ns e s) never0 never1 = absurd (never1 ns e s refl)
+no_local _ never0 never1 = refl
+
+pub no_top_decl : (owner : List ℕ) (d : code_decl.Decl) → ((ns : Vec code_name.Name Global) (t : Box code_type.TypeTree Global) (v : Option (Box code_expr.Expr Global)) (s : Span) → d ≡ make_decl.Var ns t v s → ⊥) → ((n : code_name.Name) (ms : Vec code_member.Member Global) (s : Span) → d ≡ make_decl.Module n ms s → ⊥) → false ≡ part.is_top_decl owner (view_decl d)
+no_top_decl owner (make_decl.Var ns t v s) never0 never1 = absurd (never0 ns t v s refl)
+no_top_decl owner (make_decl.Module n ms s) never0 never1 = absurd (never1 n ms s refl)
+no_top_decl owner _ never0 never1 = refl
+
+pub no_variable : (d : code_decl.Decl) → ((ns : Vec code_name.Name Global) (t : Box code_type.TypeTree Global) (v : Option (Box code_expr.Expr Global)) (s : Span) → d ≡ make_decl.Var ns t v s → ⊥) → false ≡ part.is_variable (Declared (view_decl d))
+no_variable (make_decl.Var ns t v s) never = absurd (never ns t v s refl)
+no_variable _ never = refl
 
 -- ---- statements
 

@@ -72,7 +72,7 @@ fn push_members(all: &mut Vec<Name>, members: &[Member]) -> Result<(), AllocErro
 }
 
 // Adds the functions that a module declares.
-#[tactic(auto, using(crate::proofs::Texts::append_none), unfolding(limbo_tree::specs::View::view_members))]
+#[tactic(auto, using(crate::proofs::Texts::append_none, crate::proofs::Others::no_functions), unfolding(limbo_tree::specs::View::view_members))]
 fn push_functions(all: &mut Vec<Name>, top: &Top) -> Result<(), AllocError>
     ensures { IfOk result (λ _. names_of all.new.items ≡ names_of all.old.items ++ declaring.functions_of_top (view_top top.now)) }
 {
@@ -81,13 +81,7 @@ fn push_functions(all: &mut Vec<Name>, top: &Top) -> Result<(), AllocError>
         Top::Define { .. } => Ok(()),
         Top::Declare { decl } => match &**decl {
             Decl::Module { members, .. } => push_members(all, members),
-            Decl::Con { .. } => Ok(()),
-            Decl::Type { .. } => Ok(()),
-            Decl::Var { .. } => Ok(()),
-            Decl::Define { .. } => Ok(()),
-            Decl::Import { .. } => Ok(()),
-            Decl::Exception { .. } => Ok(()),
-            Decl::Adt { .. } => Ok(()),
+            _ => Ok(()),
         },
     }
 }
@@ -136,7 +130,7 @@ fn push_included(
 }
 
 // Adds what a declaration declares at the top level.
-#[tactic(auto, using(crate::proofs::Texts::append_none), unfolding(limbo_tree::specs::View::view_members))]
+#[tactic(auto, using(crate::proofs::Texts::append_none, crate::proofs::Others::no_names), unfolding(limbo_tree::specs::View::view_members))]
 fn push_decl(all: &mut Vec<Name>, d: &Decl) -> Result<(), AllocError>
     ensures { IfOk result (λ _. names_of all.new.items ≡ names_of all.old.items ++ declaring.names_of_decl (trees.view_decl d.now)) }
 {
@@ -146,12 +140,7 @@ fn push_decl(all: &mut Vec<Name>, d: &Decl) -> Result<(), AllocError>
             push_name(all, &name.text, name.span)?;
             push_members(all, members)
         }
-        Decl::Con { .. } => Ok(()),
-        Decl::Type { .. } => Ok(()),
-        Decl::Define { .. } => Ok(()),
-        Decl::Import { .. } => Ok(()),
-        Decl::Exception { .. } => Ok(()),
-        Decl::Adt { .. } => Ok(()),
+        _ => Ok(()),
     }
 }
 
@@ -222,7 +211,7 @@ fn push_texts(all: &mut Vec<Text>, more: &[Name]) -> Result<(), AllocError>
 }
 
 // Adds the variables that are declared there.
-#[tactic(auto, using(crate::proofs::Texts::append_none))]
+#[tactic(auto, using(crate::proofs::Texts::append_none, crate::proofs::Others::no_variables))]
 fn push_variables(all: &mut Vec<Text>, top: &Top) -> Result<(), AllocError>
     ensures { IfOk result (λ _. all.new.items ≡ all.old.items ++ declaring.variables_of_top (view_top top.now)) }
 {
@@ -231,13 +220,7 @@ fn push_variables(all: &mut Vec<Text>, top: &Top) -> Result<(), AllocError>
         Top::Define { .. } => Ok(()),
         Top::Declare { decl } => match &**decl {
             Decl::Var { names, .. } => push_texts(all, names),
-            Decl::Con { .. } => Ok(()),
-            Decl::Type { .. } => Ok(()),
-            Decl::Module { .. } => Ok(()),
-            Decl::Define { .. } => Ok(()),
-            Decl::Import { .. } => Ok(()),
-            Decl::Exception { .. } => Ok(()),
-            Decl::Adt { .. } => Ok(()),
+            _ => Ok(()),
         },
     }
 }
@@ -254,6 +237,7 @@ fn variable_names(alloc: Global, tops: &[Top]) -> Result<Vec<Text>, AllocError>
 }
 
 // Whether a module of this name is declared there.
+#[tactic(auto, using(crate::proofs::Others::no_module))]
 fn is_module_top(owner: &Text, top: &Top) -> bool
     ensures { result ≡ declaring.is_module_top owner.now (view_top top.now) }
 {
@@ -262,13 +246,7 @@ fn is_module_top(owner: &Text, top: &Top) -> bool
         Top::Define { .. } => false,
         Top::Declare { decl } => match &**decl {
             Decl::Module { name, .. } => same_text(&name.text, owner),
-            Decl::Con { .. } => false,
-            Decl::Type { .. } => false,
-            Decl::Var { .. } => false,
-            Decl::Define { .. } => false,
-            Decl::Import { .. } => false,
-            Decl::Exception { .. } => false,
-            Decl::Adt { .. } => false,
+            _ => false,
         },
     }
 }
@@ -309,6 +287,7 @@ fn includes(path: &str, tops: &[Top]) -> bool
 }
 
 // Whether what is declared there has the type Sys, if it is a variable.
+#[tactic(auto, using(crate::proofs::Others::no_sys_variable))]
 fn is_sys_top(sys: bool, top: &Top) -> bool
     ensures { result ≡ declaring.is_sys_top sys (view_top top.now) }
 {
@@ -317,13 +296,7 @@ fn is_sys_top(sys: bool, top: &Top) -> bool
         Top::Define { .. } => true,
         Top::Declare { decl } => match &**decl {
             Decl::Var { of, .. } => sys && is_sys(of),
-            Decl::Con { .. } => true,
-            Decl::Type { .. } => true,
-            Decl::Module { .. } => true,
-            Decl::Define { .. } => true,
-            Decl::Import { .. } => true,
-            Decl::Exception { .. } => true,
-            Decl::Adt { .. } => true,
+            _ => true,
         },
     }
 }
@@ -498,7 +471,7 @@ fn members_of(alloc: Global, draw: bool, members: &[Member]) -> Result<Vec<Signa
 }
 
 // The functions that a module declares.
-#[tactic(auto, unfolding(limbo_tree::specs::View::view_members))]
+#[tactic(auto, using(crate::proofs::Others::no_signatures), unfolding(limbo_tree::specs::View::view_members))]
 fn declared_by(alloc: Global, draw: bool, top: &Top) -> Result<Vec<Signature>, CheckFault>
     ensures { Gives (λ fs. map view_signature fs.items) result (declaring.declared_by draw (view_top top.now)) }
 {
@@ -507,13 +480,7 @@ fn declared_by(alloc: Global, draw: bool, top: &Top) -> Result<Vec<Signature>, C
         Top::Define { .. } => Ok(Vec::new(alloc)),
         Top::Declare { decl } => match &**decl {
             Decl::Module { members, .. } => members_of(alloc, draw, members),
-            Decl::Con { .. } => Ok(Vec::new(alloc)),
-            Decl::Type { .. } => Ok(Vec::new(alloc)),
-            Decl::Var { .. } => Ok(Vec::new(alloc)),
-            Decl::Define { .. } => Ok(Vec::new(alloc)),
-            Decl::Import { .. } => Ok(Vec::new(alloc)),
-            Decl::Exception { .. } => Ok(Vec::new(alloc)),
-            Decl::Adt { .. } => Ok(Vec::new(alloc)),
+            _ => Ok(Vec::new(alloc)),
         },
     }
 }

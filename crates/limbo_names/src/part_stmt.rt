@@ -84,6 +84,7 @@ pub fn is_single(all: &[Name]) -> bool
 }
 
 // Whether a declaration is one of variables of type int.
+#[tactic(auto, using(crate::proofs::Others::no_local))]
 fn is_local(d: &Decl) -> bool
     ensures { result ≡ part.is_local (view_decl d.now) }
 {
@@ -98,12 +99,7 @@ fn is_local(d: &Decl) -> bool
             Some(value) => is_int(of) && is_single(names) && is_expr(value),
         },
         Decl::Define { names, value, .. } => is_single(names) && is_expr(value),
-        Decl::Con { .. }
-        | Decl::Type { .. }
-        | Decl::Import { .. }
-        | Decl::Exception { .. }
-        | Decl::Module { .. }
-        | Decl::Adt { .. } => false,
+        _ => false,
     }
 }
 

@@ -102,7 +102,7 @@ fn are_members(members: &[Member]) -> bool
 }
 
 // Whether a declaration is in the part.
-#[tactic(auto, unfolding(limbo_tree::specs::View::view_members))]
+#[tactic(auto, using(crate::proofs::Others::no_top_decl), unfolding(limbo_tree::specs::View::view_members))]
 fn is_top_decl(owner: &Text, d: &Decl) -> bool
     ensures { result ≡ part.is_top_decl owner.now (view_decl d.now) }
 {
@@ -114,12 +114,7 @@ fn is_top_decl(owner: &Text, d: &Decl) -> bool
             ..
         } => is_single(names) && is_sys(of) && value.is_none(),
         Decl::Module { name, members, .. } => same_text(&name.text, owner) && are_members(members),
-        Decl::Con { .. }
-        | Decl::Type { .. }
-        | Decl::Define { .. }
-        | Decl::Import { .. }
-        | Decl::Exception { .. }
-        | Decl::Adt { .. } => false,
+        _ => false,
     }
 }
 
@@ -168,6 +163,7 @@ fn are_tops(owner: &Text, tops: &[Top]) -> bool
 }
 
 // Whether a variable is declared there.
+#[tactic(auto, using(crate::proofs::Others::no_variable))]
 fn is_variable(top: &Top) -> bool
     ensures { result ≡ part.is_variable (view_top top.now) }
 {
@@ -176,13 +172,7 @@ fn is_variable(top: &Top) -> bool
         Top::Define { .. } => false,
         Top::Declare { decl } => match &**decl {
             Decl::Var { .. } => true,
-            Decl::Con { .. }
-            | Decl::Type { .. }
-            | Decl::Define { .. }
-            | Decl::Import { .. }
-            | Decl::Exception { .. }
-            | Decl::Module { .. }
-            | Decl::Adt { .. } => false,
+            _ => false,
         },
     }
 }

@@ -18,9 +18,9 @@ use Rattle.limbo_tree.specs.Exprs.{Expr, Assign, Load, Binary, Unary, Bytes, Fil
 use Rattle.limbo_tree.specs.Decls.{Decl, Con, TypeName, Var, Define, Import, Exception, Module, Adt, spell_decl, IsDecl}
 use Rattle.limbo_tree.specs.Stmts.{is_name, is_declaration}
 use Rattle.limbo_reading.specs.Reading.{choose, after_mark, after_key}
-use Rattle.limbo_parser.specs.Start.{AtDeclare, AtOther, AtLabelled, start, may_head, at_branch, at_label, declares}
-use Rattle.limbo_parser.specs.Heads.{arrow_or, star_alone}
-use Rattle.limbo_expr_parser.specs.Strength.{begins_expr}
+use Rattle.limbo_stmt_parts.specs.Start.{AtDeclare, AtOther, AtLabelled, start, may_head, at_branch, at_label, declares}
+use Rattle.limbo_stmt_parts.specs.Heads.{arrow_or, star_alone}
+use Rattle.limbo_expr_parts.specs.Strength.{begins_expr}
 use Rattle.limbo_expr_parser.proofs.Laws.{spell_begins}
 
 pub nesting_pos : (e : Expr) → 1 ≤ nesting e

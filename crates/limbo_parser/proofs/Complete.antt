@@ -13,16 +13,17 @@ use Rattle.limbo_tree.specs.View.{Arm}
 use Rattle.limbo_reading.specs.Reading.{Reader, after_mark, after_key}
 use Rattle.limbo_reading.proofs.Steps.{kept_shorter}
 use Rattle.limbo_reading.proofs.Lists.{spell_all, Each, until_again}
-use Rattle.limbo_expr_parser.specs.Strength.{strength_of}
-use Rattle.limbo_parser.specs.declared.start.Branch.TheVariants as branch
-use Rattle.limbo_parser.specs.declared.start.Choice.TheVariants as choice
-use Rattle.limbo_parser.specs.declared.start.Loop.TheVariants as loop
-use Rattle.limbo_parser.specs.declared.start.Region.{Region}
-use Rattle.limbo_parser.specs.declared.start.Region.TheVariants as region
-use Rattle.limbo_parser.specs.Start.{start, may_head}
-use Rattle.limbo_parser.specs.Heads.{front_at, is_read, ends, closing}
-use Rattle.limbo_parser.specs.Stmts.{label_at, option_before, expr_before, for_head_at, stmts_at, arm_at, arms_at, block_above, if_above, branch_above, spawned_at, jump_above, stmt_at, block_at}
-use Rattle.limbo_expr_parser.specs.Strength.{begins_expr}
+use Rattle.limbo_expr_parts.specs.Strength.{strength_of}
+use Rattle.limbo_stmt_parts.specs.declared.start.Branch.TheVariants as branch
+use Rattle.limbo_stmt_parts.specs.declared.start.Choice.TheVariants as choice
+use Rattle.limbo_stmt_parts.specs.declared.start.Loop.TheVariants as loop
+use Rattle.limbo_stmt_parts.specs.declared.start.Region.{Region}
+use Rattle.limbo_stmt_parts.specs.declared.start.Region.TheVariants as region
+use Rattle.limbo_stmt_parts.specs.Start.{start, may_head}
+use Rattle.limbo_stmt_parts.specs.Heads.{front_at, is_read, ends, closing}
+use Rattle.limbo_stmt_parts.specs.Jumps.{label_at, option_before, expr_before, for_head_at, spawned_at, jump_above}
+use Rattle.limbo_parser.specs.Stmts.{stmts_at, arm_at, arms_at, block_above, if_above, branch_above, stmt_at, block_at}
+use Rattle.limbo_expr_parts.specs.Strength.{begins_expr}
 use Rattle.limbo_expr_parser.proofs.Laws.{spell_begins, expr_again, unary_again}
 use Rattle.limbo_decl_parser.proofs.Laws.{decl_again}
 use Rattle.limbo_parser.proofs.Keep.{Kept, front_keeps, stmt_keeps}

@@ -1,34 +1,19 @@
 -- What the loops and the calls of the code need of readers: an item takes a token, and faults pass on.
-use Rattle.std.proofs.Common.{◌≡◌, ℕ, suc, ◌<◌, Bool, true, false, List, [], ◌∷◌, ◌++◌, map, length, Some, None, Result, Ok, refl, sym, ap, ◌∙◌, arith}
+use Rattle.std.proofs.Common.{◌≡◌, ℕ, suc, ◌<◌, true, false, List, [], ◌∷◌, ◌++◌, map, length, Some, None, Ok, refl, sym, ap, ◌∙◌, arith}
 use Rattle.limbo_lexer.specs.declared.token.Kind.{Kind}
 use Rattle.limbo_lexer.specs.declared.token.Mark.TheVariants as mark
 use Rattle.limbo_tree.specs.declared.stmt.Stmt as code_stmt
-use Rattle.limbo_tree.specs.Stmts.{Head, Pattern, HandlerPattern, Stmt}
+use Rattle.limbo_tree.specs.Stmts.{Head, Stmt}
 use Rattle.limbo_tree.specs.View.{Arm, stmts_of, view_stmt}
-use Rattle.limbo_reading.specs.declared.fault.Fault.{Fault}
-use Rattle.limbo_reading.specs.declared.fault.Fault.TheVariants.{Syntax, TooDeep}
 use Rattle.limbo_reading.specs.declared.fault.ReadError.{ReadError}
-use Rattle.limbo_reading.specs.declared.fault.ReadError.TheVariants as errors
-use Rattle.limbo_reading.specs.Reading.{after_mark, Fails, Gives}
+use Rattle.limbo_reading.specs.Reading.{after_mark, Fails}
 use Rattle.limbo_reading.specs.Lists.{until}
 use Rattle.limbo_reading.proofs.Loops.{Going, until_start, going_more, going_end, going_fails, going_test_fails}
 use Rattle.limbo_reading.proofs.Steps.{kept_shorter, fails_bind}
-use Rattle.limbo_parser.specs.declared.start.Region.{Region}
-use Rattle.limbo_parser.specs.Heads.{case_pattern_at, handler_pattern_at, front_at, is_read, no_head, closing, ends}
+use Rattle.limbo_stmt_parts.specs.declared.start.Region.{Region}
+use Rattle.limbo_stmt_parts.specs.Heads.{front_at, closing, ends}
 use Rattle.limbo_parser.specs.Stmts.{stmt_at, stmts_at, arm_at, arms_at}
-use Rattle.limbo_parser.proofs.Keep.{pattern_keeps, handler_pattern_keeps, stmt_kept, arm_kept}
-
-pub pattern_shorter : (b : ℕ) (ts : List Kind) (p : Pattern) (us : List Kind) → case_pattern_at b ts ≡ Ok (p, us) → length us < length ts
-pattern_shorter b ts p us e = omega (arith, kept_shorter b 1 (length ts) (case_pattern_at b ts) p us (pattern_keeps b ts) e)
-
-pub handler_pattern_shorter : (ts : List Kind) (p : HandlerPattern) (us : List Kind) → handler_pattern_at ts ≡ Ok (p, us) → length us < length ts
-handler_pattern_shorter ts p us e = omega (arith, kept_shorter 0 1 (length ts) (handler_pattern_at ts) p us (handler_pattern_keeps 0 ts) e)
-
--- what a head that isn't read tells
-pub headless : (e : ReadError) (r : Result (Head × List Kind) Fault) → Fails e r → Gives (λ (x : Bool). x) (no_head e) (is_read r)
-headless errors.NoMemory r f = tt
-headless (errors.Fault (Syntax n)) r f = rw f refl
-headless (errors.Fault (TooDeep n)) r f = rw f refl
+use Rattle.limbo_parser.proofs.Keep.{stmt_kept, arm_kept}
 
 -- ---- {stmt} of a region
 

@@ -13,13 +13,13 @@ use Rattle.limbo_reading.specs.Reading.{Reader, after_mark, after_key, expect_na
 use Rattle.limbo_reading.specs.Lists.{others, items}
 use Rattle.limbo_reading.proofs.Steps.{kept_shorter}
 use Rattle.limbo_reading.proofs.Lists.{spell_others, Each, others_again, items_again}
-use Rattle.limbo_expr_parser.specs.Strength.{strength, Stops}
-use Rattle.limbo_parser.specs.declared.start.Region.{Region}
-use Rattle.limbo_parser.specs.declared.start.Region.TheVariants as region
-use Rattle.limbo_parser.specs.Heads.{arrow_or, case_pattern_at, handler_pattern_at, head_at, front_at, is_read}
-use Rattle.limbo_expr_parser.specs.Strength.{begins_expr}
+use Rattle.limbo_expr_parts.specs.Strength.{strength, Stops}
+use Rattle.limbo_stmt_parts.specs.declared.start.Region.{Region}
+use Rattle.limbo_stmt_parts.specs.declared.start.Region.TheVariants as region
+use Rattle.limbo_stmt_parts.specs.Heads.{arrow_or, case_pattern_at, handler_pattern_at, head_at, front_at, is_read}
+use Rattle.limbo_expr_parts.specs.Strength.{begins_expr}
 use Rattle.limbo_expr_parser.proofs.Laws.{spell_begins, expr_again}
-use Rattle.limbo_parser.proofs.Keep.{pattern_keeps}
+use Rattle.limbo_stmt_parts.proofs.Patterns.{pattern_keeps}
 use Rattle.limbo_parser.proofs.Shapes.{place, patterns_spelled, handler_patterns_spelled, names_spelled, GoodPattern, patterns_each, each_any, spell_front, GoodHead}
 use Rattle.limbo_parser.proofs.Begins.{nesting_pos, expr_not_star, expr_not_lone, lone}
 

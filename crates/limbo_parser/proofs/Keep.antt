@@ -15,47 +15,25 @@ use Rattle.limbo_reading.proofs.Steps.{Keeps, KeepsRest, keeps_less, keeps_bind,
 use Rattle.limbo_reading.proofs.Lists.{items_keeps, until_keeps, KeepsTest}
 use Rattle.limbo_expr_parser.specs.Exprs.{readers}
 use Rattle.limbo_decl_parser.specs.Decls.{decl_at, fn_at}
-use Rattle.limbo_parser.specs.declared.start.Branch.{Branch}
-use Rattle.limbo_parser.specs.declared.start.Branch.TheVariants as branch
-use Rattle.limbo_parser.specs.declared.start.Choice.TheVariants as choice
-use Rattle.limbo_parser.specs.declared.start.Loop.TheVariants as loop
-use Rattle.limbo_parser.specs.declared.start.Jump.{Jump}
-use Rattle.limbo_parser.specs.declared.start.Jump.TheVariants as jump
-use Rattle.limbo_parser.specs.declared.start.Region.{Region}
-use Rattle.limbo_parser.specs.declared.start.Region.TheVariants as region
-use Rattle.limbo_parser.specs.Start.{Start, AtEmpty, AtBlock, AtIf, AtBranch, AtLabelled, AtJump, AtDeclare, AtOther, start, may_head}
-use Rattle.limbo_parser.specs.Heads.{star_alone, case_pattern_at, handler_pattern_at, head_at, front_at, is_read, ends, closing}
-use Rattle.limbo_parser.specs.Stmts.{label_at, option_before, expr_before, for_head_at, stmts_at, arm_at, arms_at, handler_at, block_above, if_above, branch_above, spawned_at, jump_above, begun, stmt_at, block_at}
+use Rattle.limbo_stmt_parts.specs.declared.start.Branch.{Branch}
+use Rattle.limbo_stmt_parts.specs.declared.start.Branch.TheVariants as branch
+use Rattle.limbo_stmt_parts.specs.declared.start.Choice.TheVariants as choice
+use Rattle.limbo_stmt_parts.specs.declared.start.Loop.TheVariants as loop
+use Rattle.limbo_stmt_parts.specs.declared.start.Jump.{Jump}
+use Rattle.limbo_stmt_parts.specs.declared.start.Jump.TheVariants as jump
+use Rattle.limbo_stmt_parts.specs.declared.start.Region.{Region}
+use Rattle.limbo_stmt_parts.specs.declared.start.Region.TheVariants as region
+use Rattle.limbo_stmt_parts.specs.Start.{Start, AtEmpty, AtBlock, AtIf, AtBranch, AtLabelled, AtJump, AtDeclare, AtOther, start, may_head}
+use Rattle.limbo_stmt_parts.specs.Heads.{star_alone, case_pattern_at, handler_pattern_at, head_at, front_at, is_read, ends, closing}
+use Rattle.limbo_stmt_parts.specs.Jumps.{label_at, option_before, expr_before, for_head_at, spawned_at, jump_above}
+use Rattle.limbo_parser.specs.Stmts.{stmts_at, arm_at, arms_at, handler_at, block_above, if_above, branch_above, begun, stmt_at, block_at}
 use Rattle.limbo_parser.specs.Sources.{defines, part_at, defined_at, expect_chars, top_at, is_last, at_end, tops_at, implements_at, tree_at}
 use Rattle.limbo_expr_parser.proofs.Laws.{expr_keeps, unary_keeps}
 use Rattle.limbo_decl_parser.proofs.Laws.{fn_keeps, decl_keeps}
-use Rattle.limbo_parser.proofs.Fronts.{star_length, branch_key, StartIs, start_is}
-
--- a reader of fewer tokens, where a fault of depth stands behind fewer of them or before more
-pub keeps_to : {A : Type 0} (b p c d m n : ℕ) (r : Result (A × List Kind) Fault) → Keeps b c m r → m + d ≤ n + c → p + m ≤ b + n → Keeps p d n r
-keeps_to b p c d m n (Ok x) h le up = omega arith
-keeps_to b p c d m n (Err (Syntax k)) h le up = tt
-keeps_to b p c d m n (Err (TooDeep k)) h le up = omega arith
+use Rattle.limbo_stmt_parts.proofs.Fronts.{star_length, branch_key, StartIs, start_is}
+use Rattle.limbo_stmt_parts.proofs.Patterns.{keeps_to, pattern_keeps, handler_pattern_keeps}
 
 -- ---- heads
-
-pub pattern_keeps : (b : ℕ) (ts : List Kind) → Keeps b 1 (length ts) (case_pattern_at b ts)
-pattern_keeps b ts =
-    keeps_choose b 1 (length ts) (star_alone ts) _ _
-    (λ n. keeps_bind b 1 0 1 (length ts) ((readers b).expr ts) _ (expr_keeps b ts) (λ e h.
-    keeps_choose b 0 (length e.1) (after_key key.To e.1) _ _ (λ k. omega arith) λ us k.
-    keeps_to b b 1 0 (length us) (length e.1) _
-    (keeps_bind b 1 0 1 (length us) ((readers b).expr us) _ (expr_keeps b us) (λ f i. omega arith) (omega arith))
-    (omega (arith, after_key_length key.To e.1 us k)) (omega (arith, after_key_length key.To e.1 us k))) (omega arith))
-    (λ us e. omega (arith, star_length ts us e))
-
-pub handler_pattern_keeps : (b : ℕ) (ts : List Kind) → Keeps b 1 (length ts) (handler_pattern_at ts)
-handler_pattern_keeps b [] = tt
-handler_pattern_keeps b (kind.Chars s ∷ ts) = omega arith
-handler_pattern_keeps b (kind.Name n ∷ ts) = omega arith
-handler_pattern_keeps b (kind.Mark mark.Star ∷ ts) = omega arith
-handler_pattern_keeps b (kind.Mark _ ∷ ts) = tt
-handler_pattern_keeps b (_ ∷ ts) = tt
 
 no_less : {A : Type 0} (b : ℕ) (ts : List Kind) (r : Result (A × List Kind) Fault) → Keeps b 1 (length ts) r → Keeps b 0 (length ts) r
 no_less b ts r h = keeps_less b 1 0 (length ts) (length ts) r h (omega arith) (omega arith)

@@ -1,4 +1,3 @@
-pub mod Fronts
 pub mod Deep
 pub mod Keep
 pub mod Shapes
@@ -10,5 +9,4 @@ pub mod Trees
 pub mod Going
 pub mod Tops
 pub mod Clauses
-pub mod Postfixes
 pub mod Budget

@@ -9,8 +9,8 @@ use Rattle.limbo_tree.specs.Stmts.{Head, Pattern, HandlerPattern, Stmt, Stmts, A
 use Rattle.limbo_tree.specs.Sources.{Top, spell_top, spell_tops, top_nesting, tops_nesting, IsTop, AreTops}
 use Rattle.limbo_tree.specs.View.{Arm, stmts_of, arms_of}
 use Rattle.limbo_reading.proofs.Lists.{spell_others, spell_all, Each}
-use Rattle.limbo_parser.specs.declared.start.Region.{Region}
-use Rattle.limbo_parser.specs.declared.start.Region.TheVariants as region
+use Rattle.limbo_stmt_parts.specs.declared.start.Region.{Region}
+use Rattle.limbo_stmt_parts.specs.declared.start.Region.TheVariants as region
 
 -- where the heads of a region stand
 abbrev pub place : Region → Place

@@ -19,20 +19,21 @@ use Rattle.limbo_reading.proofs.Steps.{tell_bool, took_bind, took_choose, took_i
 use Rattle.limbo_reading.proofs.Lists.{Took, TookItems, items_took, until_took}
 use Rattle.limbo_expr_parser.specs.Exprs.{readers}
 use Rattle.limbo_decl_parser.specs.Decls.{decl_at}
-use Rattle.limbo_parser.specs.declared.start.Branch.{Branch}
-use Rattle.limbo_parser.specs.declared.start.Branch.TheVariants as branch
-use Rattle.limbo_parser.specs.declared.start.Choice.TheVariants as choice
-use Rattle.limbo_parser.specs.declared.start.Loop.TheVariants as loop
-use Rattle.limbo_parser.specs.declared.start.Jump.{Jump}
-use Rattle.limbo_parser.specs.declared.start.Jump.TheVariants as jump
-use Rattle.limbo_parser.specs.declared.start.Region.{Region}
-use Rattle.limbo_parser.specs.declared.start.Region.TheVariants as region
-use Rattle.limbo_parser.specs.Start.{Start, AtEmpty, AtBlock, AtIf, AtBranch, AtLabelled, AtJump, AtDeclare, AtOther, start}
-use Rattle.limbo_parser.specs.Heads.{star_alone, case_pattern_at, handler_pattern_at, head_at, front_at, ends, closing}
-use Rattle.limbo_parser.specs.Stmts.{ForHead, label_at, option_before, expr_before, for_head_at, stmts_at, arm_at, arms_at, block_above, if_above, branch_above, spawned_at, jump_above, begun, stmt_at, block_at}
+use Rattle.limbo_stmt_parts.specs.declared.start.Branch.{Branch}
+use Rattle.limbo_stmt_parts.specs.declared.start.Branch.TheVariants as branch
+use Rattle.limbo_stmt_parts.specs.declared.start.Choice.TheVariants as choice
+use Rattle.limbo_stmt_parts.specs.declared.start.Loop.TheVariants as loop
+use Rattle.limbo_stmt_parts.specs.declared.start.Jump.{Jump}
+use Rattle.limbo_stmt_parts.specs.declared.start.Jump.TheVariants as jump
+use Rattle.limbo_stmt_parts.specs.declared.start.Region.{Region}
+use Rattle.limbo_stmt_parts.specs.declared.start.Region.TheVariants as region
+use Rattle.limbo_stmt_parts.specs.Start.{Start, AtEmpty, AtBlock, AtIf, AtBranch, AtLabelled, AtJump, AtDeclare, AtOther, start}
+use Rattle.limbo_stmt_parts.specs.Heads.{star_alone, case_pattern_at, handler_pattern_at, head_at, front_at, ends, closing}
+use Rattle.limbo_stmt_parts.specs.Jumps.{ForHead, label_at, option_before, expr_before, for_head_at, spawned_at, jump_above}
+use Rattle.limbo_parser.specs.Stmts.{stmts_at, arm_at, arms_at, block_above, if_above, branch_above, begun, stmt_at, block_at}
 use Rattle.limbo_expr_parser.proofs.Laws.{expr_took, unary_took}
 use Rattle.limbo_decl_parser.proofs.Laws.{decl_took}
-use Rattle.limbo_parser.proofs.Fronts.{star_is, branch_key, jump_key, StartIs, start_is}
+use Rattle.limbo_stmt_parts.proofs.Fronts.{star_is, branch_key, jump_key, StartIs, start_is}
 use Rattle.limbo_parser.proofs.Shapes.{place, patterns_spelled, handler_patterns_spelled, names_spelled, GoodPattern, patterns_are, spell_front, GoodHead, GoodStmt, stmts_spelled, stmts_are, spell_arm, GoodArm, arms_spelled, arms_are}
 
 -- ---- heads

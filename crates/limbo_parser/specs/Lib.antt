@@ -1,5 +1,4 @@
-pub mod Start
-pub mod Heads
 pub mod Stmts
 pub mod Sources
 pub mod Parsing
+pub mod Refusals

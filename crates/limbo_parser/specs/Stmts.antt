@@ -1,65 +1,23 @@
 -- Reading statements, from left to right, with the first fault that is met. The kind of a statement is chosen by its
 -- first tokens.
-use Rattle.std.specs.Prelude.{ℕ, zero, suc, List, length, Option, Some, None, Ok, Err, if◌then◌else◌}
-use Rattle.limbo_lexer.specs.declared.token.Mark.{Mark}
+use Rattle.std.specs.Prelude.{ℕ, zero, suc, List, length, Option, Some, None, Ok, Err}
 use Rattle.limbo_lexer.specs.declared.token.Mark.TheVariants as mark
 use Rattle.limbo_lexer.specs.declared.token.Key.TheVariants as key
-use Rattle.limbo_tree.specs.Exprs.{Expr, is_postfix}
-use Rattle.limbo_tree.specs.Stmts.{Stmt, Stmts, Block, Empty, Nested, Declare, Eval, If, IfElse, While, Do, For, Case, Alt, Pick, Break, Continue, Return, Exit, Spawn, Raise, Plain, Handled}
+use Rattle.limbo_tree.specs.Stmts.{Stmt, Stmts, Block, Empty, Nested, Declare, Eval, If, IfElse, While, Do, For, Case, Alt, Pick, Plain, Handled}
 use Rattle.limbo_tree.specs.View.{Arm, stmts_of, arms_of}
-use Rattle.limbo_reading.specs.declared.fault.Fault.TheVariants.{Syntax, TooDeep}
-use Rattle.limbo_reading.specs.Reading.{◌>>=◌, Reader, choose, after_mark, after_key, after_name, expect_mark, expect_key, expect_name}
+use Rattle.limbo_reading.specs.declared.fault.Fault.TheVariants.{TooDeep}
+use Rattle.limbo_reading.specs.Reading.{◌>>=◌, Reader, choose, after_key, expect_mark, expect_key, expect_name}
 use Rattle.limbo_reading.specs.Lists.{until}
-use Rattle.limbo_tree.specs.View.{view_boxed}
-use Rattle.limbo_expr_parser.specs.Exprs.{readers}
 use Rattle.limbo_decl_parser.specs.Decls.{decl_at}
-use Rattle.limbo_parser.specs.declared.start.Branch.{Branch}
-use Rattle.limbo_parser.specs.declared.start.Branch.TheVariants as branch
-use Rattle.limbo_parser.specs.declared.start.Choice.TheVariants as choice
-use Rattle.limbo_parser.specs.declared.start.Loop.TheVariants as loop
-use Rattle.limbo_parser.specs.declared.start.Jump.{Jump}
-use Rattle.limbo_parser.specs.declared.start.Jump.TheVariants as jump
-use Rattle.limbo_parser.specs.declared.start.Region.{Region}
-use Rattle.limbo_parser.specs.declared.start.Region.TheVariants as region
-use Rattle.limbo_parser.specs.declared.jump.ForHead as code_head
-use Rattle.limbo_parser.specs.Start.{Start, AtEmpty, AtBlock, AtIf, AtBranch, AtLabelled, AtJump, AtDeclare, AtOther, start}
-use Rattle.limbo_parser.specs.Heads.{front_at, closing, ends}
-
--- [ID]
-unfoldable pub label_at : Reader (Option (List ℕ))
-label_at ts = choose (after_name ts) (Ok (None, ts)) λ x. Ok (Some x.0, x.1)
-
--- [expr] before a sign, and the sign
-unfoldable pub option_before : ℕ → Mark → Reader (Option Expr)
-option_before b m ts = choose (after_mark m ts) (do
-  e ← (readers b).expr ts
-  us ← expect_mark m e.1
-  Ok (Some e.0, us)) λ us. Ok (None, us)
-
--- expr before a sign, and the sign
-unfoldable pub expr_before : ℕ → Mark → Reader Expr
-expr_before b m ts = do
-  e ← (readers b).expr ts
-  us ← expect_mark m e.1
-  Ok (e.0, us)
-
--- the expressions between the brackets of a "for"
-pub record ForHead : Type 0 where
-  pub first : Option Expr
-  pub condition : Option Expr
-  pub next : Option Expr
-
-abbrev pub view_for_head : code_head.ForHead → ForHead
-view_for_head h = record { first = view_boxed h.first; condition = view_boxed h.condition; next = view_boxed h.next }
-
--- what stands between "for" and its statement
-unfoldable pub for_head_at : ℕ → Reader ForHead
-for_head_at b ts = do
-  us ← expect_mark mark.OpenParen ts
-  a ← option_before b mark.Semicolon us
-  c ← option_before b mark.Semicolon a.1
-  n ← option_before b mark.CloseParen c.1
-  Ok (record { first = a.0; condition = c.0; next = n.0 }, n.1)
+use Rattle.limbo_stmt_parts.specs.declared.start.Branch.{Branch}
+use Rattle.limbo_stmt_parts.specs.declared.start.Branch.TheVariants as branch
+use Rattle.limbo_stmt_parts.specs.declared.start.Choice.TheVariants as choice
+use Rattle.limbo_stmt_parts.specs.declared.start.Loop.TheVariants as loop
+use Rattle.limbo_stmt_parts.specs.declared.start.Region.{Region}
+use Rattle.limbo_stmt_parts.specs.declared.start.Region.TheVariants as region
+use Rattle.limbo_stmt_parts.specs.Start.{Start, AtEmpty, AtBlock, AtIf, AtBranch, AtLabelled, AtJump, AtDeclare, AtOther, start}
+use Rattle.limbo_stmt_parts.specs.Heads.{front_at, closing, ends}
+use Rattle.limbo_stmt_parts.specs.Jumps.{label_at, option_before, expr_before, for_head_at, jump_above}
 
 -- {stmt} of a region
 unfoldable pub stmts_at : ℕ → Reader Stmt → Region → Reader (List Stmt)
@@ -136,35 +94,6 @@ branch_above b s l (branch.Choice choice.Pick) ts = do
   e ← expr_before b mark.OpenBrace us
   arms ← arms_at b s region.Pick e.1
   Ok (Pick l n.0 e.0 (arms_of arms.0), arms.1)
-
--- postfix ";"
-unfoldable pub spawned_at : ℕ → Reader Stmt
-spawned_at b ts = do
-  e ← (readers b).chain 0 ts
-  if is_postfix e.0 then (do
-    us ← expect_mark mark.Semicolon e.1
-    Ok (Spawn e.0, us)) else Err (Syntax (length ts))
-
--- what stands behind the keyword of a statement that ends in a semicolon
-unfoldable pub jump_above : ℕ → Jump → Reader Stmt
-jump_above b jump.Break ts = do
-  l ← label_at ts
-  us ← expect_mark mark.Semicolon l.1
-  Ok (Break l.0, us)
-jump_above b jump.Continue ts = do
-  l ← label_at ts
-  us ← expect_mark mark.Semicolon l.1
-  Ok (Continue l.0, us)
-jump_above b jump.Return ts = do
-  e ← option_before b mark.Semicolon ts
-  Ok (Return e.0, e.1)
-jump_above b jump.Exit ts = do
-  us ← expect_mark mark.Semicolon ts
-  Ok (Exit, us)
-jump_above b jump.Spawn ts = spawned_at b ts
-jump_above b jump.Raise ts = do
-  e ← option_before b mark.Semicolon ts
-  Ok (Raise e.0, e.1)
 
 -- a statement that begins so, whose statements s reads and whose other parts nest up to b
 abbrev pub begun : ℕ → Reader Stmt → Start → Reader Stmt

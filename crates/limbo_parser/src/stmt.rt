@@ -5,20 +5,22 @@ ghost use Rattle.std.specs.Prelude.{◌≡◌, ◌<◌, ◌++◌, [], ◌∷◌,
 ghost use Rattle.limbo_reading.specs.declared.fault.ReadError.TheVariants.{NoMemory};
 ghost use Rattle.limbo_tree.specs.View.{view_stmt, view_block, view_case_arm, view_alt_arm, view_pick_arm, view_handler_arm, name_of};
 ghost use Rattle.limbo_reading.specs.Reading.{kinds, Gives};
-ghost use Rattle.limbo_parser.specs.declared.start.Branch.TheVariants as branch;
-ghost use Rattle.limbo_parser.specs.declared.start.Choice.TheVariants as choice;
-ghost use Rattle.limbo_parser.specs.declared.start.Loop.TheVariants as loop;
-ghost use Rattle.limbo_parser.specs.declared.start.Region.TheVariants as region;
+ghost use Rattle.limbo_stmt_parts.specs.declared.start.Branch.TheVariants as branch;
+ghost use Rattle.limbo_stmt_parts.specs.declared.start.Choice.TheVariants as choice;
+ghost use Rattle.limbo_stmt_parts.specs.declared.start.Loop.TheVariants as loop;
+ghost use Rattle.limbo_stmt_parts.specs.declared.start.Region.TheVariants as region;
 ghost use Rattle.limbo_parser.specs.Stmts as stmts;
 
-use crate::heads::{alt_front_at, case_front_at, ends, handler_front_at, pick_front_at};
-use crate::jump::{ForHead, boxed, expr_before, for_head_at, jump_at, label_at, option_before};
-use crate::start::{Branch, Choice, Loop, Region, Start, beginning};
 use inf_text::Span;
 use limbo_decl_parser::decl_at;
 use limbo_lexer::{Key, Mark, Token};
 use limbo_reading::{
     ReadError, after_key, after_mark, expect_key, expect_mark, expect_name, place, too_deep,
+};
+use limbo_stmt_parts::{
+    Branch, Choice, ForHead, Loop, Region, Start, alt_front_at, beginning, built, case_front_at,
+    ends, expr_before, for_head_at, handler_front_at, jump_at, label_at, option_before,
+    pick_front_at,
 };
 use limbo_tree::{AltArm, Block, CaseArm, Handler, HandlerArm, Name, PickArm, Stmt};
 use std::alloc::Global;
@@ -43,10 +45,10 @@ pub fn stmt_at(
     let inner = budget - 1;
     let span = place(tokens);
     match beginning(tokens) {
-        Start::Empty(rest) => Ok((boxed(alloc, Stmt::Empty { span })?, rest)),
+        Start::Empty(rest) => built(alloc, Stmt::Empty { span }, rest),
         Start::Block(rest) => {
             let (block, rest) = block_above(alloc, inner, span, rest)?;
-            Ok((boxed(alloc, Stmt::Block { block, span })?, rest))
+            built(alloc, Stmt::Block { block, span }, rest)
         }
         Start::If(rest) => if_at(alloc, inner, span, rest),
         Start::Branch(branch, rest) => branch_at(alloc, inner, span, None, branch, rest),
@@ -57,11 +59,11 @@ pub fn stmt_at(
         Start::Jump(jump, rest) => jump_at(alloc, inner, span, jump, rest),
         Start::Declare => {
             let (decl, rest) = decl_at(alloc, inner, tokens)?;
-            Ok((boxed(alloc, Stmt::Declare { decl, span })?, rest))
+            built(alloc, Stmt::Declare { decl, span }, rest)
         }
         Start::Other => {
             let (value, rest) = expr_before(alloc, inner, Mark::Semicolon, tokens)?;
-            Ok((boxed(alloc, Stmt::Eval { value, span })?, rest))
+            built(alloc, Stmt::Eval { value, span }, rest)
         }
     }
 }
@@ -87,7 +89,7 @@ fn if_at(
             otherwise: None,
             span,
         };
-        return Ok((boxed(alloc, tree)?, rest));
+        return built(alloc, tree, rest);
     };
     let (otherwise, rest) = stmt_at(alloc, inner, behind)?;
     let tree = Stmt::If {
@@ -96,7 +98,7 @@ fn if_at(
         otherwise: Some(otherwise),
         span,
     };
-    Ok((boxed(alloc, tree)?, rest))
+    built(alloc, tree, rest)
 }
 
 // What stands behind the keyword of a statement that may have a label.
@@ -143,7 +145,7 @@ fn while_at(
         body,
         span,
     };
-    Ok((boxed(alloc, tree)?, rest))
+    built(alloc, tree, rest)
 }
 
 #[tactic(auto, using(limbo_tree::proofs::Stmts::the_stmt_views), unfolding(crate::specs::Stmts::branch_above))]
@@ -169,7 +171,7 @@ fn do_at(
         condition,
         span,
     };
-    Ok((boxed(alloc, tree)?, rest))
+    built(alloc, tree, rest)
 }
 
 #[tactic(auto, using(limbo_tree::proofs::Stmts::the_stmt_views), unfolding(crate::specs::Stmts::branch_above))]
@@ -199,7 +201,7 @@ fn for_at(
         body,
         span,
     };
-    Ok((boxed(alloc, tree)?, rest))
+    built(alloc, tree, rest)
 }
 
 #[tactic(auto, using(limbo_tree::proofs::Stmts::the_stmt_views), unfolding(crate::specs::Stmts::branch_above))]
@@ -222,7 +224,7 @@ fn case_at(
         arms,
         span,
     };
-    Ok((boxed(alloc, tree)?, rest))
+    built(alloc, tree, rest)
 }
 
 #[tactic(auto, using(limbo_tree::proofs::Stmts::the_stmt_views), unfolding(crate::specs::Stmts::branch_above))]
@@ -239,7 +241,7 @@ fn alt_at(
 {
     let rest = expect_mark(Mark::OpenBrace, tokens)?;
     let (arms, rest) = alt_arms_at(alloc, inner, rest)?;
-    Ok((boxed(alloc, Stmt::Alt { label, arms, span })?, rest))
+    built(alloc, Stmt::Alt { label, arms, span }, rest)
 }
 
 #[tactic(auto, using(limbo_tree::proofs::Stmts::the_stmt_views), unfolding(crate::specs::Stmts::branch_above))]
@@ -265,7 +267,7 @@ fn pick_at(
         arms,
         span,
     };
-    Ok((boxed(alloc, tree)?, rest))
+    built(alloc, tree, rest)
 }
 
 // A block behind its `{`.

@@ -6,6 +6,7 @@ ghost use Rattle.limbo_tree.specs.Sources.{IsTree, source_nesting};
 ghost use Rattle.limbo_tree.specs.View.{view_source};
 ghost use Rattle.limbo_reading.specs.Reading.{kinds};
 ghost use Rattle.limbo_parser.specs.Parsing as parsing;
+ghost use Rattle.limbo_parser.specs.Refusals.{number_of};
 
 use crate::source::tree_at;
 use limbo_lexer::Token;
@@ -22,6 +23,19 @@ pub enum ParseFault {
     Syntax { token: usize },
     /// Refusal 31: statements, expressions and types nest more than 256 deep.
     TooDeep { token: usize },
+}
+
+impl ParseFault {
+    /// The number under which it is told; 0 for want of memory, which is no refusal.
+    pub fn number(self) -> u32
+        ensures { result ≡ number_of self }
+    {
+        match self {
+            ParseFault::NoMemory => 0,
+            ParseFault::Syntax { .. } => 30,
+            ParseFault::TooDeep { .. } => 31,
+        }
+    }
 }
 
 fn told(read: Result<Source, ReadError>, len: usize) -> Result<Source, ParseFault>

@@ -1,14 +1,15 @@
 use Rattle.std.proofs.Common.{◌≡◌, ◌≤◌, ◌<◌, ◌-◌, true, false, arith, sym, ◌∙◌}
 use Rattle.std.specs.Prelude.{nat_lt}
 use Rattle.limbo_tree.specs.Exprs.{nesting}
-use Rattle.limbo_expr_parser.specs.Strength.{strength}
+use Rattle.limbo_expr_parts.specs.Strength.{strength}
 use Rattle.std.proofs.lemmas.Result.{err_from_is_err_and}
 use Rattle.limbo_lexer.specs.declared.token.Mark.TheVariants as mark
 use Rattle.limbo_tree.specs.View.{view_expr, view_init}
 use Rattle.limbo_reading.specs.Reading.{kinds, after_mark}
 use Rattle.limbo_reading.proofs.Steps.{mark_shorter}
 use Rattle.limbo_reading.proofs.Loops.{items_start, items_fail, reading_more, reading_end, reading_fails}
-use Rattle.limbo_expr_parser.specs.Exprs.{readers, list_at, inits_at, init_at, after_comma_inside}
+use Rattle.limbo_expr_parts.specs.Parts.{after_comma_inside}
+use Rattle.limbo_expr_parser.specs.Exprs.{readers, list_at, inits_at, init_at}
 use Rattle.limbo_tree.proofs.Exprs.{view_expr-Binary}
 use Rattle.limbo_expr_parser.proofs.ExprSteps.{expr_left, chain_loads, expr_deep, expr_fails, expr_shorter, init_shorter, comma_shorter, exprs_one, exprs_more, inits_one, inits_more, chained_start, chain_fails, chained_more, chained_end, chained_deep, chained_fails, postfixed_start, postfixed_fails_first, postfixed_more, postfixed_end, postfixed_deep, postfixed_fails, behind_deeper}
 use Rattle.limbo_expr_parser.proofs.+exprs.Goals as goal

@@ -3,7 +3,8 @@ use Rattle.limbo_lexer.specs.declared.token.Mark.TheVariants as mark
 use Rattle.limbo_tree.specs.View.{view_expr, view_init}
 use Rattle.limbo_reading.specs.Reading.{kinds, after_mark}
 use Rattle.limbo_reading.proofs.Loops.{Reading}
-use Rattle.limbo_expr_parser.specs.Exprs.{readers, list_at, inits_at, init_at, after_comma_inside}
+use Rattle.limbo_expr_parts.specs.Parts.{after_comma_inside}
+use Rattle.limbo_expr_parser.specs.Exprs.{readers, list_at, inits_at, init_at}
 use Rattle.limbo_expr_parser.proofs.ExprSteps.{exprs_size, inits_size, Chained, Postfixed}
 use Rattle.limbo_expr_parser.proofs.+exprs.Given as goal
 
@@ -35,6 +36,9 @@ decreases-postfix::one_behind l = l.inner * 64 + 48
 
 abbrev pub decreases-postfix::index_at : goal.decreases-postfix::index_at
 decreases-postfix::index_at l = l.inner * 64 + 44
+
+abbrev pub decreases-postfix::slice_at : goal.decreases-postfix::slice_at
+decreases-postfix::slice_at l = l.inner * 64 + 42
 
 abbrev pub decreases-lists::list_at : goal.decreases-lists::list_at
 decreases-lists::list_at l = l.budget * 64 + 20

@@ -5,7 +5,7 @@ use Rattle.limbo_tree.specs.View.{view_type}
 use Rattle.limbo_reading.specs.Reading.{kinds, after_mark}
 use Rattle.limbo_reading.proofs.Steps.{mark_shorter}
 use Rattle.limbo_reading.proofs.Loops.{items_start, items_fail, reading_more, reading_end, reading_fails}
-use Rattle.limbo_expr_parser.specs.Types.{ty_at}
+use Rattle.limbo_expr_parts.specs.Types.{ty_at}
 use Rattle.limbo_decl_parser.proofs.Places.{ty_shorter}
 use Rattle.limbo_decl_parser.proofs.decl.several_types.Goals as goal
 

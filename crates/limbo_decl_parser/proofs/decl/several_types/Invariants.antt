@@ -4,7 +4,7 @@ use Rattle.limbo_tree.specs.View.{view_type}
 use Rattle.limbo_reading.specs.Reading.{kinds, after_mark}
 use Rattle.limbo_reading.specs.Lists.{items}
 use Rattle.limbo_reading.proofs.Loops.{Reading}
-use Rattle.limbo_expr_parser.specs.Types.{ty_at}
+use Rattle.limbo_expr_parts.specs.Types.{ty_at}
 use Rattle.limbo_decl_parser.proofs.decl.several_types.Given as goal
 
 -- the list so far, and what is left

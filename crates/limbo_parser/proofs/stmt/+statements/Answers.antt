@@ -4,7 +4,7 @@ use Rattle.limbo_tree.specs.Stmts.{CaseHead, AltHead, PickHead, HandlerHead}
 use Rattle.limbo_tree.specs.View.{view_pattern, view_handler_pattern, view_stmt, names_of, view_case_arm, view_alt_arm, view_pick_arm, view_handler_arm}
 use Rattle.limbo_reading.specs.Reading.{kinds}
 use Rattle.limbo_tree.specs.View.{view_boxed}
-use Rattle.limbo_parser.specs.declared.start.Region.TheVariants as region
+use Rattle.limbo_stmt_parts.specs.declared.start.Region.TheVariants as region
 use Rattle.limbo_tree.proofs.Stmts.{view_case_arm-is, view_alt_arm-is, view_pick_arm-is, view_handler_arm-is}
 use Rattle.limbo_parser.proofs.Going.{statements_more, statements_end, statements_fail, statements_test_fails, stmt_shorter, arms_more, arms_end, arms_front_fails, arms_body_fails, arm_shorter}
 use Rattle.limbo_parser.proofs.stmt.+statements.Goals as goal

@@ -1,7 +1,7 @@
 use Rattle.std.proofs.Common.{◌+◌, ◌*◌, length}
 use Rattle.limbo_tree.specs.View.{view_case_arm, view_alt_arm, view_pick_arm, view_handler_arm}
 use Rattle.limbo_reading.specs.Reading.{kinds}
-use Rattle.limbo_parser.specs.declared.start.Region.TheVariants as region
+use Rattle.limbo_stmt_parts.specs.declared.start.Region.TheVariants as region
 use Rattle.limbo_parser.proofs.Going.{Statements, Arms}
 use Rattle.limbo_parser.proofs.stmt.+statements.Given as goal
 

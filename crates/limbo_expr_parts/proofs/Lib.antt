@@ -1,0 +1,4 @@
+pub mod Steps
+pub mod TypeLaws
+pub mod TypeSteps
+pub mod Unaries

@@ -1,0 +1,3 @@
+pub mod Postfixes
+pub mod Fronts
+pub mod Patterns
