@@ -30,7 +30,10 @@ record Writes (n : ℕ) (ds : List ℕ) : Type 0 where
   worth : (more : List ℕ) → number_after 0 (ds ++ more) ≡ number_after n more
 
 one : (n : ℕ) → n < 10 → Writes n ((48 + n) ∷ [])
-one n h = record { first = n; others = []; begins = refl; small = h; worth = λ more. taken 0 n more h ∙ ap (λ x. number_after x more) (omega arith) }
+one n h = record { first = n; others = []; begins = refl; small = h; worth = λ more. worth_is more }
+  where
+    worth_is : (more : List ℕ) → number_after 0 ((48 + n) ∷ more) ≡ number_after n more
+    worth_is more = taken 0 n more h ∙ ap (λ x. number_after x more) (omega arith)
 
 further : (n : ℕ) (ds : List ℕ) → 10 ≤ n → Writes (n / 10) ds → Writes n (ds ++ ((48 + n % 10) ∷ []))
 further n ds h w = record {
@@ -51,13 +54,15 @@ worth_of n h = let w = written n h in ap (number_after 0) (sym (append-nil (deci
 
 no_blank : (d : ℕ) → d < 10 → is_blank (48 + d) ≡ false
 no_blank d h =
-    ap₂ ◌||◌ (ap₂ ◌||◌ (ap₂ ◌||◌ (ne_eqb (48 + d) 9 (omega arith)) (ne_eqb (48 + d) 10 (omega arith))) (ne_eqb (48 + d) 13 (omega arith))) (ne_eqb (48 + d) 32 (omega arith))
+    let no_tab_or_newline = ap₂ ◌||◌ (ne_eqb (48 + d) 9 (omega arith)) (ne_eqb (48 + d) 10 (omega arith)) in
+    ap₂ ◌||◌ (ap₂ ◌||◌ no_tab_or_newline (ne_eqb (48 + d) 13 (omega arith))) (ne_eqb (48 + d) 32 (omega arith))
 
 -- a text that begins with a digit has no blank and no sign at the front
 plain : (d : ℕ) (cs : List ℕ) → d < 10 → number_in ((48 + d) ∷ cs) ≡ pos (number_after 0 ((48 + d) ∷ cs))
 plain d cs h =
     ap (λ t. signed_digits (cond t (behind_blanks cs) ((48 + d) ∷ cs))) (no_blank d h)
-    ∙ ap₂ (λ s t. cond s (neg_ℤ (pos (number_after 0 cs))) (cond t (pos (number_after 0 cs)) (pos (number_after 0 ((48 + d) ∷ cs))))) (ne_eqb (48 + d) 45 (omega arith)) (ne_eqb (48 + d) 43 (omega arith))
+    ∙ ap₂ (λ s t. cond s (neg_ℤ (pos (number_after 0 cs))) (cond t (pos (number_after 0 cs)) (pos (number_after 0 ((48 + d) ∷ cs)))))
+    (ne_eqb (48 + d) 45 (omega arith)) (ne_eqb (48 + d) 43 (omega arith))
 
 pub number_in-text : (z : ℤ) → InRange Big z → number_in (number_text z) ≡ z
 number_in-text (pos n) r =

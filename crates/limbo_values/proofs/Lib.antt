@@ -1,5 +1,6 @@
 pub mod Signed
 pub mod Wrapping
+pub mod Fixed
 pub mod Reading
 pub mod Division
 pub mod Ranges

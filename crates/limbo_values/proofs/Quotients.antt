@@ -1,5 +1,5 @@
 -- Divisions, remainders, shifts and conversions.
-use Rattle.std.proofs.Common.{◌≡◌, ℕ, suc, ◌+◌, ◌*◌, ◌^◌, ◌<◌, ◌≤◌, ℤ, pos, negsuc, ◌≤ℤ◌, ◌+ℤ◌, ◌*ℤ◌, sym, ap, subst, ◌∙◌, arith, Bool, cond, Ok, Err}
+use Rattle.std.proofs.Common.{◌≡◌, suc, ◌+◌, ◌*◌, ◌^◌, ◌<◌, ℤ, pos, negsuc, ◌≤ℤ◌, ◌+ℤ◌, ◌*ℤ◌, sym, ap, subst, ◌∙◌, arith, Bool, cond, Ok, Err}
 use borrow.Author.Differences.{up, down, same_in, same_out, sum_is_lem, product_is}
 use Rattle.std.specs.Prelude.{unsigned_abs, int_div, int_rem}
 use Rattle.std.specs.Ordering.{int_eq}
@@ -7,11 +7,9 @@ use Rattle.std.proofs.Math.Nat.{mod-eq_of_lt, mod-le}
 use Rattle.std.proofs.lemmas.Int.{ints, quot-rem}
 use Rattle.limbo_values.specs.declared.number.Kind.{Kind}
 use Rattle.limbo_values.specs.declared.number.Kind.TheVariants.{Byte, Int, Big}
-use Rattle.limbo_values.specs.declared.operator.Operator.TheVariants.{Divide, Remainder}
-use Rattle.limbo_values.specs.declared.operator.Shift.TheVariants.{Left}
 use Rattle.limbo_values.specs.declared.raised.Raised.TheVariants.{ZeroDivide}
 use Rattle.limbo_values.specs.Numbers.{InRange, width, wrapped, least, greatest}
-use Rattle.limbo_values.specs.Operators.{applied, shifted, places}
+use Rattle.limbo_values.specs.Laws.{DivisionGivesBack, RemainderHasSign, ShiftMultiplies, CountsAreReduced, ConversionsKeep}
 use Rattle.limbo_values.proofs.Signed.{remainder_below}
 use Rattle.limbo_values.proofs.Wrapping.{alike, apart, same_remainder, wrapped_again}
 use Rattle.limbo_values.proofs.Ranges.{within}
@@ -32,7 +30,7 @@ wrapped_sum kind x y b =
     alike kind (wrapped kind x *ℤ b +ℤ wrapped kind y) (x *ℤ b +ℤ y) (p.0 * up b + p.1 * down b + q.0) (p.1 * up b + p.0 * down b + q.1)
     (omega (arith, same_in, same_out, sum_is_lem, product_is, q.2))
 
-pub gives_back : (kind : Kind) (a b q r : ℤ) → InRange kind a → applied kind Divide a b ≡ Ok q → applied kind Remainder a b ≡ Ok r → wrapped kind (q *ℤ b +ℤ r) ≡ a
+pub gives_back : DivisionGivesBack
 gives_back kind a b q r range d e =
     let quotient : q ≡ wrapped kind (int_div a b) = given (int_eq b (pos 0)) (wrapped kind (int_div a b)) q d in
     let rest : r ≡ wrapped kind (int_rem a b) = given (int_eq b (pos 0)) (wrapped kind (int_rem a b)) r e in
@@ -64,9 +62,10 @@ sign_of : (a b : ℤ) → (pos 0 ≤ℤ a → pos 0 ≤ℤ int_rem a b) × (a �
 sign_of (pos n) b = (λ h. omega (arith, ints), λ h. omega (arith, ints, mod-le n (unsigned_abs b)))
 sign_of (negsuc n) b = (λ h. absurd (omega (arith, ints)), λ h. omega (arith, ints))
 
-pub has_sign : (kind : Kind) (a b r : ℤ) → InRange kind a → applied kind Remainder a b ≡ Ok r → (pos 0 ≤ℤ a → pos 0 ≤ℤ r) × (a ≤ℤ pos 0 → r ≤ℤ pos 0)
+pub has_sign : RemainderHasSign
 has_sign kind a b r range e =
-    let rest : r ≡ int_rem a b = given (int_eq b (pos 0)) (wrapped kind (int_rem a b)) r e ∙ within kind (int_rem a b) (nearer kind a b range) in
+    let rest : r ≡ int_rem a b = given (int_eq b (pos 0)) (wrapped kind (int_rem a b)) r e
+    ∙ within kind (int_rem a b) (nearer kind a b range) in
     let P : ℤ → Type 0 = λ z. (pos 0 ≤ℤ a → pos 0 ≤ℤ z) × (a ≤ℤ pos 0 → z ≤ℤ pos 0) in
     subst P (sym rest) (sign_of a b)
 
@@ -75,16 +74,21 @@ some Byte = omega arith
 some Int = omega arith
 some Big = omega arith
 
-pub multiplies : (kind : Kind) (a : ℤ) (count : ℕ) → count < width kind → shifted kind Left a (pos count) ≡ wrapped kind (a *ℤ pos (2 ^ count))
+pub multiplies : ShiftMultiplies
 multiplies kind a count few = ap (λ n. wrapped kind (a *ℤ pos (2 ^ n))) (mod-eq_of_lt few)
 
-pub reduced : (kind : Kind) (count : ℤ) → (places kind (count +ℤ pos (width kind)) ≡ places kind count) × (places kind count < width kind)
-reduced kind count =
-    (ap unsigned_abs (same_remainder (width kind) (count +ℤ pos (width kind)) count 0 1 (some kind) (omega (arith, ints))), remainder_below count (width kind) (some kind))
+pub reduced : CountsAreReduced
+reduced kind count = (
+  ap unsigned_abs (same_remainder (width kind) (count +ℤ pos (width kind)) count 0 1 (some kind) (omega (arith, ints))),
+  remainder_below count (width kind) (some kind),
+)
 
-pub keeps : (narrow wide : Kind) (z : ℤ) → width narrow ≤ width wide → wrapped narrow (wrapped wide z) ≡ wrapped narrow z
+pub keeps : ConversionsKeep
 keeps Byte Byte z le = let a = apart Byte z in let e = a.2 in alike Byte (wrapped Byte z) z a.0 a.1 e
-keeps Byte Int z le = let a = apart Int z in let e = a.2 in alike Byte (wrapped Int z) z (a.0 * 2 ^ 24) (a.1 * 2 ^ 24) (omega (arith, ints, e))
+keeps Byte Int z le =
+    let a = apart Int z in
+    let e = a.2 in
+    alike Byte (wrapped Int z) z (a.0 * 2 ^ 24) (a.1 * 2 ^ 24) (omega (arith, ints, e))
 keeps Byte Big z le = wrapped_again Byte z
 keeps Int Byte z le = absurd (omega (arith, le))
 keeps Int Int z le = let a = apart Int z in let e = a.2 in alike Int (wrapped Int z) z a.0 a.1 e

@@ -63,9 +63,13 @@ nearer : (kind : Kind) (a : ℤ) (k : ℕ) → InRange kind a → InRange kind (
 nearer Byte (pos n) k r = let below = r.below in range_byte (n / 2 ^ k) (omega (arith, ints, div-le_self n (2 ^ k)))
 nearer Byte (negsuc n) k r = let above = r.above in absurd (omega (arith, ints))
 nearer Int (pos n) k r = let below = r.below in record { above = omega (arith, ints); below = omega (arith, ints, div-le_self n (2 ^ k)) }
-nearer Int (negsuc n) k r = let above = r.above in record { above = omega (arith, ints, div-le_self n (2 ^ k)); below = omega (arith, ints) }
+nearer Int (negsuc n) k r =
+    let above = r.above in
+    record { above = omega (arith, ints, div-le_self n (2 ^ k)); below = omega (arith, ints) }
 nearer Big (pos n) k r = let below = r.below in record { above = omega (arith, ints); below = omega (arith, ints, div-le_self n (2 ^ k)) }
-nearer Big (negsuc n) k r = let above = r.above in record { above = omega (arith, ints, div-le_self n (2 ^ k)); below = omega (arith, ints) }
+nearer Big (negsuc n) k r =
+    let above = r.above in
+    record { above = omega (arith, ints, div-le_self n (2 ^ k)); below = omega (arith, ints) }
 
 pub shifted_in : (kind : Kind) (shift : Shift) (a count : ℤ) → InRange kind a → InRange kind (shifted kind shift a count)
 shifted_in kind Left a count r = always kind _

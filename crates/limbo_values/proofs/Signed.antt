@@ -39,7 +39,8 @@ pub unsigned_abs-fits : (w : Width) (a : ℤ) → SFits w a → unsigned_abs a �
 unsigned_abs-fits w (pos n) f = omega (arith, f.sfits)
 unsigned_abs-fits w (negsuc n) f = omega (arith, f.sfits)
 
-pub shl_is : (w : Width) (a : ℤ) (k : ℕ) → SFits w a → of_z w a < 2 ^ bits w → 2 ^ k < 2 ^ bits w → int_shl w a k ≡ int_wrap w (a *ℤ pos (2 ^ k))
+pub shl_is : (w : Width) (a : ℤ) (k : ℕ) → SFits w a → of_z w a < 2 ^ bits w → 2 ^ k < 2 ^ bits w
+    → int_shl w a k ≡ int_wrap w (a *ℤ pos (2 ^ k))
 shl_is w a k f p q =
     wrapping_mul-bits w (of_z w a) (2 ^ k) p q
     ∙ ap (λ x. int_wrap w (x *ℤ to_z w (2 ^ k))) (to_z-of_z w a f)
@@ -47,9 +48,14 @@ shl_is w a k f p q =
     ∙ int_wrap-mul_right w a (pos (2 ^ k))
 
 -- operations on the bits of two numbers in range
-module _ (w : Width) (a b : ℤ) (f : SFits w a) (g : SFits w b) (p : of_z w a < 2 ^ bits w) (q : of_z w b < 2 ^ bits w) (le : 2 ^ hbits w ≤ 2 ^ bits w) where
+module _
+    (w : Width) (a b : ℤ) (f : SFits w a) (g : SFits w b)
+    (p : of_z w a < 2 ^ bits w) (q : of_z w b < 2 ^ bits w) (le : 2 ^ hbits w ≤ 2 ^ bits w) where
+  abbrev spelled : ℤ → ℕ
+  spelled z = unsigned_abs (int_rem_euclid z (pos (2 ^ bits w)))
+
   pub both : (op : ℕ → ℕ → ℕ) → op (of_z w a) (of_z w b) < 2 ^ bits w
-      → to_z w (op (of_z w a) (of_z w b)) ≡ int_wrap w (pos (op (unsigned_abs (int_rem_euclid a (pos (2 ^ bits w)))) (unsigned_abs (int_rem_euclid b (pos (2 ^ bits w))))))
+      → to_z w (op (of_z w a) (of_z w b)) ≡ int_wrap w (pos (op (spelled a) (spelled b)))
   both op h = sym (wrap_pos w _ h) ∙ ap₂ (λ m n. int_wrap w (pos (op m n))) (sym (bits_are w a f le)) (sym (bits_are w b g le))
 
 -- counts of shifts, as the code takes them modulo a width

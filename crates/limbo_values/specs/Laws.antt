@@ -37,11 +37,15 @@ RemainderHasSign =
 
 -- A shift to the left by less than the width is a multiplication by a power of two.
 abbrev pub ShiftMultiplies : Type 0
-ShiftMultiplies = (kind : Kind) (a : ℤ) (count : ℕ) → count < width kind → shifted kind Left a (pos count) ≡ wrapped kind (a *ℤ pos (2 ^ count))
+ShiftMultiplies =
+    (kind : Kind) (a : ℤ) (count : ℕ) → count < width kind
+    → shifted kind Left a (pos count) ≡ wrapped kind (a *ℤ pos (2 ^ count))
 
 -- The width more in a count changes nothing.
 abbrev pub CountsAreReduced : Type 0
-CountsAreReduced = (kind : Kind) (count : ℤ) → (places kind (count +ℤ pos (width kind)) ≡ places kind count) × (places kind count < width kind)
+CountsAreReduced =
+    (kind : Kind) (count : ℤ)
+    → (places kind (count +ℤ pos (width kind)) ≡ places kind count) × (places kind count < width kind)
 
 -- A conversion by way of a wider kind is the conversion, so each keeps what fits.
 abbrev pub ConversionsKeep : Type 0
@@ -55,6 +59,7 @@ ReadsBack = (kind : Kind) (z : ℤ) → InRange kind z → number_read kind (num
 pub record TextsAreOrdered : Type 0 where
   pub reflexive : (s : List ℕ) → IsTrue (text_compared c.AtMost s s)
   pub antisymmetric : (s t : List ℕ) → IsTrue (text_compared c.AtMost s t) → IsTrue (text_compared c.AtMost t s) → s ≡ t
-  pub transitive : (s t u : List ℕ) → IsTrue (text_compared c.AtMost s t) → IsTrue (text_compared c.AtMost t u) → IsTrue (text_compared c.AtMost s u)
+  pub transitive : (s t u : List ℕ) → IsTrue (text_compared c.AtMost s t) → IsTrue (text_compared c.AtMost t u)
+      → IsTrue (text_compared c.AtMost s u)
   pub total : (s t : List ℕ) → IsTrue (text_compared c.AtMost s t) ⊎ IsTrue (text_compared c.AtMost t s)
   pub equal : (s t : List ℕ) → IsTrue (text_compared c.Equal s t) ↔ (s ≡ t)

@@ -4,7 +4,7 @@ ghost use Rattle.limbo_values.specs.Operators.{meets};
 use std::cmp::Ordering;
 
 /// An operator on two numbers of one kind.
-#[derive(Clone, Copy, PartialEq, Eq, Debug)]
+#[derive(Clone, Copy)]
 pub enum Operator {
     /// `+`
     Add,
@@ -25,7 +25,7 @@ pub enum Operator {
 }
 
 /// An operator on a number and a count, which is an int.
-#[derive(Clone, Copy, PartialEq, Eq, Debug)]
+#[derive(Clone, Copy)]
 pub enum Shift {
     /// `<<`
     Left,
@@ -34,7 +34,7 @@ pub enum Shift {
 }
 
 /// An operator on one number.
-#[derive(Clone, Copy, PartialEq, Eq, Debug)]
+#[derive(Clone, Copy)]
 pub enum Unary {
     /// `+`
     Plus,
@@ -49,7 +49,7 @@ pub enum Unary {
 }
 
 /// A comparison of two numbers of one kind or of two strings.
-#[derive(Clone, Copy, PartialEq, Eq, Debug)]
+#[derive(Clone, Copy)]
 pub enum Comparison {
     /// `==`
     Equal,

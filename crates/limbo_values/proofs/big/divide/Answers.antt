@@ -9,7 +9,8 @@ use Rattle.limbo_values.proofs.big.divide.Goals as goal
 pub returns : goal.returns
 returns c =
     let quotient = int_div c.args.a c.args.b in
-    let small : unsigned_abs quotient ≤ 2 ^ 63 = omega (arith, unsigned_abs-div c.args.a c.args.b, unsigned_abs-fits w64 c.args.a c.ranges.a) in
+    let small : unsigned_abs quotient ≤ 2 ^ 63 =
+    omega (arith, unsigned_abs-div c.args.a c.args.b, unsigned_abs-fits w64 c.args.a c.ranges.a) in
     let is : to_z w64 (of_z w64 quotient) ≡ int_wrap w64 quotient = read_wrapped w64 quotient small (omega arith) in
     let given : to_z w64 (of_z w64 c.wrapping_div.result) ≡ int_wrap w64 quotient =
     to_z-of_z w64 _ (record { sfits = c.wrapping_div.type_inv }) ∙ c.wrapping_div.ensures

@@ -9,7 +9,8 @@ use Rattle.limbo_values.proofs.int.divide.Goals as goal
 pub returns : goal.returns
 returns c =
     let quotient = int_div c.args.a c.args.b in
-    let small : unsigned_abs quotient ≤ 2 ^ 31 = omega (arith, unsigned_abs-div c.args.a c.args.b, unsigned_abs-fits w32 c.args.a c.ranges.a) in
+    let small : unsigned_abs quotient ≤ 2 ^ 31 =
+    omega (arith, unsigned_abs-div c.args.a c.args.b, unsigned_abs-fits w32 c.args.a c.ranges.a) in
     let is : to_z w32 (of_z w32 quotient) ≡ int_wrap w32 quotient = read_wrapped w32 quotient small (omega arith) in
     let given : to_z w32 (of_z w32 c.wrapping_div.result) ≡ int_wrap w32 quotient =
     to_z-of_z w32 _ (record { sfits = c.wrapping_div.type_inv }) ∙ c.wrapping_div.ensures

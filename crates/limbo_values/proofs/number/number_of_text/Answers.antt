@@ -10,4 +10,5 @@ pub returns : goal.returns
 returns c =
     let kind = c.args.kind in
     let read = to_z-of_z w64 _ (record { sfits = c.read_decimal.type_inv }) ∙ c.read_decimal.ensures ∙ front_is c.args.text.now in
-    c.to_kind.ensures ∙ ap (λ z. number_of kind (wrapped kind z)) read ∙ ap (number_of kind) (wrapped_again kind (number_in c.args.text.now))
+    c.to_kind.ensures ∙ ap (λ z. number_of kind (wrapped kind z)) read
+    ∙ ap (number_of kind) (wrapped_again kind (number_in c.args.text.now))
