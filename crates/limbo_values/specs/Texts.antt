@@ -20,7 +20,6 @@ index_in count (pos i) = if nat_lt i count then Ok i else Err ArrayBounds
 index_in count (negsuc i) = Err ArrayBounds
 
 -- The bounds of a slice of what has so many elements: from 0 to the length, and not falling.
-
 abbrev pub bounds_to : ℕ → ℕ → ℤ → Result (ℕ × ℕ) Raised
 bounds_to count from (pos to) = if nat_le from to && nat_le to count then Ok (from, to) else Err ArrayBounds
 bounds_to count from (negsuc to) = Err ArrayBounds
