@@ -1,0 +1,10 @@
+pub mod Signed
+pub mod Wrapping
+pub mod Fixed
+pub mod Reading
+pub mod Division
+pub mod Ranges
+pub mod Quotients
+pub mod Decimals
+pub mod Ordered
+pub mod Examples
