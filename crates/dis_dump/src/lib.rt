@@ -1,29 +1,12 @@
-//! The bytes of an object file of the Dis machine told as text: the object that they spell is listed.
+//! Lists the object in a file of the host on a sink: all that the command `dump` does between its words and its
+//! closing line.
 //!
-//! `dis_format` says which bytes spell an object and which field is the first faulty one, `dis_text` has the text.
+//! `specs/Dump.antt` says what it does. Which bytes spell an object, and which field is the first faulty one, stands in
+//! `dis_format`; what its listing is, in `dis_text`.
 #![tactic(auto)]
 
-ghost use Rattle.std.specs.Prelude.{◌≡◌, ◌⊎◌, IfOk, IfErr, MatchResult};
-ghost use Rattle.dis_file.specs.declared.object.Object.{Object};
-ghost use Rattle.dis_format.specs.declared.fault.FileFault.TheVariants.{NoMemory};
-ghost use Rattle.dis_format.specs.Objects.{Spells};
-ghost use Rattle.dis_format.specs.Reading.{IsFirstFault};
-ghost use Rattle.dis_text.specs.Listing.{listing_of};
+mod command;
+mod listing;
 
-use dis_format::FileFault;
-use dis_reading::read_object;
-use dis_text::listing;
-use std::alloc::Global;
-
-/// The listing of the object that all of the bytes spell.
-///
-/// # Errors
-/// The fault of the first faulty field, at its first byte; `NoMemory`.
-pub fn dump(alloc: Global, bytes: &[u8]) -> Result<Vec<u8>, FileFault>
-    ensures listed { IfOk result (λ text. (o : Object) × Spells o bytes.now × (text.items ≡ listing_of o)) }
-    ensures only { (o : Object) → Spells o bytes.now → MatchResult result (λ text. text.items ≡ listing_of o) (λ e. e ≡ NoMemory) }
-    ensures refused { IfErr result (λ e. (e ≡ NoMemory) ⊎ IsFirstFault bytes.now e) }
-{
-    let object = read_object(alloc, bytes)?;
-    Ok(listing(alloc, &object)?)
-}
+pub use command::{DumpEnd, dump_file};
+pub use listing::list_bytes;
