@@ -7,6 +7,7 @@ ghost use Rattle.std.specs.Prelude.{◌≡◌, IfOk};
 ghost use Rattle.dis_text.specs.Listing.{listing_of};
 
 mod instructions;
+pub mod laws;
 mod names;
 mod object;
 mod sections;

@@ -1,0 +1,13 @@
+//! What a listing shows of an object.
+
+ghost use Rattle.std.specs.Prelude.{◌≡◌, ℕ};
+ghost use Rattle.dis_isa.specs.declared.inst.Inst.{Inst};
+ghost use Rattle.dis_text.specs.Listing.{inst_line};
+ghost use Rattle.dis_text.specs.Shown.{present, AreNarrow, ShowsSame};
+
+/// Two instructions with one line have one operation and the same operands that are there, in their order. They differ
+/// at most in which of the three places these stand in, where one is absent.
+pub fn one_instruction_a_line()
+    ensures { (pc : ℕ) (i j : Inst) → AreNarrow (present i) → AreNarrow (present j)
+        → inst_line pc i ≡ inst_line pc j → ShowsSame i j }
+{}
