@@ -1,7 +1,7 @@
 -- The line of an instruction gives back its operation and its operands.
-use Rattle.std.proofs.Common.{◌≡◌, ◌≢◌, ℕ, zero, suc, ◌+◌, ◌*◌, ◌<◌, ◌≤◌, ◌^◌, ◌/◌, ◌%◌, Bool, true, false, cond, List, [], ◌∷◌, ◌++◌, length}
-use Rattle.std.proofs.Common.{eqb, eq-eqb, drop, Option, Some, None, refl, sym, ap, ◌∙◌, arith, append_assoc, ℤ, pos, negsuc}
-use Rattle.std.proofs.lemmas.Bool.{lt-ltb, le-ltb, ne_eqb}
+use Rattle.std.proofs.Common.{◌≡◌, ◌≢◌, ℕ, zero, suc, ◌+◌, ◌*◌, ◌<◌, ◌≤◌, ◌^◌, ◌%◌, Bool, true, false, cond, List, [], ◌∷◌, ◌++◌, length}
+use Rattle.std.proofs.Common.{eqb, eq-eqb, drop, Some, refl, sym, ap, ◌∙◌, arith, append_assoc, ℤ, pos, negsuc}
+use Rattle.std.proofs.lemmas.Bool.{lt-ltb, ne_eqb}
 use Rattle.std.proofs.lemmas.Fmt.{decimal_by_steps, decimal_is_IsNumeral, decimal_nonempty}
 use Rattle.std.proofs.lemmas.Slice.Eq.{bytes_eq-Decides}
 use Rattle.std.specs.Prelude.{◌&&◌, not, ◌==◌, nat_lt, codes, slice_get}
@@ -26,30 +26,30 @@ use Rattle.dis_text.proofs.Opcodes.{opcode_small}
 
 -- ---- lists cut where a test fails first
 
-abbrev all : (ℕ → Bool) → List ℕ → Bool
+abbrev pub all : (ℕ → Bool) → List ℕ → Bool
 all p [] = true
 all p (x ∷ xs) = p x && all p xs
 
-both : (a b : Bool) → (a && b) ≡ true → (a ≡ true) × (b ≡ true)
+pub both : (a b : Bool) → (a && b) ≡ true → (a ≡ true) × (b ≡ true)
 both true b e = (refl, e)
 both false b e = absurd cc
 
-all-append : (p : ℕ → Bool) (xs ys : List ℕ) → all p xs ≡ true → all p ys ≡ true → all p (xs ++ ys) ≡ true
+pub all-append : (p : ℕ → Bool) (xs ys : List ℕ) → all p xs ≡ true → all p ys ≡ true → all p (xs ++ ys) ≡ true
 all-append p [] ys a b = b
 all-append p (x ∷ xs) ys a b =
     let h = both (p x) (all p xs) a in rw h.0 (all-append p xs ys h.1 b)
 
-abbrev Stops : (ℕ → Bool) → List ℕ → Type 0
+abbrev pub Stops : (ℕ → Bool) → List ℕ → Type 0
 Stops p [] = ⊥
 Stops p (c ∷ cs) = p c ≡ false
 
-not_both : {A : Type 0} (b : Bool) → b ≡ true → b ≡ false → A
+pub not_both : {A : Type 0} (b : Bool) → b ≡ true → b ≡ false → A
 not_both b t f = let bad : true ≡ false = sym t ∙ f in absurd cc
 
-abbrev Cut : List ℕ → List ℕ → List ℕ → List ℕ → Type 0
+abbrev pub Cut : List ℕ → List ℕ → List ℕ → List ℕ → Type 0
 Cut xs ys us vs = (xs ≡ ys) × (us ≡ vs)
 
-cut : (p : ℕ → Bool) (xs ys us vs : List ℕ) → all p xs ≡ true → all p ys ≡ true → Stops p us → Stops p vs
+pub cut : (p : ℕ → Bool) (xs ys us vs : List ℕ) → all p xs ≡ true → all p ys ≡ true → Stops p us → Stops p vs
     → xs ++ us ≡ ys ++ vs → Cut xs ys us vs
 cut p [] [] us vs a b s t e = (refl, e)
 cut p [] (y ∷ ys) [] vs a b s t e = absurd s
@@ -67,8 +67,12 @@ cut p (x ∷ xs) (y ∷ ys) us vs a b s t e =
     let tail : xs ≡ ys = k.0 in
     (cc, k.1)
 
+pub strip : (xs us vs : List ℕ) → xs ++ us ≡ xs ++ vs → us ≡ vs
+strip [] us vs e = e
+strip (x ∷ xs) us vs e = strip xs us vs cc
+
 -- a list that begins with what fails the test isn't one that passes it and isn't empty
-begins_not : {A : Type 0} (p : ℕ → Bool) (c : ℕ) (cs xs ys : List ℕ) → p c ≡ false → all p xs ≡ true → 0 < length xs
+pub begins_not : {A : Type 0} (p : ℕ → Bool) (c : ℕ) (cs xs ys : List ℕ) → p c ≡ false → all p xs ≡ true → 0 < length xs
     → c ∷ cs ≡ xs ++ ys → A
 begins_not p c cs [] ys fails passes long e = absurd (omega arith)
 begins_not p c cs (x ∷ xs) ys fails passes long e =
@@ -76,7 +80,7 @@ begins_not p c cs (x ∷ xs) ys fails passes long e =
 
 -- ---- numbers
 
-digits_pass : (p : ℕ → Bool) → ((c : ℕ) → 48 ≤ c → c ≤ 57 → p c ≡ true) → (n : ℕ) → n < 2 ^ 64
+pub digits_pass : (p : ℕ → Bool) → ((c : ℕ) → 48 ≤ c → c ≤ 57 → p c ≡ true) → (n : ℕ) → n < 2 ^ 64
     → all p (decimal n) ≡ true
 digits_pass p h =
     decimal_by_steps (λ n ds. all p ds ≡ true)
@@ -92,15 +96,15 @@ signed_long : (z : ℤ) → magnitude z < 2 ^ 31 → 0 < length (signed_decimal 
 signed_long (pos n) lt = decimal_nonempty n (omega arith)
 signed_long (negsuc n) lt = omega arith
 
-decimal_injective : (m n : ℕ) → m < 2 ^ 64 → n < 2 ^ 64 → decimal m ≡ decimal n → m ≡ n
+pub decimal_injective : (m n : ℕ) → m < 2 ^ 64 → n < 2 ^ 64 → decimal m ≡ decimal n → m ≡ n
 decimal_injective m n a b e =
     sym (decimal_is_IsNumeral m a).1 ∙ ap (digits_value 10) e ∙ (decimal_is_IsNumeral n b).1
 
-abbrev is_digit : ℕ → Bool
-is_digit c = nat_lt 47 c
+abbrev pub is_digit : ℕ → Bool
+is_digit c = nat_lt 47 c && nat_lt c 58
 
-digits_are : (c : ℕ) → 48 ≤ c → c ≤ 57 → is_digit c ≡ true
-digits_are c low high = lt-ltb 47 c (omega arith)
+pub digits_are : (c : ℕ) → 48 ≤ c → c ≤ 57 → is_digit c ≡ true
+digits_are c low high = rw (lt-ltb 47 c (omega arith), lt-ltb c 58 (omega arith)) refl
 
 -- a sign isn't a digit
 unsigned_is_not : {A : Type 0} (m n : ℕ) → m < 2 ^ 64 → decimal m ≡ 45 ∷ decimal n → A
@@ -151,7 +155,8 @@ behind (indirect module_data inner outer) = codes "(" ++ (signed_decimal inner +
 cut_numbers : (x y : ℤ) (us vs : List ℕ) → magnitude x < 2 ^ 31 → magnitude y < 2 ^ 31
     → signed_decimal x ++ 40 ∷ us ≡ signed_decimal y ++ 40 ∷ vs → (x ≡ y) × (us ≡ vs)
 cut_numbers x y us vs a b e =
-    let k = cut is_signed (signed_decimal x) (signed_decimal y) (40 ∷ us) (40 ∷ vs) (signed_is x a) (signed_is y b) refl refl e in
+    let k = cut is_signed (signed_decimal x) (signed_decimal y) (40 ∷ us) (40 ∷ vs) (signed_is x a) (signed_is y b)
+    refl refl e in
     let rest : us ≡ vs = (let same : 40 ∷ us ≡ 40 ∷ vs = k.1 in cc) in
     (signed_injective x y a b k.0, rest)
 
@@ -161,11 +166,11 @@ letter_not : {A : Type 0} (c : ℕ) (cs ys : List ℕ) (z : ℤ) → is_signed c
 letter_not c cs ys z fails lt e =
     begins_not is_signed c cs (signed_decimal z) ys fails (signed_is z lt) (signed_long z lt) e
 
-abbrev head : List ℕ → ℕ
+abbrev pub head : List ℕ → ℕ
 head [] = 0
 head (c ∷ cs) = c
 
-differ : {A : Type 0} (c d : ℕ) (cs ds : List ℕ) → eqb c d ≡ false → c ∷ cs ≡ d ∷ ds → A
+pub differ : {A : Type 0} (c d : ℕ) (cs ds : List ℕ) → eqb c d ≡ false → c ∷ cs ≡ d ∷ ds → A
 differ c d cs ds other e = not_both (eqb c d) (eq-eqb c d (ap head e)) other
 
 word_injective : (s t : Shown) → IsNarrow s → IsNarrow t → word s ≡ word t → s ≡ t
@@ -265,24 +270,25 @@ abbrev words : List Shown → List (List ℕ)
 words [] = []
 words (s ∷ ss) = word s ∷ words ss
 
-behind_stops : (ss : List Shown) → Stops is_inside (marked 44 (words ss) ++ 10 ∷ [])
-behind_stops [] = refl
-behind_stops (s ∷ ss) = refl
+behind_stops : (ss : List Shown) (us : List ℕ) → Stops is_inside (marked 44 (words ss) ++ 10 ∷ us)
+behind_stops [] us = refl
+behind_stops (s ∷ ss) us = refl
 
-marked_injective : (mark : ℕ) (ss ts : List Shown) → mark ≢ 10 → AreNarrow ss → AreNarrow ts
-    → marked mark (words ss) ++ 10 ∷ [] ≡ marked mark (words ts) ++ 10 ∷ [] → ss ≡ ts
-marked_injective mark [] [] ne a b e = refl
-marked_injective mark [] (t ∷ ts) ne a b e = let same : 10 ≡ mark = cc in absurd (ne (sym same))
-marked_injective mark (s ∷ ss) [] ne a b e = let same : mark ≡ 10 = cc in absurd (ne same)
-marked_injective mark (s ∷ ss) (t ∷ ts) ne a b e =
-    let rest : (word s ++ marked 44 (words ss)) ++ 10 ∷ [] ≡ (word t ++ marked 44 (words ts)) ++ 10 ∷ [] = cc in
-    let grouped : word s ++ (marked 44 (words ss) ++ 10 ∷ []) ≡ word t ++ (marked 44 (words ts) ++ 10 ∷ []) =
-    sym (append_assoc (word s) (marked 44 (words ss)) (10 ∷ [])) ∙ rest
-    ∙ append_assoc (word t) (marked 44 (words ts)) (10 ∷ []) in
-    let k = cut is_inside (word s) (word t) (marked 44 (words ss) ++ 10 ∷ []) (marked 44 (words ts) ++ 10 ∷ [])
-    (word_inside s a.0) (word_inside t b.0) (behind_stops ss) (behind_stops ts) grouped in
+marked_injective : (mark : ℕ) (ss ts : List Shown) → mark ≢ 10 → AreNarrow ss → AreNarrow ts → (us vs : List ℕ)
+    → marked mark (words ss) ++ 10 ∷ us ≡ marked mark (words ts) ++ 10 ∷ vs → (ss ≡ ts) × (us ≡ vs)
+marked_injective mark [] [] ne a b us vs e = (refl, strip (10 ∷ []) us vs e)
+marked_injective mark [] (t ∷ ts) ne a b us vs e = let same : 10 ≡ mark = cc in absurd (ne (sym same))
+marked_injective mark (s ∷ ss) [] ne a b us vs e = let same : mark ≡ 10 = cc in absurd (ne same)
+marked_injective mark (s ∷ ss) (t ∷ ts) ne a b us vs e =
+    let rest : (word s ++ marked 44 (words ss)) ++ 10 ∷ us ≡ (word t ++ marked 44 (words ts)) ++ 10 ∷ vs = cc in
+    let grouped : word s ++ (marked 44 (words ss) ++ 10 ∷ us) ≡ word t ++ (marked 44 (words ts) ++ 10 ∷ vs) =
+    sym (append_assoc (word s) (marked 44 (words ss)) (10 ∷ us)) ∙ rest
+    ∙ append_assoc (word t) (marked 44 (words ts)) (10 ∷ vs) in
+    let k = cut is_inside (word s) (word t) (marked 44 (words ss) ++ 10 ∷ us) (marked 44 (words ts) ++ 10 ∷ vs)
+    (word_inside s a.0) (word_inside t b.0) (behind_stops ss us) (behind_stops ts vs) grouped in
     let first : s ≡ t = word_injective s t a.0 b.0 k.0 in
-    let others : ss ≡ ts = marked_injective 44 ss ts (omega arith) a.1 b.1 k.1 in cc
+    let l = marked_injective 44 ss ts (omega arith) a.1 b.1 us vs k.1 in
+    let others : ss ≡ ts = l.0 in (cc, l.1)
 
 words-append : (ss ts : List Shown) → words (ss ++ ts) ≡ words ss ++ words ts
 words-append [] ts = refl
@@ -304,18 +310,20 @@ middle_words (middle.Mp n) = refl
 
 operands_are : (i : Inst) → operands i ≡ words (present i)
 operands_are i =
-    let all_words : words (present i) ≡ words (of_operand i.src) ++ (words (of_middle i.middle) ++ words (of_operand i.dst)) =
+    let all_words : words (present i) ≡ words (of_operand i.src) ++ (words (of_middle i.middle) ++ words (of_operand
+    i.dst)) =
     words-append (of_operand i.src) (of_middle i.middle ++ of_operand i.dst)
-    ∙ ap (λ (ws : List (List ℕ)). words (of_operand i.src) ++ ws) (words-append (of_middle i.middle) (of_operand i.dst)) in
+    ∙ ap (λ (ws : List (List ℕ)). words (of_operand i.src) ++ ws) (words-append (of_middle i.middle) (of_operand
+    i.dst)) in
     rw (operand_words i.src, middle_words i.middle, operand_words i.dst) (sym all_words)
 
 -- ---- names
 
 -- no blank and no newline
-abbrev is_letter : ℕ → Bool
+abbrev pub is_letter : ℕ → Bool
 is_letter c = not (c == 32) && not (c == 10)
 
-abbrev no_newline : ℕ → Bool
+abbrev pub no_newline : ℕ → Bool
 no_newline c = not (c == 10)
 
 drop_passes : (p : ℕ → Bool) (n : ℕ) (xs : List ℕ) → all p xs ≡ true → all p (drop n xs) ≡ true
@@ -406,27 +414,32 @@ name_injective o p e =
 
 -- ---- the line
 
-strip : (xs us vs : List ℕ) → xs ++ us ≡ xs ++ vs → us ≡ vs
-strip [] us vs e = e
-strip (x ∷ xs) us vs e = strip xs us vs cc
+line_stops : (ss : List Shown) (us : List ℕ) → Stops is_letter (marked 32 (words ss) ++ 10 ∷ us)
+line_stops [] us = refl
+line_stops (s ∷ ss) us = refl
 
-line_stops : (ss : List Shown) → Stops is_letter (marked 32 (words ss) ++ 10 ∷ [])
-line_stops [] = refl
-line_stops (s ∷ ss) = refl
+abbrev inst_shape : ℕ → Inst → List ℕ → List ℕ
+inst_shape pc i us = decimal pc ++ 32 ∷ (name_of i.op ++ (marked 32 (words (present i)) ++ 10 ∷ us))
+
+inst_is : (pc : ℕ) (i : Inst) (us : List ℕ) → inst_line pc i ++ us ≡ inst_shape pc i us
+unfolding inst_line
+inst_is pc i us = rw (operands_are i) (simp append_assoc)
+
+-- an instruction's line in front of the rest
+pub shows_after : (pc : ℕ) (i j : Inst) → AreNarrow (present i) → AreNarrow (present j) → (us vs : List ℕ)
+    → inst_line pc i ++ us ≡ inst_line pc j ++ vs → ShowsSame i j × (us ≡ vs)
+shows_after pc i j a b us vs e =
+    let line : (k : Inst) → List ℕ → List ℕ = λ k ws. name_of k.op ++ (marked 32 (words (present k)) ++ 10 ∷ ws) in
+    let shaped : decimal pc ++ 32 ∷ line i us ≡ decimal pc ++ 32 ∷ line j vs =
+    sym (inst_is pc i us) ∙ e ∙ inst_is pc j vs in
+    let lines : line i us ≡ line j vs = strip (32 ∷ []) _ _ (strip (decimal pc) (32 ∷ line i us) (32 ∷ line j vs)
+    shaped) in
+    let k = cut is_letter (name_of i.op) (name_of j.op) (marked 32 (words (present i)) ++ 10 ∷ us)
+    (marked 32 (words (present j)) ++ 10 ∷ vs) (name_letters i.op) (name_letters j.op) (line_stops (present i) us)
+    (line_stops (present j) vs) lines in
+    let l = marked_injective 32 (present i) (present j) (omega arith) a b us vs k.1 in
+    (record { op = name_injective i.op j.op k.0; operands = l.0 }, l.1)
 
 pub shows_same : (pc : ℕ) (i j : Inst) → AreNarrow (present i) → AreNarrow (present j) → inst_line pc i ≡ inst_line pc j
     → ShowsSame i j
-unfolding inst_line
-shows_same pc i j a b e =
-    let line : (k : Inst) → List ℕ = λ k. name_of k.op ++ (marked 32 (words (present k)) ++ 10 ∷ []) in
-    let e' : decimal pc ++ 32 ∷ line i ≡ decimal pc ++ 32 ∷ line j =
-    rw (operands_are i, operands_are j) at e in
-    let behind_pc : 32 ∷ line i ≡ 32 ∷ line j = strip (decimal pc) (32 ∷ line i) (32 ∷ line j) e' in
-    let lines : line i ≡ line j = cc in
-    let k = cut is_letter (name_of i.op) (name_of j.op) (marked 32 (words (present i)) ++ 10 ∷ [])
-    (marked 32 (words (present j)) ++ 10 ∷ []) (name_letters i.op) (name_letters j.op) (line_stops (present i))
-    (line_stops (present j)) lines in
-    record {
-      op = name_injective i.op j.op k.0;
-      operands = marked_injective 32 (present i) (present j) (omega arith) a b k.1;
-    }
+shows_same pc i j a b e = (shows_after pc i j a b [] [] (ap (λ (l : List ℕ). l ++ []) e)).0

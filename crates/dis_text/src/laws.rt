@@ -2,12 +2,19 @@
 
 ghost use Rattle.std.specs.Prelude.{◌≡◌, ℕ};
 ghost use Rattle.dis_isa.specs.declared.inst.Inst.{Inst};
-ghost use Rattle.dis_text.specs.Listing.{inst_line};
-ghost use Rattle.dis_text.specs.Shown.{present, AreNarrow, ShowsSame};
+ghost use Rattle.dis_file.specs.declared.object.Object.{Object};
+ghost use Rattle.dis_text.specs.Listing.{inst_line, listing_of};
+ghost use Rattle.dis_text.specs.Shown.{present, AreNarrow, ShowsSame, IsPlain, ShowsSameObject};
 
 /// Two instructions with one line have one operation and the same operands that are there, in their order. They differ
 /// at most in which of the three places these stand in, where one is absent.
 pub fn one_instruction_a_line()
     ensures { (pc : ℕ) (i j : Inst) → AreNarrow (present i) → AreNarrow (present j)
         → inst_line pc i ≡ inst_line pc j → ShowsSame i j }
+{}
+
+/// Two objects with one listing, whose names and texts hold no newline and no quote, differ at most in which of the three
+/// places the operands of an instruction stand in, where one is absent.
+pub fn one_object_a_listing()
+    ensures { (o p : Object) → IsPlain o → IsPlain p → listing_of o ≡ listing_of p → ShowsSameObject o p }
 {}
