@@ -1,3 +1,4 @@
 mod Lines
 mod Listed
 mod Opcodes
+mod Plain

@@ -117,6 +117,16 @@ pub record IsPlain (o : Object) : Type 0 where
   pub imports_there : has_imports o.flags || length o.imports == 0 ≡ true
   pub catches_there : has_catches o.flags || length o.catches == 0 ≡ true
 
+-- the names and texts of an object are plain
+abbrev pub HasPlainArms : Catch → Type 0
+HasPlainArms c = AllByRecursion (λ a. IsPlainText a.text) c.arms
+
+pub record HasPlainTexts (o : Object) : Type 0 where
+  pub name : IsPlainText o.«module»
+  pub links : AllByRecursion (λ l. IsPlainText l.name) o.links
+  pub imports : AllByRecursion (AllByRecursion (λ i. IsPlainText i.name)) o.imports
+  pub catches : AllByRecursion HasPlainArms o.catches
+
 -- two lists of one length, related place by place
 abbrev pub SameEach : {A : Type 0} → (A → A → Type 0) → List A → List A → Type 0
 SameEach R [] [] = ⊤
