@@ -1,13 +1,13 @@
 -- What follows of the cause, from where each cause comes.
-use Rattle.std.proofs.Common.{◌≡◌, ◌≤◌, ℕ, List, ◌⊎◌, inl, inr, refl, subst, sym, ◌∙◌, true, false, arith}
+use Rattle.std.proofs.Common.{◌≡◌, ◌≤◌, ℕ, List, ◌⊎◌, inl, inr, refl, subst, sym, ap, ◌∙◌, true, false, arith}
 use Rattle.std.specs.Prelude.{Some, None}
 use Rattle.inf_ports.specs.Outside.{Told, Has, Lacks, Rose}
 use Rattle.limbo_typed.specs.Typed.{Module}
 use Rattle.inferno_tool.specs.Built.{IsBuilt}
-use Rattle.inferno_tool.specs.Outcome.{Course, HasProgram, IsAccepted, IsCause, IsEndUnlessMemory, IsRefusal, IsRunEnd, IsSinkFault, IsSourceRefusal, Tells, TellsProgram}
+use Rattle.inferno_tool.specs.Outcome.{Course, HasProgram, IsAccepted, IsCause, IsEndUnlessMemory, IsRefusal, IsRunEnd, IsSinkFault, IsSourceRefusal, IsUnlessMemory, Tells, TellsProgram}
 use Rattle.inferno_tool.specs.Words.{named_file}
 use Rattle.inferno_tool.specs.declared.cause.Cause.{Cause}
-use Rattle.inferno_tool.specs.declared.cause.Cause.TheVariants.{Done, Broke, Usage, BadSource, Limit, Host, SinkFault, NoMemory}
+use Rattle.inferno_tool.specs.declared.cause.Cause.TheVariants.{Done, Broke, Usage, BadSource, BadObject, Limit, Host, SinkFault, NoMemory}
 use Rattle.inferno_tool.specs.Faults.{IsFault}
 use Rattle.inferno_tool.proofs.Faults.{faulty}
 use Rattle.inferno_tool.proofs.Trees.{one_module}
@@ -25,11 +25,11 @@ no_file : {A : Type 0} (words : List (List ℕ)) (a : List ℕ) → named_file w
 no_file words a none some = let same : None ≡ Some a = sym none ∙ some in cc
 
 -- what the tree tells of a path is all that it has there
-same_bytes : (told : Told) (path source other : List ℕ) → Tells told path (Some source) → Has told path other → source ≡ other
+pub same_bytes : (told : Told) (path source other : List ℕ) → Tells told path (Some source) → Has told path other → source ≡ other
 same_bytes None path source other tells has = absurd tells
 same_bytes (Some files) path source other tells has = let same : Some source ≡ Some other = sym tells ∙ has in cc
 
-told_not_lacking : {A : Type 0} (told : Told) (path source : List ℕ) → Tells told path (Some source) → Lacks told path → A
+pub told_not_lacking : {A : Type 0} (told : Told) (path source : List ℕ) → Tells told path (Some source) → Lacks told path → A
 told_not_lacking None path source tells lacks = absurd tells
 told_not_lacking (Some files) path source tells lacks = let same : Some source ≡ None = sym tells ∙ lacks in cc
 
@@ -49,6 +49,7 @@ refused c (BadSource other fault) is file source named tells outside calm =
     let there : Has c.told file is.1.source = (let P : List ℕ → Type 0 = λ x. Has c.told x is.1.source in subst P here is.1.stands) in
     let same : source ≡ is.1.source = same_bytes c.told file source is.1.source tells there in
     (here, (let P : List ℕ → Type 0 = λ x. IsFault x fault in subst P (sym same) is.1.because))
+refused c (BadObject other fault) is file source named tells outside calm = absurd is
 refused c (Host path true) is file source named tells outside calm =
     told_not_lacking c.told file source tells
     (let P : List ℕ → Type 0 = λ x. Lacks c.told x in subst P (one_file c.words path file is.0 named) is.1)
@@ -57,7 +58,7 @@ refused c (SinkFault out err) is file source named tells outside calm = refused_
 refused c NoMemory is file source named tells outside calm = tt
 
 -- a count that has risen has risen still when it is higher
-risen_further : (before now later : ℕ) → now ≤ later → Rose before now → Rose before later
+pub risen_further : (before now later : ℕ) → now ≤ later → Rose before now → Rose before later
 risen_further before now later up rose = omega arith
 
 -- a told program isn't refused, but for want of memory
@@ -72,6 +73,7 @@ unrefused words told before after (BadSource other fault) program is t calm =
     let there : Has told t.file is.1.source = (let P : List ℕ → Type 0 = λ x. Has told x is.1.source in subst P (one_file words other t.file is.0 t.named) is.1.stands) in
     let same : t.source ≡ is.1.source = same_bytes told t.file t.source is.1.source t.tells there in
     absurd (faulty is.1.source fault is.1.because program (let P : List ℕ → Type 0 = λ x. IsBuilt x program in subst P same t.built))
+unrefused words told before after (BadObject other fault) program is t calm = absurd is
 unrefused words told before after (Host path true) program is t calm =
     told_not_lacking told t.file t.source t.tells
     (let P : List ℕ → Type 0 = λ x. Lacks told x in subst P (one_file words path t.file is.0 t.named) is.1)
@@ -84,6 +86,7 @@ ends c (Broke broken) is program t calm quiet silent = tt
 ends c (Limit quanta) is program t calm quiet silent = tt
 ends c Usage is program t calm quiet silent = subst IsEndUnlessMemory (sym (unrefused c.words c.told c.files_before c.files_after Usage program is t calm)) tt
 ends c (BadSource file fault) is program t calm quiet silent = subst IsEndUnlessMemory (sym (unrefused c.words c.told c.files_before c.files_after (BadSource file fault) program is t calm)) tt
+ends c (BadObject file fault) is program t calm quiet silent = absurd is
 ends c (Host path missing) is program t calm quiet silent = subst IsEndUnlessMemory (sym (unrefused c.words c.told c.files_before c.files_after (Host path missing) program is t calm)) tt
 ends c (SinkFault out err) is program t calm quiet silent =
     elim is.3 [
@@ -99,6 +102,7 @@ later_cause c after (Broke broken) up is = (is.0, (is.1.0, omega (arith, is.1.1)
 later_cause c after (Limit quanta) up is = (is.0, (is.1.0, omega (arith, is.1.1), is.1.2))
 later_cause c after Usage up is = is
 later_cause c after (BadSource file fault) up is = is
+later_cause c after (BadObject file fault) up is = is
 later_cause c after (Host path true) up is = is
 later_cause c after (Host path false) up is = is
 later_cause c after (SinkFault out err) up is = (is.0, is.1, omega arith, is.3)
@@ -119,6 +123,7 @@ run_cause c (Broke broken) program end same = (program, (c.err_after, omega arit
 run_cause c (Limit quanta) program end same = (program, (c.err_after, omega arith, (end.0, (let P : ℕ → Type 0 = λ n. Rose n c.err_after → ⊥ in subst P (sym same) end.1))))
 run_cause c Usage program end same = absurd end
 run_cause c (BadSource other fault) program end same = absurd end
+run_cause c (BadObject other fault) program end same = absurd end
 run_cause c (Host path missing) program end same = absurd end
 run_cause c (SinkFault out err) program end same = (
   program,
@@ -138,6 +143,48 @@ failed c (Broke broken) is program t calm rose = absurd (is.1.2.0 rose)
 failed c (Limit quanta) is program t calm rose = absurd (is.1.2.0 rose)
 failed c Usage is program t calm rose = inr (unrefused c.words c.told c.files_before c.files_after Usage program is t calm)
 failed c (BadSource other fault) is program t calm rose = inr (unrefused c.words c.told c.files_before c.files_after (BadSource other fault) program is t calm)
+failed c (BadObject other fault) is program t calm rose = absurd is
 failed c (Host path missing) is program t calm rose = inr (unrefused c.words c.told c.files_before c.files_after (Host path missing) program is t calm)
 failed c (SinkFault out err) is program t calm rose = inl tt
 failed c NoMemory is program t calm rose = inr refl
+
+-- words that name no file are refused
+pub usage : (c : Course) (cause : Cause) → IsCause c cause → named_file c.words ≡ None → IsUnlessMemory cause Usage
+usage c Done is none = no_file c.words is.0.file none is.0.accepted.named
+usage c (Broke broken) is none = no_file c.words is.0.file none is.0.accepted.named
+usage c (Limit quanta) is none = no_file c.words is.0.file none is.0.accepted.named
+usage c (SinkFault out err) is none = no_file c.words is.0.file none is.0.accepted.named
+usage c Usage is none = inl refl
+usage c (BadSource file fault) is none = no_file c.words file none is.0
+usage c (BadObject file fault) is none = absurd is
+usage c (Host path true) is none = no_file c.words path none is.0
+usage c (Host path false) is none = no_file c.words path none is.0
+usage c NoMemory is none = inr refl
+
+has_not_absent : {A : Type 0} (told : Told) (file source : List ℕ) → Tells told file None → Has told file source → A
+has_not_absent None file source tells has = absurd tells
+has_not_absent (Some files) file source tells has = let same : None ≡ Some source = sym tells ∙ has in cc
+
+program_absent : {A : Type 0} (c : Course) (a : HasProgram c.words c.told) (file : List ℕ) → named_file c.words ≡ Some file
+    → Tells c.told file None → A
+program_absent c a file named tells =
+    has_not_absent c.told file a.accepted.read.source tells
+    (subst (λ (f : List ℕ). Has c.told f a.accepted.read.source) (one_file c.words a.file file a.accepted.named named)
+    a.accepted.read.stands)
+
+-- a file that isn't there is told as missing
+pub missing : (c : Course) (cause : Cause) → IsCause c cause → (file : List ℕ) → named_file c.words ≡ Some file
+    → Tells c.told file None → (Rose c.files_before c.files_after → ⊥) → IsUnlessMemory cause (Host file true)
+missing c Done is file named tells calm = program_absent c is.0 file named tells
+missing c (Broke broken) is file named tells calm = program_absent c is.0 file named tells
+missing c (Limit quanta) is file named tells calm = program_absent c is.0 file named tells
+missing c (SinkFault out err) is file named tells calm = program_absent c is.0 file named tells
+missing c Usage is file named tells calm = no_file c.words file is named
+missing c (BadSource other fault) is file named tells calm =
+    has_not_absent c.told file is.1.source tells
+    (subst (λ (f : List ℕ). Has c.told f is.1.source) (one_file c.words other file is.0 named) is.1.stands)
+missing c (BadObject other fault) is file named tells calm = absurd is
+missing c (Host path true) is file named tells calm =
+    inl (ap (λ (f : List ℕ). Host f true) (one_file c.words path file is.0 named))
+missing c (Host path false) is file named tells calm = absurd (calm is.1)
+missing c NoMemory is file named tells calm = inr refl

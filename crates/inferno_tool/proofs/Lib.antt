@@ -1,5 +1,6 @@
 mod Begins
 mod Causes
+mod Dumped
 mod Exact
 mod Faults
 mod LastName

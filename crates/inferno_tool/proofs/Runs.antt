@@ -23,7 +23,7 @@ use Rattle.inferno_tool.specs.Outcome.{IsAccepted, IsRefusal, IsRunEnd, IsUnrun,
 use Rattle.inferno_tool.specs.Running.{IsCompiled, IsOwnCause, IsOwnEnd, IsRun, IsStarted, NothingRan, Says, quanta_limit}
 use Rattle.inferno_tool.specs.Words.{base_name}
 use Rattle.inferno_tool.specs.declared.cause.Cause.{Cause}
-use Rattle.inferno_tool.specs.declared.cause.Cause.TheVariants.{Done, Broke, Usage, BadSource, Limit, Host, SinkFault, NoMemory}
+use Rattle.inferno_tool.specs.declared.cause.Cause.TheVariants.{Done, Broke, Usage, BadSource, BadObject, Limit, Host, SinkFault, NoMemory}
 
 -- ---- how a run of a program ends
 
@@ -101,6 +101,7 @@ lasted t how (SinkFault out err) says e = says
 lasted t how NoMemory says e = absurd cc
 lasted t how Usage says e = absurd says
 lasted t how (BadSource file fault) says e = absurd says
+lasted t how (BadObject file fault) says e = absurd says
 lasted t how (Host path missing) says e = absurd says
 
 module _ (path : List ℕ) (m : Module) (objects : List (List ℕ × Object)) (old new : Option (List ℕ)) (before after : ℕ) where
@@ -146,6 +147,7 @@ module _ (path : List ℕ) (m : Module) (objects : List (List ℕ × Object)) (o
   says_unrun t how NoMemory says un = absurd un
   says_unrun t how Usage says un = absurd says
   says_unrun t how (BadSource file fault) says un = absurd says
+  says_unrun t how (BadObject file fault) says un = absurd says
   says_unrun t how (Host path missing) says un = absurd says
 
   run_not_unrun : {A : Type 0} (journal : Option Journal) (cause : Cause) → IsRun path m journal objects old new before after cause → IsUnrun cause → A
@@ -165,6 +167,7 @@ end_of_run before after err (Limit quanta) own a b = (a, b)
 end_of_run before after err NoMemory own a b = tt
 end_of_run before after err Usage own a b = absurd own
 end_of_run before after err (BadSource file fault) own a b = absurd own
+end_of_run before after err (BadObject file fault) own a b = absurd own
 end_of_run before after err (Host path missing) own a b = absurd own
 end_of_run before after err (SinkFault o e) own a b = absurd own
 
@@ -175,6 +178,7 @@ lacking_end before after err (Broke broken) e = absurd cc
 lacking_end before after err (Limit quanta) e = absurd cc
 lacking_end before after err Usage e = absurd cc
 lacking_end before after err (BadSource file fault) e = absurd cc
+lacking_end before after err (BadObject file fault) e = absurd cc
 lacking_end before after err (Host path missing) e = absurd cc
 lacking_end before after err (SinkFault o f) e = absurd cc
 
@@ -199,6 +203,7 @@ module _ (words : List (List ℕ)) (told : Told) (journal : Option Journal) (obj
   refused_out NoMemory is out = absurd cc
   refused_out Usage is out = absurd cc
   refused_out (BadSource file fault) is out = absurd cc
+  refused_out (BadObject file fault) is out = absurd is
   refused_out (Host path missing) is out = absurd cc
 
   pub started : (cause : Cause) → Happened cause → is_run_out cause ≡ true → IsSome journal

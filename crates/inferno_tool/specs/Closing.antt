@@ -1,11 +1,12 @@
 -- How a command ends: its status, and the line that it writes about it.
-use Rattle.std.specs.Prelude.{ℕ, List, [], ◌∷◌, ◌++◌, map, codes, decimal, encode_utf8_all, ◌⊎◌, Option}
+use Rattle.std.specs.Prelude.{ℕ, List, [], ◌∷◌, ◌++◌, map, codes, decimal, encode_utf8_all, ◌⊎◌, Option, None, Some}
 use Rattle.std.specs.Io.KnownBytes.{Appends}
 use Rattle.inf_ports.specs.Outside.{Rose, AppendsPart}
+use Rattle.dis_format.specs.Answers.{refusal_number}
 use Rattle.machine_core.specs.Ends.{Breach}
 use Rattle.machine_core.specs.Kept.{view_broken}
 use Rattle.inferno_tool.specs.declared.cause.Cause.{Cause}
-use Rattle.inferno_tool.specs.declared.cause.Cause.TheVariants.{Done, Broke, Usage, BadSource, Limit, Host, SinkFault, NoMemory}
+use Rattle.inferno_tool.specs.declared.cause.Cause.TheVariants.{Done, Broke, Usage, BadSource, BadObject, Limit, Host, SinkFault, NoMemory}
 use Rattle.inferno_tool.specs.declared.cause.SourceFault.{SourceFault}
 use Rattle.inferno_tool.specs.Faults.{number_of, place_of}
 
@@ -15,6 +16,7 @@ status_of Done = 0
 status_of (Broke broken) = 1
 status_of Usage = 2
 status_of (BadSource file fault) = 3
+status_of (BadObject file fault) = 4
 status_of (Limit quanta) = 6
 status_of (Host path missing) = 7
 status_of (SinkFault out err) = 8
@@ -29,6 +31,11 @@ abbrev pub told : SourceFault → List ℕ
 told fault =
     codes ":" ++ decimal (place_of fault).line ++ codes ":" ++ decimal (place_of fault).col ++ codes ": fault "
     ++ decimal (number_of fault)
+
+-- what stands behind the file of a refused object: the refusal's number and its place
+abbrev pub told_refusal : Option (ℕ × ℕ) → List ℕ
+told_refusal None = []
+told_refusal (Some (number, at)) = codes ": fault " ++ decimal number ++ codes " at " ++ decimal at
 
 -- the line about a process that broke: its number, and with what text
 abbrev pub broken_line : Breach → List ℕ
@@ -45,6 +52,7 @@ closing_line (Broke broken) = broken_lines (map view_broken broken.items)
 closing_line (Limit quanta) = line (codes "limit " ++ decimal quanta)
 closing_line Usage = line (codes "usage")
 closing_line (BadSource file fault) = line (encode_utf8_all file ++ told fault)
+closing_line (BadObject file fault) = line (encode_utf8_all file ++ told_refusal (refusal_number fault))
 closing_line (Host path missing) = line (codes "file " ++ encode_utf8_all path)
 closing_line (SinkFault out err) = line (codes "output failed")
 closing_line NoMemory = line (codes "no memory")

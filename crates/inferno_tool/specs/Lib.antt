@@ -1,5 +1,6 @@
 pub mod Built
 pub mod Closing
+pub mod Dumping
 pub mod Faults
 pub mod Outcome
 pub mod Reading

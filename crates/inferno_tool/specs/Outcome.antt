@@ -10,7 +10,7 @@ use Rattle.inferno_tool.specs.Faults.{IsFault}
 use Rattle.inferno_tool.specs.Running.{IsRun}
 use Rattle.inferno_tool.specs.Words.{named_file}
 use Rattle.inferno_tool.specs.declared.cause.Cause.{Cause}
-use Rattle.inferno_tool.specs.declared.cause.Cause.TheVariants.{Done, Broke, Usage, BadSource, Limit, Host, SinkFault, NoMemory}
+use Rattle.inferno_tool.specs.declared.cause.Cause.TheVariants.{Done, Broke, Usage, BadSource, BadObject, Limit, Host, SinkFault, NoMemory}
 
 -- a command's words, what its files tell, and the counts of faults before and after it
 pub record Course : Type 0 where
@@ -114,6 +114,7 @@ IsEndUnlessMemory _ = ⊥
 abbrev pub IsUnrun : Cause → Type 0
 IsUnrun Usage = Unit {0}
 IsUnrun (BadSource file fault) = Unit {0}
+IsUnrun (BadObject file fault) = Unit {0}
 IsUnrun (Host path missing) = Unit {0}
 IsUnrun _ = ⊥
 

@@ -29,3 +29,8 @@ is_file word = not (is_option word) && nat_le (length (encode_utf8_all (base_nam
 abbrev pub named_file : List (List ℕ) → Option (List ℕ)
 named_file (verb ∷ file ∷ []) = if bytes_eq verb (codes "go") && is_file file then Some file else None
 named_file _ = None
+
+-- the file that the words name, where they are `dump FILE`
+abbrev pub dumped_file : List (List ℕ) → Option (List ℕ)
+dumped_file (verb ∷ file ∷ []) = if bytes_eq verb (codes "dump") && is_file file then Some file else None
+dumped_file _ = None

@@ -4,6 +4,7 @@ ghost use Rattle.inferno_tool.specs.Outcome.{lacks_memory};
 ghost use Rattle.inferno_tool.specs.Faults.{number_of, place_of};
 
 use dis_file::Object;
+use dis_format::FileFault;
 use inf_text::{Span, Text};
 use limbo_lexer::LexFault;
 use limbo_names::Unmet;
@@ -101,6 +102,8 @@ pub enum Cause {
     Usage,
     /// A source was refused.
     BadSource { file: Text, fault: SourceFault },
+    /// The bytes of an object file were refused.
+    BadObject { file: Text, fault: FileFault },
     /// There were as many quanta as the limit, and a process is live.
     Limit { quanta: u64 },
     /// A file could not be read: it is missing, or the read failed.
@@ -121,6 +124,7 @@ impl Cause {
             Cause::Broke { .. } => 1,
             Cause::Usage => 2,
             Cause::BadSource { .. } => 3,
+            Cause::BadObject { .. } => 4,
             Cause::Limit { .. } => 6,
             Cause::Host { .. } => 7,
             Cause::SinkFault { .. } => 8,

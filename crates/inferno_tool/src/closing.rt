@@ -1,8 +1,10 @@
 ghost use Rattle.std.specs.Prelude.{◌≡◌, ◌≤◌, ◌⊎◌, ◌++◌, ◌∷◌, [], map, IfOk, string_bytes, decimal, codes, encode_utf8_all};
 ghost use Rattle.machine_core.specs.Kept.{view_broken};
-ghost use Rattle.inferno_tool.specs.Closing.{line, closing_line, told, broken_line, broken_lines, IsWritten};
+ghost use Rattle.dis_format.specs.Answers.{refusal_number};
+ghost use Rattle.inferno_tool.specs.Closing.{line, closing_line, told, told_refusal, broken_line, broken_lines, IsWritten};
 
 use crate::cause::{Cause, SourceFault};
+use dis_format::FileFault;
 use inf_ports::{Sink, write_whole};
 use inf_text::Text;
 use machine_core::Broken;
@@ -47,6 +49,22 @@ fn told(alloc: Global, fault: SourceFault) -> Result<Vec<u8>, AllocError>
     bytes.extend_from_slice(col.as_bytes())?;
     bytes.extend_from_slice(b": fault ")?;
     bytes.extend_from_slice(number.as_bytes())?;
+    Ok(bytes)
+}
+
+/// What stands behind the file of a refused object: the refusal's number and its place.
+fn told_refusal(alloc: Global, fault: FileFault) -> Result<Vec<u8>, AllocError>
+    ensures { IfOk result (λ bytes. bytes.items ≡ told_refusal (refusal_number fault)) }
+{
+    let Some((number, at)) = fault.number() else {
+        return Ok(Vec::new(alloc));
+    };
+    let number = digits(alloc, u64::from(number))?;
+    let at = digits(alloc, at as u64)?;
+    let mut bytes = Vec::from_slice(alloc, b": fault ")?;
+    bytes.extend_from_slice(number.as_bytes())?;
+    bytes.extend_from_slice(b" at ")?;
+    bytes.extend_from_slice(at.as_bytes())?;
     Ok(bytes)
 }
 
@@ -95,6 +113,10 @@ fn closing_line(alloc: Global, cause: &Cause) -> Result<Vec<u8>, AllocError>
         Cause::Usage => Vec::from_slice(alloc, b"inferno: usage\n"),
         Cause::BadSource { file, fault } => {
             let told = told(alloc, *fault)?;
+            line_with(alloc, b"", file, told.as_slice())
+        }
+        Cause::BadObject { file, fault } => {
+            let told = told_refusal(alloc, *fault)?;
             line_with(alloc, b"", file, told.as_slice())
         }
         Cause::Host { path, .. } => line_with(alloc, b"file ", path, b""),

@@ -1,8 +1,8 @@
-//! The command `inferno`: it compiles Limbo to Dis objects and runs them.
+//! The command `inferno`: it compiles Limbo to Dis objects and runs them, and lists objects.
 //!
 //! One public call, `inferno` in `top`, does all that the program does, over words, a tree of files and two sinks; its
 //! contract cites `specs/Running.antt` (what a run is, and what it means), `specs/Outcome.antt` (where each cause comes),
-//! `specs/Closing.antt` (the status and the closing lines), `specs/Built.antt` (which programs are built) and
+//! `specs/Dumping.antt` (what a dump leaves), `specs/Closing.antt` (the status and the closing lines), `specs/Built.antt` (which programs are built) and
 //! `specs/Faults.antt` (why a source is refused). `main` hands it the real files and streams.
 #![tactic(auto)]
 
@@ -12,6 +12,7 @@ ghost use Rattle.std.specs.Vec.Iter.{into_iter_items};
 
 mod cause;
 mod closing;
+mod dumping;
 mod reading;
 mod running;
 #[cfg(test)]

@@ -177,7 +177,7 @@ fn read_built(alloc: Global, source: &[u8]) -> Result<Object, ReadFault>
 }
 
 /// The file at the path could not be read.
-fn unread(path: &Text, missing: bool) -> Cause
+pub fn unread(path: &Text, missing: bool) -> Cause
     ensures { (result ≡ Cause.Host path.now missing) ⊎ (result ≡ Cause.NoMemory) }
 {
     match path.clone() {

@@ -36,6 +36,38 @@ init(nil: ref Draw->Context, nil: list of string)
 }
 ";
 
+/// The smallest object, in hexadecimal: the module T, whose only instruction is `exit`.
+const SMALLEST: &str = "c00c803000000100010000000f1b000000005400";
+
+/// The same bytes.
+const SMALLEST_BYTES: &[u8] =
+    b"\xC0\x0C\x80\x30\x00\x00\x01\x00\x01\x00\x00\x00\x0F\x1B\x00\x00\x00\x00T\x00";
+
+/// What is listed of it.
+const LISTING: &str = "module T
+flags 0 stack 0 entry 0 type 0
+code 1
+0 exit
+types 1
+0 size 0 map -
+data 0
+links 0
+";
+
+/// Changes of these bytes, each with what it is told to be.
+const NO_OBJECTS: &str = "\
+c00c803000000100010000000f1b00000000540000 88 at 20
+c00c803000000100010000000f 80 at 13
+c00c803000000100010000000f1b0000000054 80 at 18
+c00e172200000100010000000f1b000000005400 82 at 0
+0000000000000100010000000f1b000000005400 81 at 0
+c00c803001000100010000000f1b000000005400 89 at 4
+c00c80300000010001000000a01b000000005400 84 at 12
+c00c803000000100010000000f33000000005400 83 at 13
+c00c803000000100010000000f1b010000005400 85 at 14
+c00c803000000100010000000f1b000000905400 86 at 17
+";
+
 /// Several prints, with each escape, a comment and one line for all.
 const SEVERAL: &[u8] = b"implement S; include \"sys.m\"; sys: Sys; include \"draw.m\"; # names
 S: module { init: fn(c: ref Draw->Context, nil: list of string); };
@@ -196,6 +228,24 @@ fn rows(rt: HostRuntime) -> Result<(), Fail> {
             ..Row::of(IDLE, 7, b"", b"inferno: file hello.b\n")
         },
         Row {
+            words: &["dump", "none.dis"],
+            ..Row::of(IDLE, 7, b"", b"inferno: file none.dis\n")
+        },
+        Row {
+            words: &["dump", "hello.b"],
+            files_fail: Some(0),
+            ..Row::of(SMALLEST_BYTES, 7, b"", b"inferno: file hello.b\n")
+        },
+        Row {
+            words: &["dump", "hello.b"],
+            room: 5,
+            ..Row::of(SMALLEST_BYTES, 8, b"modul", b"inferno: output failed\n")
+        },
+        Row {
+            words: &["dump"],
+            ..usage()
+        },
+        Row {
             words: &[],
             ..usage()
         },
@@ -272,6 +322,36 @@ fn programs(rt: HostRuntime) -> Result<(), Fail> {
         assert_eq!(rt; ended.status, status);
         assert_eq!(rt; printed.as_slice(), out.as_bytes());
         assert_eq!(rt; lines.as_slice(), err.as_bytes());
+    }
+    Ok(())
+}
+
+/// Runs `dump hello.b` over the bytes with these digits, and answers its status and what was written on `out` and `err`.
+fn dump(alloc: Global, digits: &str) -> Result<(u8, MemSink, MemSink), Fail> {
+    let bytes = hex::decode(alloc, digits)?;
+    let words = vec![in alloc; text(alloc, "dump")?, text(alloc, "hello.b")?]?;
+    let mut files = tree(alloc, bytes.as_slice(), None)?;
+    let mut out = MemSink::new(alloc, 100, Vec::new(alloc))?;
+    let mut err = MemSink::new(alloc, 100, Vec::new(alloc))?;
+    let ended = inferno(alloc, &words, &mut files, &mut out, &mut err);
+    Ok((ended.status, out, err))
+}
+
+/// The smallest object is listed, and changes of its bytes are refused with the first faulty field and its place.
+#[test]
+fn dumps(rt: HostRuntime) -> Result<(), Fail> {
+    let alloc = rt.alloc();
+    let (status, out, err) = dump(alloc, SMALLEST)?;
+    assert_eq!(rt; status, 0);
+    assert_eq!(rt; out.as_slice(), LISTING.as_bytes());
+    assert_eq!(rt; err.as_slice(), b"".as_slice());
+    for row in NO_OBJECTS.lines() {
+        let (digits, told) = row.split_once(' ').ok_or("a row without a blank")?;
+        let (status, out, err) = dump(alloc, digits)?;
+        let wanted = format!(in alloc; "inferno: hello.b: fault {told}\n")?;
+        assert_eq!(rt; status, 4, "{row}");
+        assert_eq!(rt; out.as_slice(), b"".as_slice());
+        assert_eq!(rt; err.as_slice(), wanted.as_bytes());
     }
     Ok(())
 }

@@ -2,16 +2,21 @@ ghost use Rattle.std.specs.Prelude.{◌≡◌, ◌≤◌, ◌⊎◌, ℕ, List, 
 ghost use Rattle.inf_ports.specs.Outside.{Rose};
 ghost use Rattle.limbo_typed.specs.Typed.{Module};
 ghost use Rattle.inferno_tool.specs.Built.{IsBuilt};
+ghost use Rattle.dis_file.specs.declared.object.Object.{Object as AnyObject};
+ghost use Rattle.dis_format.specs.Objects.{Spells};
+ghost use Rattle.inferno_tool.specs.Dumping.{HasDumped, TellsObject, IsListing, IsObjectRefusal};
 ghost use Rattle.inferno_tool.specs.Closing.{status_of, closing_line, IsWritten};
 ghost use Rattle.inferno_tool.specs.Outcome.{Course, HasRun, IsAccepted, IsRefusal, IsCause, IsRunEnd, IsSinkFault, IsUnrun, is_run_out, IsSourceRefusal, IsEndUnlessMemory, Tells, TellsProgram, IsUnlessMemory};
 ghost use Rattle.inferno_tool.specs.Running.{IsCompiled, IsRun, NothingRan};
-ghost use Rattle.inferno_tool.specs.Words.{named_file};
+ghost use Rattle.inferno_tool.specs.Words.{named_file, dumped_file};
 
 use crate::cause::{Cause, Ended, Left};
 use crate::closing::close;
+use crate::dumping::dump_cause;
 use crate::reading::read_source;
 use crate::running::{has_risen, run_program};
-use crate::words::named_file;
+use crate::words::{dumped_file, named_file};
+use dis_dump::dump_file;
 use dis_file::Object;
 use inf_ports::{HostTree, Sink};
 use inf_text::Text;
@@ -70,8 +75,8 @@ fn carry_out<K: Sink, E: Sink>(
     (cause, left)
 }
 
-/// Does the command's work, up to the lines about its end.
-fn decide<H: HostTree, K: Sink, E: Sink>(
+/// Compiles the file that the words name and runs it, up to the lines about the end.
+fn compile_and_run<H: HostTree, K: Sink, E: Sink>(
     alloc: Global,
     words: &[Text],
     files: &mut H,
@@ -107,10 +112,78 @@ fn decide<H: HostTree, K: Sink, E: Sink>(
     }
 }
 
+/// Lists the object in the file at the path, up to the line about the end.
+fn dump<H: HostTree, K: Sink, E: Sink>(
+    alloc: Global,
+    path: &Text,
+    files: &mut H,
+    out: &mut K,
+    err: &E,
+) -> (Cause, Left)
+    ensures dumped { HasDumped (H.told files.old) path.now (H.faults files.old) (H.faults files.new) (record {
+      old = K.held out.old;
+      new = K.held out.new;
+      out_before = K.faults out.old;
+      out_after = K.faults out.new;
+      err_before = E.faults err.now;
+      err_after = E.faults err.now;
+    }) result.1.journal result.1.objects.items result.0 }
+    ensures kept { H.told files.new ≡ H.told files.old }
+    ensures later { (H.faults files.old ≤ H.faults files.new) × (K.faults out.old ≤ K.faults out.new) }
+{
+    let end = dump_file(alloc, path, files, out, err);
+    let left = Left {
+        journal: None,
+        objects: Vec::new(alloc),
+    };
+    (dump_cause(path, end), left)
+}
+
+/// Does the command's work, up to the lines about its end.
+fn decide<H: HostTree, K: Sink, E: Sink>(
+    alloc: Global,
+    words: &[Text],
+    files: &mut H,
+    out: &mut K,
+    err: &E,
+) -> (Cause, Left)
+    ensures cause { dumped_file words.now ≡ None → IsCause (record {
+      words = words.now;
+      told = H.told files.old;
+      files_before = H.faults files.old;
+      files_after = H.faults files.new;
+      out_before = K.faults out.old;
+      out_after = K.faults out.new;
+      err_before = E.faults err.now;
+      err_after = E.faults err.now;
+    }) result.0 }
+    ensures ran { dumped_file words.now ≡ None → HasRun words.now (H.told files.old) result.1.journal result.1.objects.items
+        (K.held out.old) (K.held out.new) (K.faults out.old) (K.faults out.new) result.0
+        ⊎ (NothingRan result.1.journal result.1.objects.items (K.held out.old) (K.held out.new)
+        × IsRefusal words.now (H.told files.old) (H.faults files.old) (H.faults files.new) result.0) }
+    ensures dumped { (file : List ℕ) → dumped_file words.now ≡ Some file
+        → HasDumped (H.told files.old) file (H.faults files.old) (H.faults files.new) (record {
+          old = K.held out.old;
+          new = K.held out.new;
+          out_before = K.faults out.old;
+          out_after = K.faults out.new;
+          err_before = E.faults err.now;
+          err_after = E.faults err.now;
+        }) result.1.journal result.1.objects.items result.0 }
+    ensures kept { H.told files.new ≡ H.told files.old }
+    ensures later { (H.faults files.old ≤ H.faults files.new) × (K.faults out.old ≤ K.faults out.new) }
+{
+    match dumped_file(words) {
+        Some(path) => dump(alloc, path, files, out, err),
+        None => compile_and_run(alloc, words, files, out, err),
+    }
+}
+
 /// Carries out the command that the words ask for, and tells on `err` how it ended.
 ///
-/// The words are exactly `go FILE`, which compiles the file and runs it. `files` gives the source, `out` takes what the
-/// program prints, and `err` the closing lines. The status is the cause's number.
+/// The words are exactly `go FILE`, which compiles the file and runs it, or `dump FILE`, which lists the object in the
+/// file. `files` gives the source or the object, `out` takes what the program prints or the listing, and `err` the
+/// closing lines. The status is the cause's number.
 pub fn inferno<H: HostTree, K: Sink, E: Sink>(
     alloc: Global,
     words: &[Text],
@@ -121,16 +194,16 @@ pub fn inferno<H: HostTree, K: Sink, E: Sink>(
     ensures status { result.status ≡ status_of result.cause }
     ensures closing { IsWritten (E.held err.old) (E.held err.new) (E.faults err.old) (E.faults err.new) (closing_line result.cause) }
 
-    // What happened: a program that the words name was run, and the requests and the bytes on `out` are those of a run of its
-    // source's meaning, under the replies that came, for the journal that is answered; how it ended is what the cause says. Or
-    // nothing was run, and nothing written.
-    ensures ran { HasRun words.now (H.told files.old) result.journal result.objects.items
+    // What happened, where the words aren't `dump FILE`: a program that the words name was run, and the requests and the
+    // bytes on `out` are those of a run of its source's meaning, under the replies that came, for the journal that is
+    // answered; how it ended is what the cause says. Or nothing was run, and nothing written.
+    ensures ran { dumped_file words.now ≡ None → HasRun words.now (H.told files.old) result.journal result.objects.items
         (K.held out.old) (K.held out.new) (K.faults out.old) (K.faults out.new) result.cause
         ⊎ (NothingRan result.journal result.objects.items (K.held out.old) (K.held out.new)
         × IsRefusal words.now (H.told files.old) (H.faults files.old) (H.faults files.new) result.cause) }
 
-    // Where each cause comes.
-    ensures cause { IsCause (record {
+    // Where each cause comes then.
+    ensures cause { dumped_file words.now ≡ None → IsCause (record {
       words = words.now;
       told = H.told files.old;
       files_before = H.faults files.old;
@@ -141,9 +214,9 @@ pub fn inferno<H: HostTree, K: Sink, E: Sink>(
       err_after = E.faults err.new;
     }) result.cause }
 
-    // Other words than `go FILE` are always refused, and so is a file that isn't there, and a source that isn't a program
-    // of the built part, with a refusal that it has.
-    ensures usage { named_file words.now ≡ None → IsUnlessMemory result.cause Cause.Usage }
+    // Other words than `go FILE` and `dump FILE` are always refused, and so is a file that isn't there, and a source that
+    // isn't a program of the built part, with a refusal that it has.
+    ensures usage { dumped_file words.now ≡ None → named_file words.now ≡ None → IsUnlessMemory result.cause Cause.Usage }
     ensures missing { (file : List ℕ) → named_file words.now ≡ Some file → Tells (H.told files.old) file None
         → (Rose (H.faults files.old) (H.faults files.new) → ⊥) → IsUnlessMemory result.cause (Cause.Host file true) }
     ensures refused { (file source : List ℕ) → named_file words.now ≡ Some file → Tells (H.told files.old) file (Some source)
@@ -161,13 +234,49 @@ pub fn inferno<H: HostTree, K: Sink, E: Sink>(
         → (Rose (H.faults files.old) (H.faults files.new) → ⊥)
         → IsRun t.file m result.journal result.objects.items
         (K.held out.old) (K.held out.new) (K.faults out.old) (K.faults out.new) result.cause }
-    ensures started { is_run_out result.cause ≡ true → IsSome result.journal }
+    ensures started { dumped_file words.now ≡ None → is_run_out result.cause ≡ true → IsSome result.journal }
     ensures quiet { IsUnrun result.cause → NothingRan result.journal result.objects.items (K.held out.old) (K.held out.new) }
 
     // A write of output that failed is told, unless memory ran out.
     ensures failed { (m : Module) → TellsProgram words.now (H.told files.old) m
         → (Rose (H.faults files.old) (H.faults files.new) → ⊥) → Rose (K.faults out.old) (K.faults out.new)
         → IsSinkFault result.cause ⊎ (result.cause ≡ Cause.NoMemory) }
+
+    // What `dump FILE` does: it writes the listing of the object that the file's bytes spell, or a first part of it where a
+    // count of `out` rose; or nothing, as the file isn't there, can't be read, or has bytes that spell no object.
+    ensures dumped { (file : List ℕ) → dumped_file words.now ≡ Some file
+        → HasDumped (H.told files.old) file (H.faults files.old) (H.faults files.new) (record {
+          old = K.held out.old;
+          new = K.held out.new;
+          out_before = K.faults out.old;
+          out_after = K.faults out.new;
+          err_before = E.faults err.old;
+          err_after = E.faults err.new;
+        }) result.journal result.objects.items result.cause }
+
+    // An object that is told is listed, and to the end unless a count rises or memory runs out. Bytes that spell none are
+    // refused with the fault of their first faulty field, and a file that isn't there as missing.
+    ensures listed { (file : List ℕ) (o : AnyObject) → dumped_file words.now ≡ Some file → TellsObject (H.told files.old) file o
+        → (Rose (H.faults files.old) (H.faults files.new) → ⊥)
+        → IsListing file o (record {
+          old = K.held out.old;
+          new = K.held out.new;
+          out_before = K.faults out.old;
+          out_after = K.faults out.new;
+          err_before = E.faults err.old;
+          err_after = E.faults err.new;
+        }) result.cause }
+    ensures shown { (file : List ℕ) (o : AnyObject) → dumped_file words.now ≡ Some file → TellsObject (H.told files.old) file o
+        → (Rose (H.faults files.old) (H.faults files.new) → ⊥)
+        → (Rose (K.faults out.old) (K.faults out.new) → ⊥)
+        → (Rose (E.faults err.old) (E.faults err.new) → ⊥)
+        → IsUnlessMemory result.cause Cause.Done }
+    ensures unspelled { (file bytes : List ℕ) → dumped_file words.now ≡ Some file → Tells (H.told files.old) file (Some bytes)
+        → ((o : AnyObject) → Spells o bytes → ⊥)
+        → (Rose (H.faults files.old) (H.faults files.new) → ⊥)
+        → IsObjectRefusal file bytes result.cause }
+    ensures absent { (file : List ℕ) → dumped_file words.now ≡ Some file → Tells (H.told files.old) file None
+        → (Rose (H.faults files.old) (H.faults files.new) → ⊥) → IsUnlessMemory result.cause (Cause.Host file true) }
 
     // What stands afterwards.
     ensures kept { H.told files.new ≡ H.told files.old }

@@ -1,5 +1,5 @@
 ghost use Rattle.std.specs.Prelude.{◌≡◌, ◌≤◌, ◌↔◌, length, IsTrue, IfOk, encode_utf8_all, option_map};
-ghost use Rattle.inferno_tool.specs.Words.{last_name, without_ending, base_name, is_option, is_file, named_file};
+ghost use Rattle.inferno_tool.specs.Words.{last_name, without_ending, base_name, is_option, is_file, named_file, dumped_file};
 
 use inf_text::Text;
 use std::alloc::{AllocError, Global};
@@ -68,6 +68,18 @@ pub fn named_file(words: &[Text]) -> Option<&Text>
 {
     match words {
         [verb, file] if verb.as_slice() == ['g', 'o'].as_slice() && is_file(file.as_slice()) =>
+            Some(file),
+        _ => None,
+    }
+}
+
+/// The file that the words name, where they are `dump FILE`.
+pub fn dumped_file(words: &[Text]) -> Option<&Text>
+    ensures { option_map (λ t. t.now) result ≡ dumped_file words.now }
+{
+    match words {
+        [verb, file]
+            if verb.as_slice() == ['d', 'u', 'm', 'p'].as_slice() && is_file(file.as_slice()) =>
             Some(file),
         _ => None,
     }

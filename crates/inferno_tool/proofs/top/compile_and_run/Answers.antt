@@ -1,6 +1,6 @@
 use Rattle.std.proofs.Common.{refl, inl}
 use Rattle.inferno_tool.proofs.Exact.{run_cause}
-use Rattle.inferno_tool.proofs.top.decide.Goals as goal
+use Rattle.inferno_tool.proofs.top.compile_and_run.Goals as goal
 
 pub returns-in-Ok-clause-cause : goal.returns-in-Ok-clause-cause
 returns-in-Ok-clause-cause g c =

@@ -1,0 +1,4 @@
+mod Lines
+mod Listed
+mod Opcodes
+mod Plain

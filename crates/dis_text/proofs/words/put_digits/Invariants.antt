@@ -1,0 +1,8 @@
+use Rattle.std.proofs.Common.{◌≡◌, ◌++◌, drop}
+use Rattle.std.specs.List.{flat_map}
+use Rattle.dis_text.specs.Listing.{hex_byte}
+use Rattle.dis_text.proofs.words.put_digits.Given as goal
+
+abbrev pub invariant-loop-byte : goal.invariant-loop-byte
+invariant-loop-byte l = l.out.items ++ flat_map hex_byte (drop l.byte-index l.bytes)
+    ≡ l.fn.out.items ++ flat_map hex_byte l.bytes
