@@ -5,14 +5,16 @@
 //! is a slice of a slice (`specs/Arrays.antt`). A cell of a list has a reference word with the rest, and then the words of
 //! its element (`specs/Lists.antt`). Each call is told as the operation on the lists that the blocks stand for.
 //!
-//! Read `texts`, `arrays`, `lists`.
+//! Read `texts`, `conversions` (numbers as strings and back, by the definitions of `limbo_values`), `arrays`, `lists`.
 #![tactic(auto)]
 
 mod arrays;
+mod conversions;
 mod lists;
 mod texts;
 
 pub use arrays::{Span, array_len, element, new_array, part, slice};
+pub use conversions::{number_in_text, text_of_number};
 pub use lists::{cons, head, tail};
 pub use texts::{
     append, character, code_at, codes, compare_texts, join, new_text, set_code, sub_text, text_len,
