@@ -10,8 +10,8 @@ use Rattle.std.proofs.lemmas.Nat.{from_be_bytes-to_be_bytes_4}
 use Rattle.std.proofs.lemmas.Str.{is_utf8-from_IsUtf8, chars_from_encodes}
 use Rattle.dis_file.specs.declared.object.Item.{Item}
 use Rattle.dis_file.specs.declared.types.TypeDesc.{TypeDesc}
-use Rattle.limbo_typed.specs.Typed as typed
-use Rattle.limbo_typed.specs.Proper.{IsProper}
+use Rattle.limbo_small.specs.Typed as typed
+use Rattle.limbo_small.specs.Proper.{IsProper}
 use Rattle.core_code.specs.Code as core
 use Rattle.core_code.specs.Code.{Inst, Function, Module}
 use Rattle.core_code.specs.Proper.{ProperInst, AreInts}

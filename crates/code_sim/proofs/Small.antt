@@ -3,9 +3,9 @@ use Rattle.std.proofs.Common.{◌≡◌, ℕ, suc, ◌<◌, ◌≤◌, Bool, tru
 use Rattle.std.specs.Prelude.{slice_get, nat_lt}
 use Rattle.std.specs.Option.{option_map}
 use Rattle.std.proofs.lemmas.Option.{slice_get-map}
-use Rattle.limbo_typed.specs.Typed as typed
-use Rattle.limbo_typed.specs.Typed.{Module}
-use Rattle.limbo_typed.specs.Proper.{IsProper}
+use Rattle.limbo_small.specs.Typed as typed
+use Rattle.limbo_small.specs.Typed.{Module}
+use Rattle.limbo_small.specs.Proper.{IsProper}
 use Rattle.core_code.specs.Code.{Function}
 use Rattle.limbo_lower.specs.Code.{function_code, module_code}
 use Rattle.limbo_lower.specs.Sizes.{frame_size, FrameTooLarge}

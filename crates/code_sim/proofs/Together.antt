@@ -10,8 +10,8 @@ use Rattle.process_model.proofs.Journals.{every_journal}
 use Rattle.process_model.proofs.NoHeap.{trace_equal}
 use Rattle.process_model.proofs.Unshared.{plain_shared}
 use Rattle.process_model.proofs.Passes.{passes_compose}
-use Rattle.limbo_typed.specs.Typed.{Module}
-use Rattle.limbo_typed.specs.Proper.{IsProper}
+use Rattle.limbo_small.specs.Typed.{Module}
+use Rattle.limbo_small.specs.Proper.{IsProper}
 use Rattle.system_model.specs.Values.{Value}
 use Rattle.system_model.specs.World as outside
 use Rattle.system_model.specs.World.{opening_world}

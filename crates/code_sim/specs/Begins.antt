@@ -1,6 +1,6 @@
 -- What a machine of a module's object begins with.
 use Rattle.std.specs.Prelude.{◌≡◌, Some}
-use Rattle.limbo_typed.specs.Typed.{Module}
+use Rattle.limbo_small.specs.Typed.{Module}
 use Rattle.limbo_lower.specs.Code.{module_code}
 use Rattle.dis_meaning.specs.Opening.{Opened, opened}
 use Rattle.dis_codegen.specs.Start.{opening, first_process}

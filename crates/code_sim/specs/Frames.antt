@@ -2,7 +2,7 @@
 use Rattle.std.specs.Prelude.{ℕ, suc, ◌≡◌, ◌≤◌, Some, slice_get}
 use Rattle.dis_file.specs.declared.types.TypeDesc.{TypeDesc}
 use Rattle.dis_file.specs.declared.object.Object.{Object}
-use Rattle.limbo_typed.specs.Typed.{Function, Module}
+use Rattle.limbo_small.specs.Typed.{Function, Module}
 use Rattle.limbo_lower.specs.Sizes.{frame_size}
 use Rattle.code_sim.specs.Keeps.{object_for}
 

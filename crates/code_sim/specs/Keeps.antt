@@ -10,7 +10,7 @@ use Rattle.process_model.specs.Law.{Paced, makers, instructions, begins_code}
 use Rattle.process_model.specs.Plain.{no_names}
 use Rattle.process_model.specs.Passes.{unshared, through}
 use Rattle.dis_file.specs.declared.object.Object.{Object}
-use Rattle.limbo_typed.specs.Typed.{Module}
+use Rattle.limbo_small.specs.Typed.{Module}
 use Rattle.system_model.specs.Values.{Value}
 use Rattle.system_model.specs.World as outside
 use Rattle.system_model.specs.World.{opening_world}

@@ -1,6 +1,6 @@
 -- Three-address code, as plain data.
 use Rattle.std.specs.Prelude.{ℕ, ℤ, Bool, List, map}
-use Rattle.limbo_typed.specs.Typed.{Operator, Piece}
+use Rattle.limbo_small.specs.Typed.{Operator, Piece}
 
 -- An instruction; slots are numbers.
 pub data Inst : Type 0 where

@@ -1,7 +1,7 @@
 -- One process of three-address code: its frames, and what becomes of them at a call, at a return and at a print.
 use Rattle.std.specs.Prelude.{ℕ, zero, suc, List, [], ◌∷◌, length, Option, Some, None, slice_index_or, nat_eq, nat_lt, codes, if◌then◌else◌}
 use Rattle.process_model.specs.Process.{Effect, Went, Parks, Asks, Ends}
-use Rattle.limbo_typed.specs.Typed.{Piece}
+use Rattle.limbo_small.specs.Typed.{Piece}
 use Rattle.system_model.specs.Values.{Value, zero_value}
 use Rattle.system_model.specs.World.{World}
 use Rattle.system_model.specs.Prints.{Request, Writing, Printing, Answers, Requests, NoReply}

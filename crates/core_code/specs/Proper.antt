@@ -3,7 +3,7 @@
 -- arguments than the print has, and nowhere else.
 use Rattle.std.specs.Prelude.{ℕ, suc, ℤ, ◌+◌, ◌-◌, ◌<◌, ◌≤◌, ◌≡◌, Bool, true, false, List, length, Option, Some, None, slice_get, slice_index_or, FitsSigned}
 use Rattle.std.specs.Int.{w32}
-use Rattle.limbo_typed.specs.Proper.{holes}
+use Rattle.limbo_small.specs.Proper.{holes}
 use Rattle.core_code.specs.Code.{Inst, Set, Move, Operate, Unless, Jump, Back, Call, Format, Print, Return, Leave, Function, Module}
 
 -- A slot of a function, and an int.

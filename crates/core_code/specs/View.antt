@@ -1,6 +1,6 @@
 -- The code's data, without how they lie in memory.
 use Rattle.std.specs.Prelude.{map}
-use Rattle.limbo_typed.specs.View.{view_op, view_piece}
+use Rattle.limbo_small.specs.View.{view_op, view_piece}
 use Rattle.core_code.specs.declared.code.CoreInst as code_inst
 use Rattle.core_code.specs.declared.code.CoreInst.TheVariants as inst
 use Rattle.core_code.specs.declared.code.CoreFn as code_fn

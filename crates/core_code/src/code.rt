@@ -1,5 +1,5 @@
 use inf_text::Text;
-use limbo_typed::{BinaryOp, Piece};
+use limbo_small::{BinaryOp, Piece};
 
 /// An instruction. Slots are numbers from 0 on, of the frame that runs.
 #[derive(Drop)]

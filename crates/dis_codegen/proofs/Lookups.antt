@@ -5,7 +5,7 @@ use Rattle.std.specs.Str.{bytes_eq}
 use Rattle.dis_isa.specs.declared.inst.Middle.TheVariants as middle
 use Rattle.dis_isa.specs.declared.inst.Operand.TheVariants as operand
 use Rattle.dis_isa.specs.declared.op.Op.TheVariants as op
-use Rattle.limbo_typed.specs.Typed.{Operator, Add, Subtract, Multiply, Less, Equal}
+use Rattle.limbo_small.specs.Typed.{Operator, Add, Subtract, Multiply, Less, Equal}
 use Rattle.core_code.specs.Code as core
 use Rattle.core_code.specs.Code.{Inst, Function, Module}
 use Rattle.dis_codegen.specs.Code.{Code, Datum, all_data, data_of, moved_size, operation_size, size, sizes, arguments, operate, answer_to, inst, slot, sys_word, Context, place, inst_code, insts_code}

@@ -8,7 +8,7 @@ use Rattle.dis_isa.specs.declared.inst.Middle.TheVariants as middle
 use Rattle.dis_isa.specs.declared.inst.Operand.TheVariants as operand
 use Rattle.dis_isa.specs.declared.op.Op.{Op}
 use Rattle.dis_isa.specs.declared.op.Op.TheVariants as op
-use Rattle.limbo_typed.specs.Typed.{Operator, Add, Subtract, Multiply, Less, Equal}
+use Rattle.limbo_small.specs.Typed.{Operator, Add, Subtract, Multiply, Less, Equal}
 use Rattle.system_model.specs.Values.{Value, Num, truth, result_of}
 use Rattle.system_model.specs.World as outside
 use Rattle.system_model.specs.Limits.{frames_limit}

@@ -6,8 +6,8 @@ use Rattle.std.proofs.lemmas.List.{length-map}
 use Rattle.dis_isa.specs.declared.inst.Middle.TheVariants as middle
 use Rattle.dis_isa.specs.declared.inst.Operand.TheVariants as operand
 use Rattle.dis_isa.specs.declared.op.Op.TheVariants as op
-use Rattle.limbo_typed.specs.Typed.{Piece}
-use Rattle.limbo_typed.specs.Proper.{holes}
+use Rattle.limbo_small.specs.Typed.{Piece}
+use Rattle.limbo_small.specs.Proper.{holes}
 use Rattle.system_model.specs.Values.{Value}
 use Rattle.system_model.specs.World as outside
 use Rattle.system_model.specs.Prints.{Printing, Answers, Requests, NoReply, text_of, print}

@@ -8,7 +8,7 @@ use Rattle.process_model.specs.Plain.{no_names}
 use Rattle.process_model.proofs.Quiet.{quiets_none}
 use Rattle.process_model.specs.Follows.{Moves}
 use Rattle.dis_isa.specs.declared.inst.Inst as code_inst
-use Rattle.limbo_typed.specs.Typed.{Piece}
+use Rattle.limbo_small.specs.Typed.{Piece}
 use Rattle.system_model.specs.Values.{Value}
 use Rattle.system_model.specs.World as outside
 use Rattle.system_model.specs.Prints.{Writing, Request}

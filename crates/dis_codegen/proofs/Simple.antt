@@ -10,7 +10,7 @@ use Rattle.dis_isa.specs.declared.inst.Inst as code_inst
 use Rattle.dis_isa.specs.declared.inst.Middle.TheVariants as middle
 use Rattle.dis_isa.specs.declared.inst.Operand.{Operand}
 use Rattle.dis_isa.specs.declared.op.Op.TheVariants as op
-use Rattle.limbo_typed.specs.Typed.{Operator, Add, Subtract, Multiply, Less, Equal}
+use Rattle.limbo_small.specs.Typed.{Operator, Add, Subtract, Multiply, Less, Equal}
 use Rattle.system_model.specs.Values.{Value, Num, holds}
 use Rattle.system_model.specs.World as outside
 use Rattle.system_model.specs.Limits.{frames_limit}

@@ -3,8 +3,8 @@ use Rattle.std.proofs.Common.{◌≡◌, ℕ, zero, suc, ℤ, pos, ◌+◌, ◌-
 use Rattle.std.specs.Fmt.{signed_decimal}
 use Rattle.std.proofs.lemmas.Bool.{eqb-true}
 use Rattle.std.specs.Prelude.{slice_get, slice_set, drop, replicate, ◌==◌}
-use Rattle.limbo_typed.specs.Typed.{Piece, Chars, Decimal}
-use Rattle.limbo_typed.specs.Proper.{holes}
+use Rattle.limbo_small.specs.Typed.{Piece, Chars, Decimal}
+use Rattle.limbo_small.specs.Proper.{holes}
 use Rattle.system_model.specs.Values.{Value, Num}
 use Rattle.system_model.specs.Prints.{decimal_text, text_of}
 use Rattle.core_code.specs.Code as core

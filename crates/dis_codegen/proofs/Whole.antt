@@ -7,7 +7,7 @@ use Rattle.process_model.specs.Follows.{StandsAlike, Follows}
 use Rattle.process_model.proofs.NoHeap.{no_heap}
 use Rattle.system_model.specs.Values.{Value}
 use Rattle.dis_meaning.specs.World.{World}
-use Rattle.limbo_typed.specs.Typed.{Operator, Add, Subtract, Multiply, Less, Equal}
+use Rattle.limbo_small.specs.Typed.{Operator, Add, Subtract, Multiply, Less, Equal}
 use Rattle.core_code.specs.Code as core
 use Rattle.core_code.specs.Code.{Inst, Function, Module}
 use Rattle.core_code.specs.Machine as machine

@@ -2,7 +2,7 @@
 use Rattle.std.proofs.Common.{◌≡◌, ℕ, suc, ◌+◌, ◌*◌, List, [], ◌∷◌, ◌++◌, length, refl, sym, ap, ◌∙◌, arith, append_assoc, length-append}
 use Rattle.std.specs.Prelude.{Some, slice_get}
 use Rattle.dis_file.specs.declared.object.Item.{Item}
-use Rattle.limbo_typed.specs.Typed.{Piece, Chars, Decimal}
+use Rattle.limbo_small.specs.Typed.{Piece, Chars, Decimal}
 use Rattle.core_code.specs.Code as core
 use Rattle.core_code.specs.Code.{Inst, Function}
 use Rattle.dis_codegen.specs.Code.{Datum, format_text}

@@ -7,7 +7,7 @@ use Rattle.dis_isa.specs.declared.inst.Operand.{Operand}
 use Rattle.dis_isa.specs.declared.inst.Operand.TheVariants as operand
 use Rattle.dis_isa.specs.declared.op.Op.{Op}
 use Rattle.dis_isa.specs.declared.op.Op.TheVariants as op
-use Rattle.limbo_typed.specs.Typed.{Operator, Add, Subtract, Multiply, Less, Equal, Piece, Chars, Decimal}
+use Rattle.limbo_small.specs.Typed.{Operator, Add, Subtract, Multiply, Less, Equal, Piece, Chars, Decimal}
 use Rattle.core_code.specs.Code as core
 use Rattle.core_code.specs.Code.{Inst, Function, Module}
 

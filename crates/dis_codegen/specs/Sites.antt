@@ -1,7 +1,7 @@
 -- The tables by which jumps and calls are looked up, and the functions whose code can be made with them.
 use Rattle.std.specs.Prelude.{ℕ, ◌+◌, ◌≤◌, ◌≡◌, List, [], ◌∷◌, length, Some, slice_get, FitsSigned}
 use Rattle.std.specs.Int.{w32}
-use Rattle.limbo_typed.specs.Typed.{Piece, Chars, Decimal}
+use Rattle.limbo_small.specs.Typed.{Piece, Chars, Decimal}
 use Rattle.core_code.specs.Code as core
 use Rattle.core_code.specs.Code.{Inst, Function}
 use Rattle.core_code.specs.Proper.{ProperFunction}

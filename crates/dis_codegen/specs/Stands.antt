@@ -4,8 +4,8 @@ use Rattle.std.specs.Prelude.{ℕ, suc, ℤ, pos, ◌+◌, ◌<◌, ◌≤◌, �
 use Rattle.styx_msg.specs.declared.message.Rmsg.{Rmsg}
 use Rattle.process_model.specs.Follows.{Sides}
 use Rattle.process_model.specs.Plain.{GrowingSides, opened}
-use Rattle.limbo_typed.specs.Typed.{Operator, Less, Equal, Piece}
-use Rattle.limbo_typed.specs.Proper.{holes}
+use Rattle.limbo_small.specs.Typed.{Operator, Less, Equal, Piece}
+use Rattle.limbo_small.specs.Proper.{holes}
 use Rattle.system_model.specs.Values.{Value, zero_value, result_of}
 use Rattle.system_model.specs.World as outside
 use Rattle.system_model.specs.Prints.{Request, Writing}

@@ -1,10 +1,10 @@
 ghost use Rattle.std.specs.Prelude.{◌≡◌, ◌++◌, IfOk, OnOk, map};
-ghost use Rattle.limbo_typed.specs.View.{view_piece};
+ghost use Rattle.limbo_small.specs.View.{view_piece};
 ghost use Rattle.dis_codegen.specs.Code as dis;
 ghost use Rattle.dis_codegen.specs.Sites.{piece_text};
 
 use inf_text::Text;
-use limbo_typed::Piece;
+use limbo_small::Piece;
 use std::alloc::{AllocError, Global};
 
 // Adds characters that stand for themselves: `%` is doubled.

@@ -1,5 +1,5 @@
 ghost use Rattle.std.specs.Prelude.{◌≡◌, ◌<◌, ◌≤◌, [], ◌∷◌, ◌++◌, OnOk};
-ghost use Rattle.limbo_typed.specs.View.{view_op};
+ghost use Rattle.limbo_small.specs.View.{view_op};
 ghost use Rattle.core_code.specs.Code as core;
 ghost use Rattle.core_code.specs.View.{view_inst};
 ghost use Rattle.dis_codegen.specs.Code as dis;
@@ -12,7 +12,7 @@ use crate::operands::{
 use crate::site::{Site, frame_type, place, print_type, to_entry, to_place};
 use core_code::CoreInst;
 use dis_isa::{Inst, Middle, Op, Operand};
-use limbo_typed::BinaryOp;
+use limbo_small::BinaryOp;
 use std::alloc::AllocError;
 
 // Where a frame holds its first argument, and the first that a format prints.

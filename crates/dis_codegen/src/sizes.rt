@@ -1,5 +1,5 @@
 ghost use Rattle.std.specs.Prelude.{◌≡◌, ◌+◌, ◌*◌, ◌<◌, ◌≤◌, length, map, IfOk, OnOk, MatchOption};
-ghost use Rattle.limbo_typed.specs.View.{view_op};
+ghost use Rattle.limbo_small.specs.View.{view_op};
 ghost use Rattle.core_code.specs.View.{view_inst, view_function};
 ghost use Rattle.dis_codegen.specs.Code as dis;
 ghost use Rattle.dis_codegen.specs.Objects.{most_instructions};
@@ -7,7 +7,7 @@ ghost use Rattle.dis_codegen.specs.Sites.{functions_size, entries_from, places_f
 
 use crate::fault::GenFault;
 use core_code::{CoreFn, CoreInst};
-use limbo_typed::BinaryOp;
+use limbo_small::BinaryOp;
 use std::alloc::{AllocError, Global};
 
 // The code of a module has at most so many instructions.

@@ -5,8 +5,8 @@ use Rattle.std.specs.Option.{option_map}
 use Rattle.std.specs.Str.{bytes_eq}
 use Rattle.std.proofs.lemmas.Option.{slice_get-map}
 use Rattle.std.proofs.lemmas.Slice.Eq.{bytes_eq-Decides}
-use Rattle.limbo_typed.specs.Typed.{Function, Module}
-use Rattle.limbo_typed.specs.Proper.{IsProper}
+use Rattle.limbo_small.specs.Typed.{Function, Module}
+use Rattle.limbo_small.specs.Proper.{IsProper}
 use Rattle.limbo_meaning.specs.Program.{routine_of}
 use Rattle.limbo_lower.specs.Code.{function_code}
 use Rattle.dis_file.specs.declared.object.Object.{Object}

@@ -2,7 +2,7 @@
 use Rattle.std.proofs.Common.{◌≡◌, ◌≤◌, ℕ, List, ◌⊎◌, inl, inr, refl, subst, sym, ap, ◌∙◌, true, false, arith}
 use Rattle.std.specs.Prelude.{Some, None}
 use Rattle.inf_ports.specs.Outside.{Told, Has, Lacks, Rose}
-use Rattle.limbo_typed.specs.Typed.{Module}
+use Rattle.limbo_small.specs.Typed.{Module}
 use Rattle.inferno_tool.specs.Built.{IsBuilt}
 use Rattle.inferno_tool.specs.Outcome.{Course, HasProgram, IsAccepted, IsCause, IsEndUnlessMemory, IsRefusal, IsRunEnd, IsSinkFault, IsSourceRefusal, IsUnlessMemory, Tells, TellsProgram}
 use Rattle.inferno_tool.specs.Words.{named_file}

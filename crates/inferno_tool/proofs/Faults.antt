@@ -1,7 +1,7 @@
 -- A source that is refused is no program.
 use Rattle.std.proofs.Common.{◌≡◌, ℕ, List, Ok, Err, true, false, subst, sym, ◌∙◌}
 use Rattle.limbo_tree.specs.Sources.{Source}
-use Rattle.limbo_typed.specs.Typed.{Module}
+use Rattle.limbo_small.specs.Typed.{Module}
 use Rattle.limbo_check_stmt.proofs.JudgedSource.{given, once}
 use Rattle.limbo_lower.specs.Sizes as sizes
 use Rattle.limbo_compiler.specs.Limits as limits

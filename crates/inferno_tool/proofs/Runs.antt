@@ -3,7 +3,7 @@ use Rattle.std.proofs.Common.{◌≡◌, ◌≢◌, ℕ, List, [], ◌∷◌, ma
 use Rattle.std.specs.Prelude.{IsSome, nat_le, ◌&&◌}
 use Rattle.inf_ports.specs.Outside.{Told, Rose}
 use Rattle.dis_file.specs.declared.object.Object.{Object}
-use Rattle.limbo_typed.specs.Typed.{Module}
+use Rattle.limbo_small.specs.Typed.{Module}
 use Rattle.code_sim.specs.Keeps.{object_for}
 use Rattle.machine_core.specs.declared.event.Event.{Event}
 use Rattle.machine_core.specs.declared.event.Journal.{Journal}

@@ -1,7 +1,7 @@
 -- A machine of a program's object can begin.
 use Rattle.std.proofs.Common.{◌≡◌, Some, None, subst, sym, ◌∙◌}
 use Rattle.dis_file.specs.declared.object.Object.{Object}
-use Rattle.limbo_typed.specs.Typed.{Module}
+use Rattle.limbo_small.specs.Typed.{Module}
 use Rattle.dis_meaning.specs.Opening.{StringsSpell, opened}
 use Rattle.code_sim.specs.Keeps.{object_for}
 use Rattle.code_sim.specs.Begins.{begins_with}

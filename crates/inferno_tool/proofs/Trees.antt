@@ -7,7 +7,7 @@ use Rattle.limbo_lexer.proofs.Cutting.{one_token_list}
 use Rattle.limbo_tree.specs.Sources.{Source, IsTree}
 use Rattle.limbo_parser.proofs.Trees.{one_tree}
 use Rattle.limbo_check_stmt.proofs.JudgedSource.{once}
-use Rattle.limbo_typed.specs.Typed.{Module}
+use Rattle.limbo_small.specs.Typed.{Module}
 use Rattle.inferno_tool.specs.Built.{HasTokens, HasTree, IsProgram, IsBuilt}
 
 one_tokens : (source : List ℕ) (a b : List Kind) → HasTokens source a → HasTokens source b → a ≡ b

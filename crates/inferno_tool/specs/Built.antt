@@ -4,7 +4,7 @@ use Rattle.limbo_lexer.specs.declared.token.Kind.{Kind}
 use Rattle.limbo_lexer.specs.Causes.{IsSource}
 use Rattle.limbo_lexer.specs.Tokens.{HasTokenList}
 use Rattle.limbo_tree.specs.Sources.{Source, IsTree, source_nesting}
-use Rattle.limbo_typed.specs.Typed.{Module}
+use Rattle.limbo_small.specs.Typed.{Module}
 use Rattle.limbo_names.specs.Part.{is_built}
 use Rattle.limbo_check_stmt.specs.Checking.{declares_init}
 use Rattle.limbo_check_stmt.specs.Typing.{IsModule}

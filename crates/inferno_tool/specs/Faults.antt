@@ -10,7 +10,7 @@ use Rattle.limbo_tree.specs.Sources.{Source, IsTree, source_nesting}
 use Rattle.limbo_parser.specs.declared.tree.ParseFault.{ParseFault}
 use Rattle.limbo_parser.specs.declared.tree.ParseFault.TheVariants as parse
 use Rattle.limbo_parser.specs.Refusals as parsing
-use Rattle.limbo_typed.specs.Typed.{Module}
+use Rattle.limbo_small.specs.Typed.{Module}
 use Rattle.limbo_names.specs.Numbers as conditions
 use Rattle.limbo_names.specs.Part.{is_built}
 use Rattle.limbo_check_stmt.specs.Checking.{check, declares_init}

@@ -2,7 +2,7 @@
 use Rattle.std.specs.Prelude.{ℕ, ◌≡◌, ◌≤◌, ◌⊎◌, List, Option, None, Some, Bool, true, false}
 use Rattle.inf_ports.specs.Outside.{Told, Lacks, Rose}
 use Rattle.dis_file.specs.declared.object.Object.{Object}
-use Rattle.limbo_typed.specs.Typed.{Module}
+use Rattle.limbo_small.specs.Typed.{Module}
 use Rattle.machine_core.specs.declared.event.Journal.{Journal}
 use Rattle.inferno_tool.specs.Built.{IsBuilt}
 use Rattle.inferno_tool.specs.Reading.{IsRead, IsFaulty}

@@ -8,7 +8,7 @@ use Rattle.limbo_lexer.specs.declared.fault.LexFault.TheVariants as lex
 use Rattle.limbo_parser.specs.declared.tree.ParseFault.{ParseFault}
 use Rattle.limbo_parser.specs.declared.tree.ParseFault.TheVariants as parse
 use Rattle.limbo_tree.specs.Sources.{Source}
-use Rattle.limbo_typed.specs.Typed.{Module}
+use Rattle.limbo_small.specs.Typed.{Module}
 use Rattle.limbo_names.specs.declared.fault.CheckFault.{CheckFault}
 use Rattle.limbo_names.specs.declared.fault.CheckFault.TheVariants as check
 use Rattle.limbo_names.specs.Part.{is_built}
@@ -16,7 +16,7 @@ use Rattle.limbo_check_stmt.specs.Checking as checking
 use Rattle.limbo_check_stmt.specs.Typing.{IsModule}
 use Rattle.limbo_compiler.specs.declared.passes.CompileFault.{CompileFault}
 use Rattle.limbo_compiler.specs.declared.passes.CompileFault.TheVariants as compile
-use Rattle.limbo_typed.specs.Proper.{IsProper}
+use Rattle.limbo_small.specs.Proper.{IsProper}
 use Rattle.inferno_tool.specs.Built.{IsBuilt}
 use Rattle.inferno_tool.specs.Faults.{IsFault, IsTreeFault}
 use Rattle.inferno_tool.specs.declared.cause.Cause.{Cause}

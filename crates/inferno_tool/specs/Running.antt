@@ -1,8 +1,8 @@
 -- What a run leaves: its journal, the objects that it was started with, the bytes on the output, and what all of it means.
 use Rattle.std.specs.Prelude.{◌≡◌, ◌≢◌, ℕ, List, [], ◌∷◌, map, codes, Option, None, Some, slice_get}
 use Rattle.dis_file.specs.declared.object.Object.{Object}
-use Rattle.limbo_typed.specs.Typed.{Function, Module}
-use Rattle.limbo_typed.specs.Proper.{IsProper}
+use Rattle.limbo_small.specs.Typed.{Function, Module}
+use Rattle.limbo_small.specs.Proper.{IsProper}
 use Rattle.limbo_meaning.specs.Program.{Routine}
 use Rattle.dis_meaning.specs.Opening.{StringsSpell}
 use Rattle.code_sim.specs.Keeps.{object_for, BeginsWith}

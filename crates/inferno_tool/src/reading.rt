@@ -2,8 +2,8 @@
 
 ghost use Rattle.std.specs.Prelude.{◌≡◌, ◌≤◌, ◌⊎◌, IfOk, IfErr};
 ghost use Rattle.limbo_tree.specs.View.{view_source};
-ghost use Rattle.limbo_typed.specs.Typed.{Module};
-ghost use Rattle.limbo_typed.specs.View.{view_module};
+ghost use Rattle.limbo_small.specs.Typed.{Module};
+ghost use Rattle.limbo_small.specs.View.{view_module};
 ghost use Rattle.inferno_tool.specs.Built.{HasTree, IsProgram, IsBuilt};
 ghost use Rattle.inferno_tool.specs.Reading.{IsRead, IsChecked, IsReadFault, IsTreeReadFault, IsUnread, span_at, unlexed, unparsed, unchecked, uncompiled};
 ghost use Rattle.inferno_tool.specs.Running.{IsCompiled};
@@ -17,8 +17,8 @@ use limbo_compiler::{CompileFault, compile};
 use limbo_lexer::{LexFault, Token, lex};
 use limbo_names::{CheckFault, is_built};
 use limbo_parser::{ParseFault, parse};
+use limbo_small::TypedModule;
 use limbo_tree::Source;
-use limbo_typed::TypedModule;
 use std::alloc::Global;
 
 /// Why bytes were not read as a program.

@@ -1,6 +1,6 @@
 ghost use Rattle.std.specs.Prelude.{◌≡◌, ◌≤◌, ◌⊎◌, ℕ, List, Option, true, None, Some, IsSome, IfOk, IfErr};
 ghost use Rattle.inf_ports.specs.Outside.{Rose};
-ghost use Rattle.limbo_typed.specs.Typed.{Module};
+ghost use Rattle.limbo_small.specs.Typed.{Module};
 ghost use Rattle.inferno_tool.specs.Built.{IsBuilt};
 ghost use Rattle.dis_file.specs.declared.object.Object.{Object as AnyObject};
 ghost use Rattle.dis_format.specs.Objects.{Spells};

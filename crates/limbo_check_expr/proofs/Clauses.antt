@@ -3,9 +3,9 @@ use Rattle.std.proofs.Common.{◌≡◌, Result, Ok, Err, sym, subst}
 use Rattle.std.specs.Prelude.{IfOk, MatchResult}
 use Rattle.inf_text.specs.declared.span.Span.{Span}
 use Rattle.limbo_tree.specs.Exprs as tree
-use Rattle.limbo_typed.specs.declared.expr.TExpr as code_expr
-use Rattle.limbo_typed.specs.Typed.{Expr}
-use Rattle.limbo_typed.specs.View.{view_expr}
+use Rattle.limbo_small.specs.declared.expr.TExpr as code_expr
+use Rattle.limbo_small.specs.Typed.{Expr}
+use Rattle.limbo_small.specs.View.{view_expr}
 use Rattle.limbo_names.specs.declared.fault.Unmet.{Unmet}
 use Rattle.limbo_names.specs.declared.fault.CheckFault.{CheckFault}
 use Rattle.limbo_names.specs.declared.fault.CheckFault.TheVariants as faults

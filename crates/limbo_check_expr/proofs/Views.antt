@@ -16,14 +16,14 @@ use Rattle.limbo_check_expr.specs.Envs.{Local, Env, has_local}
 use Rattle.limbo_check_expr.specs.Checking.{number, called, call_row, types, types_one, type_all}
 use Rattle.limbo_types.specs.Types.{Ty}
 use Rattle.limbo_types.specs.View.{view_ty}
-use Rattle.limbo_typed.specs.declared.expr.BinaryOp.{BinaryOp}
-use Rattle.limbo_typed.specs.declared.expr.TExpr as code_expr
-use Rattle.limbo_typed.specs.declared.expr.TNode as code_node
-use Rattle.limbo_typed.specs.declared.expr.TNode.{TNode-F, out-TNode, roll-TNode, roll-out-TNode, fold-roll-TNode}
-use Rattle.limbo_typed.specs.Typed.{Expr}
-use Rattle.limbo_typed.specs.View.{node_step, expr_step, view_expr, view_node}
-use Rattle.limbo_typed.specs.Proper.{type_of}
-use Rattle.limbo_typed.proofs.View.{view_expr-out}
+use Rattle.limbo_small.specs.declared.expr.BinaryOp.{BinaryOp}
+use Rattle.limbo_small.specs.declared.expr.TExpr as code_expr
+use Rattle.limbo_small.specs.declared.expr.TNode as code_node
+use Rattle.limbo_small.specs.declared.expr.TNode.{TNode-F, out-TNode, roll-TNode, roll-out-TNode, fold-roll-TNode}
+use Rattle.limbo_small.specs.Typed.{Expr}
+use Rattle.limbo_small.specs.View.{node_step, expr_step, view_expr, view_node}
+use Rattle.limbo_small.specs.Proper.{type_of}
+use Rattle.limbo_small.proofs.View.{view_expr-out}
 
 node_type : (n : code_node.TNode) (ty : Ty) → type_of (view_node n ty) ≡ ty
 unfolding view_node view_expr

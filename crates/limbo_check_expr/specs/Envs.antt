@@ -1,7 +1,7 @@
 -- The variables of a function: all of them, and which are seen (Limbo Language Reference, scope).
 use Rattle.std.specs.Prelude.{ℕ, ◌≡◌, List, [], ◌∷◌, ◌++◌, length, map, take, drop, Bool, not, Option, None, Some, Result, Ok, if◌then◌else◌}
 use Rattle.limbo_types.specs.Types.{Ty}
-use Rattle.limbo_typed.specs.Typed.{Var}
+use Rattle.limbo_small.specs.Typed.{Var}
 use Rattle.limbo_names.specs.declared.fault.Unmet.{Unmet}
 use Rattle.limbo_names.specs.declared.fault.Unmet.TheVariants.{Twice}
 use Rattle.limbo_names.specs.Names.{◌>>=◌, need, same_text, has_name}

@@ -2,8 +2,8 @@
 use Rattle.std.specs.Prelude.{ℕ, List, [], ◌∷◌, ◌++◌, length, map, Bool, true, false, ◌&&◌, Option, None, Some, Result, Ok, Err, ◌==◌, codes, if◌then◌else◌}
 use Rattle.limbo_types.specs.Types.{Ty, Int}
 use Rattle.limbo_tree.specs.Exprs as tree
-use Rattle.limbo_typed.specs.Typed.{Expr, Piece, Chars, Decimal}
-use Rattle.limbo_typed.specs.Proper.{holes, type_of}
+use Rattle.limbo_small.specs.Typed.{Expr, Piece, Chars, Decimal}
+use Rattle.limbo_small.specs.Proper.{holes, type_of}
 use Rattle.limbo_names.specs.declared.fault.Unmet.{Unmet}
 use Rattle.limbo_names.specs.declared.fault.Unmet.TheVariants.{TypeClash, BadFormat}
 use Rattle.limbo_names.specs.Names.{◌>>=◌, choose, need, has_name}

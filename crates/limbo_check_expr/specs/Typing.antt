@@ -4,9 +4,9 @@ use Rattle.limbo_types.specs.Types.{Ty, Int}
 use Rattle.limbo_tree.specs.declared.operators.BinaryOp.{BinaryOp}
 use Rattle.limbo_tree.specs.declared.operators.BinaryOp.TheVariants as binary
 use Rattle.limbo_tree.specs.Exprs as tree
-use Rattle.limbo_typed.specs.Typed.{Expr, Exprs, Number, Variable, Binary, Call, Add, Subtract, Multiply, Less, Equal}
-use Rattle.limbo_typed.specs.View.{exprs_of}
-use Rattle.limbo_typed.specs.Proper.{type_of}
+use Rattle.limbo_small.specs.Typed.{Expr, Exprs, Number, Variable, Binary, Call, Add, Subtract, Multiply, Less, Equal}
+use Rattle.limbo_small.specs.View.{exprs_of}
+use Rattle.limbo_small.specs.Proper.{type_of}
 use Rattle.limbo_names.specs.declared.fault.Unmet.{Unmet}
 use Rattle.limbo_names.specs.declared.fault.Unmet.TheVariants.{Unknown, TypeClash}
 use Rattle.limbo_names.specs.Scopes.{Scope, Numbered, find_function, is_top}

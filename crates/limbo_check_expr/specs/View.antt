@@ -1,7 +1,7 @@
 -- What the variables of the code stand for.
 use Rattle.std.specs.Prelude.{map}
 use Rattle.limbo_types.specs.View.{view_ty, view_fn}
-use Rattle.limbo_typed.specs.View.{view_expr, view_piece, view_var}
+use Rattle.limbo_small.specs.View.{view_expr, view_piece, view_var}
 use Rattle.limbo_check_expr.specs.declared.env.Local as code_local
 use Rattle.limbo_check_expr.specs.declared.env.Env as code_env
 use Rattle.limbo_check_expr.specs.declared.format.Printed as code_printed

@@ -8,7 +8,7 @@ ghost use Rattle.limbo_check_expr.specs.View.{view_local, view_env};
 
 use inf_text::{Span, Text};
 use limbo_names::{CheckFault, Unmet, copy_ty, same_text};
-use limbo_typed::TVar;
+use limbo_small::TVar;
 use limbo_types::Ty;
 use std::alloc::Global;
 

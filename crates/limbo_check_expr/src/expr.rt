@@ -3,11 +3,11 @@
 ghost use Rattle.std.specs.Prelude.{◌≡◌, MatchOption, MatchResult, IfOk, Ok, None, Some, [], map, option_map};
 ghost use Rattle.limbo_types.specs.View.{view_fn};
 ghost use Rattle.limbo_tree.specs.View as trees;
-ghost use Rattle.limbo_typed.specs.View.{view_expr};
+ghost use Rattle.limbo_small.specs.View.{view_expr};
 ghost use Rattle.limbo_names.specs.View.{Gives, view_scope};
 ghost use Rattle.limbo_names.specs.Scopes.{Numbered};
 ghost use Rattle.inf_text.specs.declared.span.Span as spans;
-ghost use Rattle.limbo_typed.specs.Typed as typed;
+ghost use Rattle.limbo_small.specs.Typed as typed;
 ghost use Rattle.limbo_names.specs.declared.fault.Unmet as causes;
 ghost use Rattle.limbo_check_expr.specs.Typing.{Types, Fails};
 ghost use Rattle.limbo_check_expr.specs.Checking as checking;
@@ -20,8 +20,8 @@ use inf_text::{Span, Text};
 use limbo_names::{
     CheckFault, Numbered, Scope, Unmet, find_function, is_small, is_top, name_in, same_ty,
 };
+use limbo_small::{TExpr, TNode};
 use limbo_tree::Expr;
-use limbo_typed::{TExpr, TNode};
 use limbo_types::Ty;
 use std::alloc::Global;
 
@@ -37,7 +37,7 @@ pub fn missing(scope: &Scope, name: &Text) -> Unmet
 }
 
 // The value of a variable.
-#[tactic(auto, using(limbo_types::proofs::View::the_types, limbo_typed::proofs::View::the_views))]
+#[tactic(auto, using(limbo_types::proofs::View::the_types, limbo_small::proofs::View::the_views))]
 fn value_of(local: &Local, at: Span) -> Result<TExpr, CheckFault>
     ensures { Gives view_expr result (checking.value_of (view_local local.now)) }
 {
@@ -79,7 +79,7 @@ fn called<'a>(scope: &'a Scope, env: &Env, function: &Expr) -> Result<Numbered<'
 }
 
 // A number.
-#[tactic(auto, using(limbo_types::proofs::View::the_types, limbo_typed::proofs::View::the_views))]
+#[tactic(auto, using(limbo_types::proofs::View::the_types, limbo_small::proofs::View::the_views))]
 fn number(value: &i64, wide: bool, at: Span) -> Result<TExpr, CheckFault>
     ensures { Gives view_expr result (checking.number value.now wide) }
 {

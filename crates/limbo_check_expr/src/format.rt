@@ -2,8 +2,8 @@
 
 ghost use Rattle.std.specs.Prelude.{◌≡◌, MatchOption, IfOk, None, Some, [], map, option_map};
 ghost use Rattle.limbo_tree.specs.View as trees;
-ghost use Rattle.limbo_typed.specs.Proper.{holes};
-ghost use Rattle.limbo_typed.specs.View.{view_expr, view_piece};
+ghost use Rattle.limbo_small.specs.Proper.{holes};
+ghost use Rattle.limbo_small.specs.View.{view_expr, view_piece};
 ghost use Rattle.limbo_names.specs.View.{Gives, view_scope};
 ghost use Rattle.limbo_check_expr.specs.Formats as formats;
 ghost use Rattle.limbo_check_expr.specs.View.{view_env, view_printed};
@@ -14,8 +14,8 @@ use crate::place::span_of;
 use crate::rows::{is_int, refused};
 use inf_text::{Span, Text};
 use limbo_names::{CheckFault, Scope, Unmet, has_name, name_in};
+use limbo_small::{Piece, TExpr};
 use limbo_tree::Expr;
-use limbo_typed::{Piece, TExpr};
 use std::alloc::{AllocError, Global};
 
 /// A print: its format and its arguments.

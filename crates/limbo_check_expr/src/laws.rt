@@ -2,7 +2,7 @@
 
 ghost use Rattle.std.specs.Prelude.{◌≡◌, Ok};
 ghost use Rattle.limbo_tree.specs.Exprs as tree;
-ghost use Rattle.limbo_typed.specs.Typed.{Expr};
+ghost use Rattle.limbo_small.specs.Typed.{Expr};
 ghost use Rattle.limbo_names.specs.Scopes.{Scope};
 ghost use Rattle.limbo_check_expr.specs.Envs as envs;
 ghost use Rattle.limbo_check_expr.specs.Typing.{Types};

@@ -3,16 +3,16 @@
 ghost use Rattle.std.specs.Prelude.{◌≡◌, MatchOption, None, Some, map};
 ghost use Rattle.limbo_types.specs.View.{view_ty, view_fn};
 ghost use Rattle.limbo_types.specs.Same.{same};
-ghost use Rattle.limbo_typed.specs.Proper.{type_of};
-ghost use Rattle.limbo_typed.specs.View.{view_op, view_expr};
+ghost use Rattle.limbo_small.specs.Proper.{type_of};
+ghost use Rattle.limbo_small.specs.View.{view_op, view_expr};
 ghost use Rattle.limbo_names.specs.View.{Gives};
 ghost use Rattle.limbo_names.specs.Scopes.{Numbered, same_list};
 ghost use Rattle.limbo_check_expr.specs.Checking as checking;
 
 use inf_text::Span;
 use limbo_names::{CheckFault, Unmet, copy_ty, same_ty};
+use limbo_small::{BinaryOp as Operator, TExpr, TNode};
 use limbo_tree::BinaryOp;
-use limbo_typed::{BinaryOp as Operator, TExpr, TNode};
 use limbo_types::{FnTy, Ty};
 use std::alloc::Global;
 
@@ -62,7 +62,7 @@ pub fn operator_of(op: BinaryOp) -> Option<Operator>
 ///
 /// # Errors
 /// 50 where no row fits; want of memory.
-#[tactic(auto, using(limbo_types::proofs::View::the_types, limbo_typed::proofs::View::the_views), unfolding(crate::specs::Checking::binary_row))]
+#[tactic(auto, using(limbo_types::proofs::View::the_types, limbo_small::proofs::View::the_views), unfolding(crate::specs::Checking::binary_row))]
 pub fn binary_row(
     alloc: Global,
     op: BinaryOp,
@@ -115,7 +115,7 @@ fn args_fit(args: &[TExpr], tys: &[Ty]) -> bool
 ///
 /// # Errors
 /// 50 where the arguments don't fit; want of memory.
-#[tactic(auto, using(limbo_typed::proofs::View::the_views), unfolding(crate::specs::Checking::call_row))]
+#[tactic(auto, using(limbo_small::proofs::View::the_views), unfolding(crate::specs::Checking::call_row))]
 pub fn call_row(
     alloc: Global,
     number: usize,

@@ -5,7 +5,7 @@ use Rattle.limbo_types.specs.Types.{FnTy}
 use Rattle.limbo_tree.specs.Decls as decls
 use Rattle.limbo_tree.specs.Decls.{Member, Members, NoMembers, MoreMembers, FnMember, Decl}
 use Rattle.limbo_tree.specs.Sources.{Source, Top, Declared, Defined}
-use Rattle.limbo_typed.specs.Typed.{Function, Module}
+use Rattle.limbo_small.specs.Typed.{Function, Module}
 use Rattle.limbo_names.specs.declared.fault.Unmet.TheVariants.{Unknown}
 use Rattle.limbo_names.specs.Names.{need, same_text, has_name, all_in}
 use Rattle.limbo_names.specs.Scopes.{Signature, Scope, same_fn, init_type, any_init, has_init}

@@ -5,7 +5,7 @@ use Rattle.limbo_tree.specs.declared.stmt.Block as code_block
 use Rattle.limbo_tree.specs.declared.stmt.Block.{out-Block}
 use Rattle.limbo_tree.specs.declared.stmt.Handler as code_handler
 use Rattle.limbo_tree.specs.View.{stmts_of, view_stmt, view_block}
-use Rattle.limbo_typed.specs.Typed.{Stmt}
+use Rattle.limbo_small.specs.Typed.{Stmt}
 use Rattle.limbo_names.specs.declared.fault.Unmet.{Unmet}
 use Rattle.limbo_names.specs.declared.fault.Unmet.TheVariants.{TypeClash}
 use Rattle.limbo_names.specs.Names.{◌>>=◌}

@@ -2,9 +2,9 @@
 use Rattle.std.proofs.Common.{◌≡◌, Result, Ok, Err, refl, sym, ◌∙◌}
 use Rattle.std.specs.Prelude.{IfOk, MatchResult}
 use Rattle.limbo_tree.specs.Sources.{Source}
-use Rattle.limbo_typed.specs.declared.module.TypedModule as code_module
-use Rattle.limbo_typed.specs.Typed.{Module}
-use Rattle.limbo_typed.specs.View.{view_module}
+use Rattle.limbo_small.specs.declared.module.TypedModule as code_module
+use Rattle.limbo_small.specs.Typed.{Module}
+use Rattle.limbo_small.specs.View.{view_module}
 use Rattle.limbo_names.specs.declared.fault.CheckFault.{CheckFault}
 use Rattle.limbo_names.specs.declared.fault.CheckFault.TheVariants as faults
 use Rattle.limbo_names.specs.View.{Gives}

@@ -9,9 +9,9 @@ use Rattle.limbo_tree.specs.Types as written
 use Rattle.limbo_tree.specs.Exprs as tree
 use Rattle.limbo_tree.specs.Decls.{Decl, Var, Define}
 use Rattle.limbo_tree.specs.Stmts as stmts
-use Rattle.limbo_typed.specs.Typed.{Expr, Piece, Stmt, Empty, Block, Assign, Eval, Return, Print}
-use Rattle.limbo_typed.specs.View.{exprs_of, stmts_of}
-use Rattle.limbo_typed.specs.Proper.{type_of, holes, AllInt}
+use Rattle.limbo_small.specs.Typed.{Expr, Piece, Stmt, Empty, Block, Assign, Eval, Return, Print}
+use Rattle.limbo_small.specs.View.{exprs_of, stmts_of}
+use Rattle.limbo_small.specs.Proper.{type_of, holes, AllInt}
 use Rattle.limbo_names.specs.declared.fault.Unmet.{Unmet}
 use Rattle.limbo_names.specs.declared.fault.Unmet.TheVariants.{Twice, TypeClash, BadFormat, NoReturn}
 use Rattle.limbo_names.specs.Names.{◌>>=◌, choose, need, has_name}

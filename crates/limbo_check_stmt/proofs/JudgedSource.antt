@@ -6,8 +6,8 @@ use Rattle.limbo_types.proofs.Same.{only}
 use Rattle.limbo_tree.specs.Decls.{Param, FnType}
 use Rattle.limbo_tree.specs.Stmts as stmts
 use Rattle.limbo_tree.specs.Sources.{Source, Top, Include, Declared, Defined}
-use Rattle.limbo_typed.specs.Typed.{Stmt, Function, Module}
-use Rattle.limbo_typed.specs.View.{stmts_of}
+use Rattle.limbo_small.specs.Typed.{Stmt, Function, Module}
+use Rattle.limbo_small.specs.View.{stmts_of}
 use Rattle.limbo_names.specs.declared.fault.Unmet.TheVariants.{TypeClash, NoReturn}
 use Rattle.limbo_names.specs.Names.{choose, need, has_name}
 use Rattle.limbo_names.specs.Scopes.{Scope}

@@ -7,9 +7,9 @@ use Rattle.limbo_types.specs.Types.{Ty, Int}
 use Rattle.limbo_types.proofs.Same.{only}
 use Rattle.limbo_tree.specs.declared.operators.BinaryOp.{BinaryOp}
 use Rattle.limbo_tree.specs.Exprs as tree
-use Rattle.limbo_typed.specs.Typed.{Expr, Var, Function, Stmt, Assign}
-use Rattle.limbo_typed.specs.View.{exprs_of, stmts_of}
-use Rattle.limbo_typed.specs.Proper.{type_of, types_of, HasVariable, IsWord, AllWords, ProperExpr, ProperExprs, ProperStmt, ProperStmts}
+use Rattle.limbo_small.specs.Typed.{Expr, Var, Function, Stmt, Assign}
+use Rattle.limbo_small.specs.View.{exprs_of, stmts_of}
+use Rattle.limbo_small.specs.Proper.{type_of, types_of, HasVariable, IsWord, AllWords, ProperExpr, ProperExprs, ProperStmt, ProperStmts}
 use Rattle.limbo_names.specs.declared.fault.Unmet.{Unmet}
 use Rattle.limbo_names.specs.declared.fault.Unmet.TheVariants.{Twice, TypeClash}
 use Rattle.limbo_names.specs.Names.{◌>>=◌, need}

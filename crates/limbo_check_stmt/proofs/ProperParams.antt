@@ -5,8 +5,8 @@ use Rattle.limbo_types.specs.Types.{FnTy}
 use Rattle.limbo_tree.specs.Types.{Ty}
 use Rattle.limbo_tree.specs.Decls.{Param, FnType}
 use Rattle.limbo_tree.specs.Stmts as stmts
-use Rattle.limbo_typed.specs.Typed.{Var, Function}
-use Rattle.limbo_typed.specs.Proper.{IsWord, AllWords}
+use Rattle.limbo_small.specs.Typed.{Var, Function}
+use Rattle.limbo_small.specs.Proper.{IsWord, AllWords}
 use Rattle.limbo_names.specs.declared.fault.Unmet.TheVariants.{Twice, Unknown}
 use Rattle.limbo_names.specs.Names.{need, same_text, are_distinct}
 use Rattle.limbo_names.specs.Scopes.{context}

@@ -6,10 +6,10 @@ use Rattle.limbo_types.specs.Types.{FnTy}
 use Rattle.limbo_tree.specs.Decls.{FnType}
 use Rattle.limbo_tree.specs.Stmts as stmts
 use Rattle.limbo_tree.specs.Sources.{Source, Top, Include, Declared, Defined}
-use Rattle.limbo_typed.specs.Typed.{Stmt, Function, Module}
-use Rattle.limbo_typed.specs.declared.module.TypedModule as code_module
-use Rattle.limbo_typed.specs.View.{stmts_of, view_module}
-use Rattle.limbo_typed.specs.Proper.{AllWords, ProperFunction, IsProper}
+use Rattle.limbo_small.specs.Typed.{Stmt, Function, Module}
+use Rattle.limbo_small.specs.declared.module.TypedModule as code_module
+use Rattle.limbo_small.specs.View.{stmts_of, view_module}
+use Rattle.limbo_small.specs.Proper.{AllWords, ProperFunction, IsProper}
 use Rattle.limbo_names.specs.declared.fault.Unmet.TheVariants.{Unknown, TypeClash}
 use Rattle.limbo_names.specs.declared.fault.CheckFault.{CheckFault}
 use Rattle.limbo_names.specs.Names.{need, same_text}

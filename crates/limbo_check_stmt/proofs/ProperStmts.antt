@@ -6,10 +6,10 @@ use Rattle.limbo_types.proofs.Same.{only}
 use Rattle.limbo_tree.specs.Exprs as tree
 use Rattle.limbo_tree.specs.Decls.{Decl, Var, Define}
 use Rattle.limbo_tree.specs.Stmts as stmts
-use Rattle.limbo_typed.specs.Typed as typed
-use Rattle.limbo_typed.specs.Typed.{Expr, Exprs, Number, Function, Piece, Stmt, Stmts, Empty, Block, Assign, Eval, If, While, Return, Print}
-use Rattle.limbo_typed.specs.View.{exprs_of, stmts_of}
-use Rattle.limbo_typed.specs.Proper.{type_of, types_of, holes, AllInt, HasVariable, ProperExpr, ProperExprs, ProperStmt}
+use Rattle.limbo_small.specs.Typed as typed
+use Rattle.limbo_small.specs.Typed.{Expr, Exprs, Number, Function, Piece, Stmt, Stmts, Empty, Block, Assign, Eval, If, While, Return, Print}
+use Rattle.limbo_small.specs.View.{exprs_of, stmts_of}
+use Rattle.limbo_small.specs.Proper.{type_of, types_of, holes, AllInt, HasVariable, ProperExpr, ProperExprs, ProperStmt}
 use Rattle.limbo_names.specs.declared.fault.Unmet.{Unmet}
 use Rattle.limbo_names.specs.declared.fault.Unmet.TheVariants.{TypeClash, BadFormat, NoReturn}
 use Rattle.limbo_names.specs.Names.{◌>>=◌, choose, need}

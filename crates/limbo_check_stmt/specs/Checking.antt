@@ -7,8 +7,8 @@ use Rattle.limbo_tree.specs.Exprs as tree
 use Rattle.limbo_tree.specs.Decls.{Param, FnType, Decl, Var, Define}
 use Rattle.limbo_tree.specs.Stmts as stmts
 use Rattle.limbo_tree.specs.Sources.{Source, Top, Defined}
-use Rattle.limbo_typed.specs.Typed.{Expr, Number, Stmt, Stmts, Empty, Block, Assign, Eval, If, While, Return, Print, NoStmts, MoreStmts, Function, Module}
-use Rattle.limbo_typed.specs.View.{stmts_of, exprs_of}
+use Rattle.limbo_small.specs.Typed.{Expr, Number, Stmt, Stmts, Empty, Block, Assign, Eval, If, While, Return, Print, NoStmts, MoreStmts, Function, Module}
+use Rattle.limbo_small.specs.View.{stmts_of, exprs_of}
 use Rattle.limbo_names.specs.declared.fault.Unmet.{Unmet}
 use Rattle.limbo_names.specs.declared.fault.Unmet.TheVariants.{Unknown, TypeClash, NotPlace, NoReturn}
 use Rattle.limbo_names.specs.Names.{◌>>=◌, choose, need, same_text, has_name}

@@ -8,9 +8,9 @@ use Rattle.limbo_tree.specs.Exprs as tree
 use Rattle.limbo_tree.specs.Decls.{Param, FnType, Decl, Var, Define}
 use Rattle.limbo_tree.specs.Stmts as stmts
 use Rattle.limbo_tree.specs.Sources.{Source, Top, Include, Declared, Defined}
-use Rattle.limbo_typed.specs.Typed.{Expr, Piece, Stmt, Empty, Block, Assign, Eval, Return, Print, Function, Module}
-use Rattle.limbo_typed.specs.View.{exprs_of, stmts_of}
-use Rattle.limbo_typed.specs.Proper.{type_of, holes, AllInt}
+use Rattle.limbo_small.specs.Typed.{Expr, Piece, Stmt, Empty, Block, Assign, Eval, Return, Print, Function, Module}
+use Rattle.limbo_small.specs.View.{exprs_of, stmts_of}
+use Rattle.limbo_small.specs.Proper.{type_of, holes, AllInt}
 use Rattle.limbo_names.specs.Names.{has_name}
 use Rattle.limbo_names.specs.Scopes.{Scope}
 use Rattle.limbo_names.specs.Part.{first_loaded, behind}

@@ -2,7 +2,7 @@
 
 ghost use Rattle.std.specs.Prelude.{◌≡◌, MatchOption, None, Some, map, option_map};
 ghost use Rattle.limbo_tree.specs.View as trees;
-ghost use Rattle.limbo_typed.specs.View.{view_expr, view_stmt};
+ghost use Rattle.limbo_small.specs.View.{view_expr, view_stmt};
 ghost use Rattle.limbo_names.specs.View.{Gives, view_scope};
 ghost use Rattle.limbo_check_expr.specs.View.{view_env, view_local};
 ghost use Rattle.limbo_check_stmt.specs.Checking as checking;
@@ -12,8 +12,8 @@ use limbo_check_expr::{Env, Local, find_local, int_value, print_of, refused, spa
 use limbo_names::{
     CheckFault, Scope, Unmet, has_name, is_plain, is_print, is_top, name_in, same_ty,
 };
+use limbo_small::TStmt;
 use limbo_tree::Expr;
-use limbo_typed::TStmt;
 use limbo_types::Ty;
 use std::alloc::Global;
 
@@ -58,7 +58,7 @@ fn place(scope: &Scope, env: &Env, e: &Expr) -> Result<u32, CheckFault>
 }
 
 // An assignment.
-#[tactic(auto, using(limbo_names::proofs::Steps::fails_bind, limbo_typed::proofs::View::the_views), unfolding(crate::specs::Checking::assigned))]
+#[tactic(auto, using(limbo_names::proofs::Steps::fails_bind, limbo_small::proofs::View::the_views), unfolding(crate::specs::Checking::assigned))]
 fn assigned(
     alloc: Global,
     scope: &Scope,
@@ -74,7 +74,7 @@ fn assigned(
 }
 
 // An expression that is evaluated for what it does.
-#[tactic(auto, using(limbo_names::proofs::Steps::fails_bind, limbo_typed::proofs::View::the_views))]
+#[tactic(auto, using(limbo_names::proofs::Steps::fails_bind, limbo_small::proofs::View::the_views))]
 fn evaluated(alloc: Global, scope: &Scope, env: &Env, e: &Expr) -> Result<TStmt, CheckFault>
     ensures { Gives view_stmt result (checking.evaluated (view_scope scope.now) (view_env env.now) (trees.view_expr e.now)) }
 {
@@ -83,7 +83,7 @@ fn evaluated(alloc: Global, scope: &Scope, env: &Env, e: &Expr) -> Result<TStmt,
 }
 
 // A print.
-#[tactic(auto, using(limbo_names::proofs::Steps::fails_bind, limbo_typed::proofs::View::the_views))]
+#[tactic(auto, using(limbo_names::proofs::Steps::fails_bind, limbo_small::proofs::View::the_views))]
 fn print(
     alloc: Global,
     scope: &Scope,

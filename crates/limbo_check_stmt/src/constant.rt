@@ -2,10 +2,10 @@
 
 ghost use Rattle.std.specs.Prelude.{◌≡◌, ◌+ℤ◌, ◌-ℤ◌, ◌*ℤ◌};
 ghost use Rattle.std.specs.Int.{int_wrap, w32};
-ghost use Rattle.limbo_typed.specs.View.{view_op, view_expr};
+ghost use Rattle.limbo_small.specs.View.{view_op, view_expr};
 ghost use Rattle.limbo_check_stmt.specs.Constants as constants;
 
-use limbo_typed::{BinaryOp, TExpr, TNode};
+use limbo_small::{BinaryOp, TExpr, TNode};
 
 // What is left of a number in 32 bits, signed.
 fn wrapped(n: i64) -> i32
@@ -62,7 +62,7 @@ fn both(op: BinaryOp, x: Option<i64>, y: Option<i64>) -> Option<i64>
 }
 
 /// What an expression of numbers and operators comes to.
-#[tactic(auto, using(limbo_typed::proofs::View::the_views))]
+#[tactic(auto, using(limbo_small::proofs::View::the_views))]
 pub fn constant(e: &TExpr) -> Option<i64>
     ensures { result ≡ constants.constant (view_expr e.now) }
 {

@@ -2,7 +2,7 @@
 
 ghost use Rattle.std.specs.Prelude.{◌≡◌, ◌++◌, [], ◌∷◌, MatchOption, None, Some, map, option_map, length};
 ghost use Rattle.limbo_tree.specs.View as trees;
-ghost use Rattle.limbo_typed.specs.View.{view_stmt};
+ghost use Rattle.limbo_small.specs.View.{view_stmt};
 ghost use Rattle.limbo_names.specs.View.{Gives, view_scope};
 ghost use Rattle.limbo_check_expr.specs.View.{view_env};
 ghost use Rattle.limbo_check_stmt.specs.Checking as checking;
@@ -10,13 +10,13 @@ ghost use Rattle.limbo_check_stmt.specs.Checking as checking;
 use inf_text::Span;
 use limbo_check_expr::{Env, declare_local, int_value, refused};
 use limbo_names::{CheckFault, Scope, Unmet, is_int};
+use limbo_small::{TExpr, TNode, TStmt};
 use limbo_tree::{Decl, Expr, Name};
-use limbo_typed::{TExpr, TNode, TStmt};
 use limbo_types::Ty;
 use std::alloc::Global;
 
 // A variable that begins with 0.
-#[tactic(auto, using(limbo_types::proofs::View::the_types, limbo_typed::proofs::View::the_views))]
+#[tactic(auto, using(limbo_types::proofs::View::the_types, limbo_small::proofs::View::the_views))]
 fn zeroed(variable: u32) -> TStmt
     ensures { view_stmt result ≡ checking.zeroed variable }
 {
@@ -51,7 +51,7 @@ fn zeros(alloc: Global, env: &mut Env, names: &[Name]) -> Result<Vec<TStmt>, Che
 }
 
 // A variable that begins with a value, in which it isn't seen yet.
-#[tactic(auto, using(limbo_names::proofs::Steps::fails_bind, limbo_typed::proofs::View::the_views), unfolding(crate::specs::Checking::begun))]
+#[tactic(auto, using(limbo_names::proofs::Steps::fails_bind, limbo_small::proofs::View::the_views), unfolding(crate::specs::Checking::begun))]
 fn begun(
     alloc: Global,
     scope: &Scope,
@@ -84,7 +84,7 @@ fn begun_single(
 }
 
 // Variables whose type is written.
-#[tactic(auto, using(limbo_names::proofs::Steps::fails_bind, limbo_typed::proofs::View::the_views))]
+#[tactic(auto, using(limbo_names::proofs::Steps::fails_bind, limbo_small::proofs::View::the_views))]
 fn typed_var(
     alloc: Global,
     scope: &Scope,

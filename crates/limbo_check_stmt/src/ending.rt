@@ -1,12 +1,12 @@
 //! How the paths of a function end.
 
 ghost use Rattle.std.specs.Prelude.{◌≡◌, map};
-ghost use Rattle.limbo_typed.specs.View.{view_expr, view_stmt, stmts_of};
+ghost use Rattle.limbo_small.specs.View.{view_expr, view_stmt, stmts_of};
 ghost use Rattle.limbo_check_stmt.specs.Checking as checking;
 ghost use Rattle.limbo_check_stmt.specs.Constants as constants;
 
 use crate::constant::constant;
-use limbo_typed::{TExpr, TStmt};
+use limbo_small::{TExpr, TStmt};
 
 // Whether a condition is constant and not 0.
 fn is_endless(e: &TExpr) -> bool
@@ -19,7 +19,7 @@ fn is_endless(e: &TExpr) -> bool
 }
 
 // Whether a statement ends each path, or goes round for ever.
-#[tactic(auto, using(limbo_typed::proofs::View::the_views))]
+#[tactic(auto, using(limbo_small::proofs::View::the_views))]
 #[cycle(ends)]
 fn ends(s: &TStmt) -> bool
     ensures { result ≡ checking.ends (view_stmt s.now) }

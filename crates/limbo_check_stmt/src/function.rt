@@ -5,7 +5,7 @@ ghost use Rattle.limbo_types.specs.View as types;
 ghost use Rattle.limbo_types.specs.View.{view_ty};
 ghost use Rattle.limbo_tree.specs.View as trees;
 ghost use Rattle.limbo_tree.specs.View.{name_of, view_param, view_block};
-ghost use Rattle.limbo_typed.specs.View.{view_stmt, view_function, stmts_of};
+ghost use Rattle.limbo_small.specs.View.{view_stmt, view_function, stmts_of};
 ghost use Rattle.limbo_names.specs.View.{Gives, view_scope, view_signature};
 ghost use Rattle.limbo_check_expr.specs.Envs.{empty};
 ghost use Rattle.limbo_check_expr.specs.View.{view_env};
@@ -20,8 +20,8 @@ use limbo_names::{
     CheckFault, Scope, Signature, Unmet, behind, first_loaded, fn_of, has_name, named, same_fn,
     same_text, same_ty, ty_of,
 };
+use limbo_small::{TFn, TStmt};
 use limbo_tree::{Block, Function, Name, Param, Stmt};
-use limbo_typed::{TFn, TStmt};
 use limbo_types::{FnTy, Ty};
 use std::alloc::Global;
 

@@ -2,7 +2,7 @@
 
 ghost use Rattle.std.specs.Prelude.{◌≡◌, Ok};
 ghost use Rattle.limbo_tree.specs.Sources.{Source};
-ghost use Rattle.limbo_typed.specs.Typed.{Module};
+ghost use Rattle.limbo_small.specs.Typed.{Module};
 ghost use Rattle.limbo_check_stmt.specs.Typing.{IsModule};
 
 /// A source has at most one checked module.

@@ -8,7 +8,7 @@
 //! the rules. For refusals there are no rules.
 //!
 //! It stands behind `limbo_names::is_built`, which tells the sources of the part that is built; of other sources it says only what rules
-//! and function say. Of the sources of the part, what it gives is proper (`limbo_typed/specs/Proper.antt`): the numbers in it exist, and
+//! and function say. Of the sources of the part, what it gives is proper (`limbo_small/specs/Proper.antt`): the numbers in it exist, and
 //! the types fit.
 //!
 //! Read `declare` (variables), `action` (expressions that are statements), `stmt`, `constant` and `ending` (how paths end), `function`, `module`.

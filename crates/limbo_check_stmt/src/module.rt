@@ -2,9 +2,9 @@
 
 ghost use Rattle.std.specs.Prelude.{◌≡◌, [], map, true, IfOk, MatchResult};
 ghost use Rattle.limbo_tree.specs.View.{view_top, view_source};
-ghost use Rattle.limbo_typed.specs.Typed.{Module};
-ghost use Rattle.limbo_typed.specs.View.{view_function, view_module};
-ghost use Rattle.limbo_typed.specs.Proper.{IsProper};
+ghost use Rattle.limbo_small.specs.Typed.{Module};
+ghost use Rattle.limbo_small.specs.View.{view_function, view_module};
+ghost use Rattle.limbo_small.specs.Proper.{IsProper};
 ghost use Rattle.limbo_names.specs.Part.{is_built};
 ghost use Rattle.limbo_names.specs.View.{Gives, view_scope};
 ghost use Rattle.limbo_check_stmt.specs.Checking as checking;
@@ -12,8 +12,8 @@ ghost use Rattle.limbo_check_stmt.specs.Typing.{IsModule};
 
 use crate::function::function;
 use limbo_names::{CheckFault, Scope, declare, has_init};
+use limbo_small::{TFn, TypedModule};
 use limbo_tree::{Source, Top};
-use limbo_typed::{TFn, TypedModule};
 use std::alloc::{AllocError, Global};
 
 // The functions that are defined there.

@@ -3,7 +3,7 @@
 ghost use Rattle.std.specs.Prelude.{◌≡◌, [], ◌∷◌, IfOk, None, Some, map, option_map};
 ghost use Rattle.limbo_types.specs.View.{view_ty};
 ghost use Rattle.limbo_tree.specs.View as trees;
-ghost use Rattle.limbo_typed.specs.View.{view_expr, view_stmt};
+ghost use Rattle.limbo_small.specs.View.{view_expr, view_stmt};
 ghost use Rattle.limbo_names.specs.View.{Gives, view_scope};
 ghost use Rattle.limbo_check_expr.specs.View.{view_env};
 ghost use Rattle.limbo_check_stmt.specs.Checking as checking;
@@ -13,8 +13,8 @@ use crate::declare::local;
 use inf_text::Span;
 use limbo_check_expr::{Env, enter, int_value, leave, refused, span_of};
 use limbo_names::{CheckFault, Scope, Unmet, same_ty};
+use limbo_small::{TExpr, TStmt};
 use limbo_tree::{Block, Expr, Stmt};
-use limbo_typed::{TExpr, TStmt};
 use limbo_types::{FnTy, Ty};
 use std::alloc::{AllocError, Global};
 
@@ -64,7 +64,7 @@ fn returned(
 }
 
 // The return of a function with this answer.
-#[tactic(auto, using(limbo_names::proofs::Steps::fails_bind, limbo_typed::proofs::View::the_views))]
+#[tactic(auto, using(limbo_names::proofs::Steps::fails_bind, limbo_small::proofs::View::the_views))]
 fn returning(
     alloc: Global,
     scope: &Scope,
@@ -89,7 +89,7 @@ fn alone(alloc: Global, s: TStmt) -> Result<Vec<TStmt>, AllocError>
 }
 
 // An `if` without an `else`.
-#[tactic(auto, using(limbo_typed::proofs::View::the_views))]
+#[tactic(auto, using(limbo_small::proofs::View::the_views))]
 fn only_if(alloc: Global, condition: TExpr, then: TStmt) -> Result<TStmt, AllocError>
     ensures { IfOk result (λ s. view_stmt s ≡ checking.only_if (view_expr condition) (view_stmt then)) }
 {
@@ -103,7 +103,7 @@ fn only_if(alloc: Global, condition: TExpr, then: TStmt) -> Result<TStmt, AllocE
 }
 
 // An `if` with an `else`.
-#[tactic(auto, using(limbo_typed::proofs::View::the_views))]
+#[tactic(auto, using(limbo_small::proofs::View::the_views))]
 fn if_else(alloc: Global, condition: TExpr, then: TStmt, other: TStmt) -> Result<TStmt, AllocError>
     ensures { IfOk result (λ s. view_stmt s ≡ checking.if_else (view_expr condition) (view_stmt then) (view_stmt other)) }
 {
@@ -117,7 +117,7 @@ fn if_else(alloc: Global, condition: TExpr, then: TStmt, other: TStmt) -> Result
 }
 
 // A loop.
-#[tactic(auto, using(limbo_typed::proofs::View::the_views))]
+#[tactic(auto, using(limbo_small::proofs::View::the_views))]
 fn while_loop(alloc: Global, condition: TExpr, body: TStmt) -> Result<TStmt, AllocError>
     ensures { IfOk result (λ s. view_stmt s ≡ checking.while_loop (view_expr condition) (view_stmt body)) }
 {
@@ -159,7 +159,7 @@ fn place_of(s: &Stmt) -> Span {
 ///
 /// # Errors
 /// As for its parts, 41 for a second declaration and 50 for types that don't fit among them; want of memory.
-#[tactic(auto, using(limbo_tree::proofs::Stmts::the_stmt_views, limbo_names::proofs::Steps::fails_bind, limbo_typed::proofs::View::the_views, crate::proofs::Others::no_rule), unfolding(crate::specs::Checking::stmt, crate::specs::Checking::block, crate::specs::Checking::stmt_all))]
+#[tactic(auto, using(limbo_tree::proofs::Stmts::the_stmt_views, limbo_names::proofs::Steps::fails_bind, limbo_small::proofs::View::the_views, crate::proofs::Others::no_rule), unfolding(crate::specs::Checking::stmt, crate::specs::Checking::block, crate::specs::Checking::stmt_all))]
 #[cycle(statements)]
 pub fn stmt(
     alloc: Global,

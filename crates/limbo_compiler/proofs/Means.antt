@@ -8,8 +8,8 @@ use Rattle.process_model.specs.Law.{makers, repeated, begins_code}
 use Rattle.process_model.specs.Law as law
 use Rattle.process_model.specs.Plain.{no_names}
 use Rattle.dis_file.specs.declared.object.Object.{Object}
-use Rattle.limbo_typed.specs.Typed.{Module}
-use Rattle.limbo_typed.specs.Proper.{IsProper}
+use Rattle.limbo_small.specs.Typed.{Module}
+use Rattle.limbo_small.specs.Proper.{IsProper}
 use Rattle.limbo_meaning.specs.Program.{Routine}
 use Rattle.limbo_lower.specs.Sizes.{FrameTooLarge}
 use Rattle.dis_meaning.specs.Opening.{Opened, opened, ◌>>=◌}

@@ -1,6 +1,6 @@
 -- How large a module may be.
 use Rattle.std.specs.Prelude.{◌<◌, length}
-use Rattle.limbo_typed.specs.Typed.{Module}
+use Rattle.limbo_small.specs.Typed.{Module}
 use Rattle.limbo_lower.specs.Code.{module_code}
 use Rattle.limbo_lower.specs.Sizes.{FrameTooLarge}
 use Rattle.dis_codegen.specs.Objects.{all_code, most_instructions}

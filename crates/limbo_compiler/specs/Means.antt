@@ -2,8 +2,8 @@
 use Rattle.std.specs.Prelude.{ℕ, ◌≡◌, List, [], ◌∷◌, ◌++◌, Option, Some, None}
 use Rattle.process_model.specs.Source.{Turn}
 use Rattle.process_model.specs.Law.{Paced, makers, repeated}
-use Rattle.limbo_typed.specs.Typed.{Module}
-use Rattle.limbo_typed.specs.Proper.{IsProper}
+use Rattle.limbo_small.specs.Typed.{Module}
+use Rattle.limbo_small.specs.Proper.{IsProper}
 use Rattle.limbo_meaning.specs.Program.{Routine}
 use Rattle.limbo_meaning.specs.Runs.{Meaning, MeaningRun}
 use Rattle.machine_core.specs.declared.event.Event.{Event}

@@ -1,6 +1,6 @@
 ghost use Rattle.std.specs.Prelude.{◌≡◌, IfOk};
-ghost use Rattle.limbo_typed.specs.View.{view_module};
-ghost use Rattle.limbo_typed.specs.Proper.{IsProper};
+ghost use Rattle.limbo_small.specs.View.{view_module};
+ghost use Rattle.limbo_small.specs.Proper.{IsProper};
 ghost use Rattle.limbo_lower.specs.Sizes.{FrameTooLarge};
 ghost use Rattle.dis_meaning.specs.Opening.{StringsSpell};
 ghost use Rattle.code_sim.specs.Keeps.{object_for};
@@ -9,7 +9,7 @@ ghost use Rattle.limbo_compiler.specs.Limits.{CodeTooLarge, IsWithin};
 use dis_codegen::{GenFault, generate};
 use dis_file::Object;
 use limbo_lower::{LowerFault, lower};
-use limbo_typed::TypedModule;
+use limbo_small::TypedModule;
 use std::alloc::Global;
 
 /// Why a module has no object.

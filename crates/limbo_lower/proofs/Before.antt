@@ -1,8 +1,8 @@
 -- The code of statements in a row is that of each, one behind the other.
 use Rattle.std.proofs.Common.{◌≡◌, ℕ, ◌++◌, Option, None, Some, sym, ap, ◌∙◌, refl, append_assoc}
 use Rattle.std.proofs.lemmas.List.{append-nil}
-use Rattle.limbo_typed.specs.Typed as typed
-use Rattle.limbo_typed.specs.Typed.{Expr, Stmt, Stmts}
+use Rattle.limbo_small.specs.Typed as typed
+use Rattle.limbo_small.specs.Typed.{Expr, Stmt, Stmts}
 use Rattle.limbo_meaning.specs.Trees.{Stm, Over, Assign, Eval, If, While, Return, Leave, Print, Block, Done, Then}
 use Rattle.limbo_meaning.specs.Program.{term_of, terms_of, return_of, before, all_before}
 use Rattle.limbo_lower.specs.Code.{stm_code, block_code}

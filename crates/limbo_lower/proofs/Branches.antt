@@ -1,7 +1,7 @@
 -- The code of a statement, from that of its parts.
 use Rattle.std.proofs.Common.{◌≡◌, ℕ, ◌-◌, List, [], ◌∷◌, ◌++◌, map, length, sym, ap, ◌∙◌, arith, append_assoc, length-append}
 use Rattle.std.proofs.lemmas.List.{append-nil, length-map}
-use Rattle.limbo_typed.specs.Typed.{Piece, Stmt, Stmts}
+use Rattle.limbo_small.specs.Typed.{Piece, Stmt, Stmts}
 use Rattle.limbo_meaning.specs.Trees.{Term, Terms, If, While, Print, Block, Done, Then}
 use Rattle.limbo_meaning.specs.Program.{before, all_before}
 use Rattle.core_code.specs.declared.code.CoreInst.{CoreInst}

@@ -2,13 +2,13 @@
 use Rattle.std.proofs.Common.{◌≡◌, ℕ, ℤ, suc, ◌+◌, ◌≤◌, List, [], ◌∷◌, ◌++◌, length, Vec, Box, Global, ap, ◌∙◌, refl, arith, append_assoc, add-one}
 use Rattle.limbo_types.specs.Types.{Ty, Byte, Int, Big, Chars, Nothing, Nil, ArrayOf, ListOf, ChanOf, Tuple, Adt, RefAdt, RefPick, Module}
 use Rattle.limbo_types.specs.View.{view_ty}
-use Rattle.limbo_typed.specs.declared.expr.BinaryOp.{BinaryOp}
-use Rattle.limbo_typed.specs.declared.expr.TExpr as code_expr
-use Rattle.limbo_typed.specs.declared.expr.TNode.TheVariants as node
-use Rattle.limbo_typed.specs.Typed as typed
-use Rattle.limbo_typed.specs.Typed.{Expr, Exprs}
-use Rattle.limbo_typed.specs.View.{view_op, view_expr, view_exprs, view_node}
-use Rattle.limbo_typed.proofs.View.{view_expr-out, view_node-Number, view_node-Variable, view_node-Binary, view_node-Call}
+use Rattle.limbo_small.specs.declared.expr.BinaryOp.{BinaryOp}
+use Rattle.limbo_small.specs.declared.expr.TExpr as code_expr
+use Rattle.limbo_small.specs.declared.expr.TNode.TheVariants as node
+use Rattle.limbo_small.specs.Typed as typed
+use Rattle.limbo_small.specs.Typed.{Expr, Exprs}
+use Rattle.limbo_small.specs.View.{view_op, view_expr, view_exprs, view_node}
+use Rattle.limbo_small.proofs.View.{view_expr-out, view_node-Number, view_node-Variable, view_node-Binary, view_node-Call}
 use Rattle.limbo_meaning.specs.Trees.{Term, Terms, Apply, Call, MoreTerms}
 use Rattle.limbo_meaning.specs.Program.{terms_of}
 use Rattle.core_code.specs.Code as core

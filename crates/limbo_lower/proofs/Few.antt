@@ -1,7 +1,7 @@
 -- How many instructions a module's code has.
 use Rattle.std.proofs.Common.{◌≡◌, ℕ, suc, ◌+◌, ◌*◌, ◌≤◌, List, [], ◌∷◌, ◌++◌, Option, None, Some, length, map, ap, arith, length-append}
-use Rattle.limbo_typed.specs.Typed as typed
-use Rattle.limbo_typed.specs.Typed.{Expr, Exprs, Stmt, Stmts, Function, Module}
+use Rattle.limbo_small.specs.Typed as typed
+use Rattle.limbo_small.specs.Typed.{Expr, Exprs, Stmt, Stmts, Function, Module}
 use Rattle.limbo_meaning.specs.Trees.{Done}
 use Rattle.limbo_meaning.specs.Program.{term_of, terms_of, return_of, before, all_before}
 use Rattle.core_code.specs.Code as core

@@ -6,7 +6,7 @@ use Rattle.std.specs.Option.{option_map}
 use Rattle.process_model.specs.Process.{Went}
 use Rattle.process_model.specs.Alone.{here}
 use Rattle.process_model.specs.Plain.{PlainFollows}
-use Rattle.limbo_typed.specs.Typed.{Piece}
+use Rattle.limbo_small.specs.Typed.{Piece}
 use Rattle.system_model.specs.Values.{Value, zero_value, holds}
 use Rattle.system_model.specs.World.{World}
 use Rattle.system_model.specs.Prints.{Writing, text_of, print}

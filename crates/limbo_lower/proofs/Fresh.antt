@@ -3,9 +3,9 @@ use Rattle.std.proofs.Common.{◌≡◌, ℕ, zero, suc, ◌<◌, List, [], ◌�
 use Rattle.std.specs.Prelude.{slice_get}
 use Rattle.std.proofs.lemmas.Option.{slice_get_within}
 use Rattle.limbo_types.specs.Types.{Ty}
-use Rattle.limbo_typed.specs.Typed as typed
-use Rattle.limbo_typed.specs.Typed.{Expr, Exprs, Stmt, Stmts, Var, Function, Module}
-use Rattle.limbo_typed.specs.Proper.{ProperExpr, ProperExprs, ProperReturn, ProperStmt, ProperStmts, HasVariable, IsProper}
+use Rattle.limbo_small.specs.Typed as typed
+use Rattle.limbo_small.specs.Typed.{Expr, Exprs, Stmt, Stmts, Var, Function, Module}
+use Rattle.limbo_small.specs.Proper.{ProperExpr, ProperExprs, ProperReturn, ProperStmt, ProperStmts, HasVariable, IsProper}
 use Rattle.limbo_meaning.specs.Trees.{Over, Block, Done, Then}
 use Rattle.limbo_meaning.specs.Program.{term_of, terms_of, return_of, before, all_before, routine_of, routines_of}
 use Rattle.limbo_lower.specs.Stands.{Fresh, AllFresh, FreshBlock, FreshRoutines}

@@ -2,9 +2,9 @@
 use Rattle.std.proofs.Common.{◌≡◌, List, [], ◌∷◌, map, refl, sym, ap, subst}
 use Rattle.process_model.specs.Plain.{PlainFollows}
 use Rattle.process_model.proofs.Lifted.{plain_journals}
-use Rattle.limbo_typed.specs.Typed as typed
-use Rattle.limbo_typed.specs.Typed.{Module}
-use Rattle.limbo_typed.specs.Proper.{IsProper}
+use Rattle.limbo_small.specs.Typed as typed
+use Rattle.limbo_small.specs.Typed.{Module}
+use Rattle.limbo_small.specs.Proper.{IsProper}
 use Rattle.system_model.specs.World.{opening_world}
 use Rattle.limbo_meaning.specs.Program.{routine_of, routines_of}
 use Rattle.limbo_meaning.specs.Runs.{first_process}

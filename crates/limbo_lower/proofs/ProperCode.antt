@@ -4,9 +4,9 @@ use Rattle.std.specs.Prelude.{slice_get, slice_index_or, option_map}
 use Rattle.std.proofs.lemmas.List.{length-map, length-take, get_or_past}
 use Rattle.std.proofs.lemmas.Option.{slice_get-map}
 use Rattle.limbo_types.specs.Types.{Ty, Int}
-use Rattle.limbo_typed.specs.Typed as typed
-use Rattle.limbo_typed.specs.Typed.{Expr, Exprs, Stmt, Stmts, Var, Function, Module}
-use Rattle.limbo_typed.specs.Proper.{type_of, types_of, AllInt, IsWord, AllWords, HasFunction, HasVariable, ProperExpr, ProperExprs, ProperStmt, ProperStmts, ProperFunction, IsProper}
+use Rattle.limbo_small.specs.Typed as typed
+use Rattle.limbo_small.specs.Typed.{Expr, Exprs, Stmt, Stmts, Var, Function, Module}
+use Rattle.limbo_small.specs.Proper.{type_of, types_of, AllInt, IsWord, AllWords, HasFunction, HasVariable, ProperExpr, ProperExprs, ProperStmt, ProperStmts, ProperFunction, IsProper}
 use Rattle.limbo_meaning.specs.Trees.{Done}
 use Rattle.limbo_meaning.specs.Program.{term_of, terms_of, before, all_before, routine_of}
 use Rattle.core_code.specs.Code as core

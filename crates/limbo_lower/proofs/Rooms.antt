@@ -1,12 +1,12 @@
 -- The size of a statement, by its variant.
 use Rattle.std.proofs.Common.{◌≡◌, ℕ, ◌+◌, max, Option, Vec, Global, ap, ◌∙◌}
 use Rattle.std.specs.Prelude.{option_map}
-use Rattle.limbo_typed.specs.declared.expr.TExpr.{TExpr}
-use Rattle.limbo_typed.specs.declared.stmt.Piece.{Piece}
-use Rattle.limbo_typed.specs.declared.stmt.TStmt.{TStmt}
-use Rattle.limbo_typed.specs.declared.stmt.TStmt.TheVariants as stmt
-use Rattle.limbo_typed.specs.View.{view_expr, view_exprs, view_stmt, view_stmts}
-use Rattle.limbo_typed.proofs.View.{view_stmt-Empty, view_stmt-Block, view_stmt-Assign, view_stmt-Eval, view_stmt-If, view_stmt-While, view_stmt-Return, view_stmt-Print}
+use Rattle.limbo_small.specs.declared.expr.TExpr.{TExpr}
+use Rattle.limbo_small.specs.declared.stmt.Piece.{Piece}
+use Rattle.limbo_small.specs.declared.stmt.TStmt.{TStmt}
+use Rattle.limbo_small.specs.declared.stmt.TStmt.TheVariants as stmt
+use Rattle.limbo_small.specs.View.{view_expr, view_exprs, view_stmt, view_stmts}
+use Rattle.limbo_small.proofs.View.{view_stmt-Empty, view_stmt-Block, view_stmt-Assign, view_stmt-Eval, view_stmt-If, view_stmt-While, view_stmt-Return, view_stmt-Print}
 use Rattle.limbo_lower.specs.Sizes.{expr_size, exprs_size, returned_size, stmt_size, stmts_size}
 
 pub empty_size : (s : TStmt) → s ≡ stmt.Empty → stmt_size (view_stmt s) ≡ 0

@@ -3,9 +3,9 @@ use Rattle.std.proofs.Common.{◌≡◌, ℕ, suc, ◌+◌, ◌*◌, ◌^◌, �
 use Rattle.std.specs.Option.{option_map}
 use Rattle.std.proofs.lemmas.Option.{slice_get-map, slice_get_within}
 use Rattle.limbo_types.specs.Types.{Ty}
-use Rattle.limbo_typed.specs.Typed as typed
-use Rattle.limbo_typed.specs.Typed.{Expr, Exprs, Stmt, Stmts, Var, Function, Module}
-use Rattle.limbo_typed.specs.Proper.{ProperExpr, ProperExprs, ProperReturn, ProperStmt, ProperStmts, ProperFunction, IsProper}
+use Rattle.limbo_small.specs.Typed as typed
+use Rattle.limbo_small.specs.Typed.{Expr, Exprs, Stmt, Stmts, Var, Function, Module}
+use Rattle.limbo_small.specs.Proper.{ProperExpr, ProperExprs, ProperReturn, ProperStmt, ProperStmts, ProperFunction, IsProper}
 use Rattle.limbo_meaning.specs.Trees.{Done}
 use Rattle.limbo_meaning.specs.Program.{term_of, terms_of, return_of, before, all_before, routine_of}
 use Rattle.core_code.specs.Code as core

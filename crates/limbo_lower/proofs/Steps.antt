@@ -3,7 +3,7 @@ use Rattle.std.proofs.Common.{◌≡◌, ℕ, zero, suc, ◌-◌, ◌<◌, ◌�
 use Rattle.std.specs.Prelude.{slice_get, slice_set, slice_index_or, replicate}
 use Rattle.std.proofs.lemmas.List.{get_or-set_same, get_or-set_other}
 use Rattle.std.proofs.lemmas.Bool.{cases_eq}
-use Rattle.limbo_typed.specs.Typed.{Piece}
+use Rattle.limbo_small.specs.Typed.{Piece}
 use Rattle.system_model.specs.Values.{Value, zero_value}
 use Rattle.limbo_meaning.specs.Trees.{Term, Terms, Stm, Print, Done}
 use Rattle.limbo_meaning.specs.Program.{Routine}

@@ -1,6 +1,6 @@
 -- One step of an expression, and the instruction that does it.
 use Rattle.std.proofs.Common.{◌≡◌, ℕ, suc, ◌≤◌, true, false, List, [], ◌∷◌, ◌++◌, refl, sym, ap, ◌∙◌, subst, arith}
-use Rattle.limbo_typed.specs.Typed.{Operator}
+use Rattle.limbo_small.specs.Typed.{Operator}
 use Rattle.system_model.specs.Values.{Value, Num, result_of}
 use Rattle.system_model.specs.World.{World}
 use Rattle.limbo_meaning.specs.Trees.{Term, Evaluated, Awaiting, Constant, Variable, Apply, Call, Terms, NoTerms, MoreTerms}

@@ -2,7 +2,7 @@
 -- has none, and its value is in the slot where the code of the part put it.
 use Rattle.std.specs.Prelude.{ℕ, suc, Bool, true, false, ◌+◌, max, List, [], ◌∷◌, ◌++◌, length, map}
 use Rattle.limbo_types.specs.Types.{Ty, Int}
-use Rattle.limbo_typed.specs.Typed as typed
+use Rattle.limbo_small.specs.Typed as typed
 use Rattle.system_model.specs.Values.{Value, Num}
 use Rattle.limbo_meaning.specs.Trees.{Term, Evaluated, Awaiting, Constant, Variable, Apply, Call, Terms, NoTerms, MoreTerms, Stm, Over, Assign, Eval, If, While, Return, Leave, Print, Block, Done, Then, Again}
 use Rattle.limbo_meaning.specs.Program.{Routine, routine_of}

@@ -4,7 +4,7 @@ use Rattle.styx_msg.specs.declared.message.Rmsg.{Rmsg}
 use Rattle.process_model.specs.Machine.{State, Event, replay}
 use Rattle.process_model.specs.Law.{begins_code}
 use Rattle.process_model.specs.Plain.{PlainFollows, no_names}
-use Rattle.limbo_typed.specs.Typed.{Function, Module}
+use Rattle.limbo_small.specs.Typed.{Function, Module}
 use Rattle.system_model.specs.Values.{Value}
 use Rattle.system_model.specs.World.{World, opening_world}
 use Rattle.system_model.specs.Prints.{Request}

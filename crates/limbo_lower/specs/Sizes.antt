@@ -1,7 +1,7 @@
 -- How large a function's frame may be, and how many nodes a module has.
 use Rattle.std.specs.Prelude.{ℕ, suc, ◌+◌, ◌*◌, ◌<◌, ◌≡◌, max, List, [], ◌∷◌, length, Option, Some, None, slice_get}
 use Rattle.limbo_types.specs.Types.{Ty, Nothing}
-use Rattle.limbo_typed.specs.Typed.{Expr, Exprs, Number, Variable, Binary, Call, NoExprs, MoreExprs, Stmt, Stmts, Empty, Block, Assign, Eval, If, While, Return, Print, NoStmts, MoreStmts, Function, Module}
+use Rattle.limbo_small.specs.Typed.{Expr, Exprs, Number, Variable, Binary, Call, NoExprs, MoreExprs, Stmt, Stmts, Empty, Block, Assign, Eval, If, While, Return, Print, NoStmts, MoreStmts, Function, Module}
 
 -- What a node of an expression takes: the bytes of its value, rounded up to 8, and 16 more. A value of this part is an int, or
 -- there is none.

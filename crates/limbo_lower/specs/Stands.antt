@@ -3,7 +3,7 @@
 use Rattle.std.specs.Prelude.{ℕ, suc, ◌+◌, ◌-◌, ◌<◌, ◌≤◌, ◌≡◌, Bool, true, false, List, [], ◌∷◌, length, Some, slice_get, slice_index_or}
 use Rattle.styx_msg.specs.declared.message.Rmsg.{Rmsg}
 use Rattle.process_model.specs.Plain.{PlainSides}
-use Rattle.limbo_typed.specs.Typed.{Piece}
+use Rattle.limbo_small.specs.Typed.{Piece}
 use Rattle.system_model.specs.Values.{Value, zero_value}
 use Rattle.system_model.specs.World.{World}
 use Rattle.system_model.specs.Prints.{Request}

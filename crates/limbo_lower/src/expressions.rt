@@ -1,12 +1,12 @@
 ghost use Rattle.std.specs.Prelude.{◌≡◌, ◌+◌, ◌≤◌, ◌^◌, [], ◌∷◌, ◌++◌, OnOk, map};
-ghost use Rattle.limbo_typed.specs.View.{view_expr, view_exprs};
+ghost use Rattle.limbo_small.specs.View.{view_expr, view_exprs};
 ghost use Rattle.limbo_meaning.specs.Program.{term_of, terms_of};
 ghost use Rattle.core_code.specs.View.{view_inst};
 ghost use Rattle.limbo_lower.specs.Code.{term_code, terms_code};
 ghost use Rattle.limbo_lower.specs.Sizes.{expr_size, exprs_size};
 
 use core_code::CoreInst;
-use limbo_typed::{TExpr, TNode};
+use limbo_small::{TExpr, TNode};
 use std::alloc::AllocError;
 
 /// Adds one instruction.
@@ -19,7 +19,7 @@ pub fn put(code: &mut Vec<CoreInst>, inst: CoreInst) -> Result<(), AllocError>
 
 /// Adds the code of an expression, which puts its value into slot `d`.
 #[cycle(expressions)]
-#[tactic(auto, using(limbo_typed::proofs::View::the_views))]
+#[tactic(auto, using(limbo_small::proofs::View::the_views))]
 pub fn emit_expr(code: &mut Vec<CoreInst>, e: &TExpr, d: u32) -> Result<(), AllocError>
     requires { d + expr_size (view_expr e.now) ≤ 2 ^ 31 }
     ensures { OnOk result (map view_inst code.new.items ≡ map view_inst code.old.items ++ term_code d (term_of (view_expr e.now))) }

@@ -1,7 +1,7 @@
 //! What holds of the code of every module.
 
-ghost use Rattle.limbo_typed.specs.Typed.{Module};
-ghost use Rattle.limbo_typed.specs.Proper.{IsProper};
+ghost use Rattle.limbo_small.specs.Typed.{Module};
+ghost use Rattle.limbo_small.specs.Proper.{IsProper};
 ghost use Rattle.limbo_lower.specs.Code.{module_code};
 ghost use Rattle.limbo_lower.specs.Keeps.{Keeps, JournalsAreRuns};
 

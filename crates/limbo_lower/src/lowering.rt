@@ -1,7 +1,7 @@
 ghost use Rattle.std.specs.Prelude.{◌≡◌, ◌+◌, ◌*◌, ◌<◌, ◌≤◌, ◌^◌, IfOk, OnOk, length, map};
 ghost use Rattle.limbo_types.specs.View.{view_ty};
-ghost use Rattle.limbo_typed.specs.View.{view_var, view_function, view_module};
-ghost use Rattle.limbo_typed.specs.Proper.{IsProper};
+ghost use Rattle.limbo_small.specs.View.{view_var, view_function, view_module};
+ghost use Rattle.limbo_small.specs.Proper.{IsProper};
 ghost use Rattle.limbo_meaning.specs.Program.{routine_of};
 ghost use Rattle.core_code.specs.Proper as core_proper;
 ghost use Rattle.core_code.specs.View as core;
@@ -16,7 +16,7 @@ use crate::fault::LowerFault;
 use crate::sizes::frame_fits;
 use crate::statements::emit_stmts;
 use core_code::{CoreFn, CoreInst, CoreModule};
-use limbo_typed::{TFn, TVar, TypedModule};
+use limbo_small::{TFn, TVar, TypedModule};
 use limbo_types::Ty;
 use std::alloc::{AllocError, Global};
 

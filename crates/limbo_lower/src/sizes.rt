@@ -1,10 +1,10 @@
 ghost use Rattle.std.specs.Prelude.{◌≡◌, ◌+◌, ◌<◌, ◌≤◌, ◌↔◌, IsTrue, MatchOption, option_map};
 ghost use Rattle.limbo_types.specs.View.{view_ty};
-ghost use Rattle.limbo_typed.specs.View.{view_expr, view_exprs, view_stmt, view_stmts, view_function};
+ghost use Rattle.limbo_small.specs.View.{view_expr, view_exprs, view_stmt, view_stmts, view_function};
 ghost use Rattle.limbo_lower.specs.Sizes as sizes;
 ghost use Rattle.limbo_lower.specs.Sizes.{expr_size, exprs_size, returned_size, stmt_size, stmts_size, frame_size, largest_frame};
 
-use limbo_typed::{TExpr, TFn, TNode, TStmt};
+use limbo_small::{TExpr, TFn, TNode, TStmt};
 use limbo_types::Ty;
 
 // A frame has at most so many bytes, and so many of them are the same in each.

@@ -1,5 +1,5 @@
 ghost use Rattle.std.specs.Prelude.{◌≡◌, ◌+◌, ◌-◌, ◌≤◌, ◌^◌, [], ◌∷◌, ◌++◌, OnOk, IfOk, map, option_map, vec_len};
-ghost use Rattle.limbo_typed.specs.View.{view_expr, view_exprs, view_piece, view_stmt, view_stmts};
+ghost use Rattle.limbo_small.specs.View.{view_expr, view_exprs, view_piece, view_stmt, view_stmts};
 ghost use Rattle.limbo_meaning.specs.Trees.{Done, Print};
 ghost use Rattle.limbo_meaning.specs.Program.{terms_of, return_of, before, all_before};
 ghost use Rattle.core_code.specs.View.{view_inst};
@@ -8,7 +8,7 @@ ghost use Rattle.limbo_lower.specs.Sizes.{exprs_size, returned_size, stmt_size, 
 
 use crate::expressions::{emit_expr, emit_exprs, put};
 use core_code::CoreInst;
-use limbo_typed::{Piece, TExpr, TStmt};
+use limbo_small::{Piece, TExpr, TStmt};
 use std::alloc::{AllocError, Global};
 
 fn copied_piece(piece: &Piece) -> Result<Piece, AllocError>

@@ -11,8 +11,8 @@ use Rattle.process_model.specs.Machine.{State, Event, Quantum, Reply, replay}
 use Rattle.process_model.specs.Law.{begins_code}
 use Rattle.process_model.specs.Plain.{no_names}
 use Rattle.limbo_types.specs.Types.{Ty, Int, Nothing}
-use Rattle.limbo_typed.specs.Typed.{Operator, Add, Subtract, Multiply, Less, Equal, Expr, Number, Variable, Binary, Call, NoExprs, MoreExprs, Chars, Decimal, Stmt, Stmts, Assign, Eval, If, While, Return, Print, NoStmts, MoreStmts, Var, Function, Module}
-use Rattle.limbo_typed.specs.Proper.{HasFunction, ProperExpr, ProperFunction, IsProper}
+use Rattle.limbo_small.specs.Typed.{Operator, Add, Subtract, Multiply, Less, Equal, Expr, Number, Variable, Binary, Call, NoExprs, MoreExprs, Chars, Decimal, Stmt, Stmts, Assign, Eval, If, While, Return, Print, NoStmts, MoreStmts, Var, Function, Module}
+use Rattle.limbo_small.specs.Proper.{HasFunction, ProperExpr, ProperFunction, IsProper}
 use Rattle.system_model.specs.Values.{Value}
 use Rattle.system_model.proofs.Bytes.{byte_at}
 use Rattle.system_model.specs.World.{World, opening_world}

@@ -4,9 +4,9 @@ use Rattle.std.specs.Prelude.{slice_get}
 use Rattle.process_model.specs.Process.{Waiting}
 use Rattle.process_model.specs.Law.{begins}
 use Rattle.limbo_types.specs.Types.{Ty}
-use Rattle.limbo_typed.specs.Typed as typed
-use Rattle.limbo_typed.specs.Typed.{Expr, Exprs, Stmt, Stmts, Var, Function}
-use Rattle.limbo_typed.specs.Proper.{HasFunction, ProperExpr, ProperExprs, ProperReturn, ProperStmt, ProperStmts, ProperFunction}
+use Rattle.limbo_small.specs.Typed as typed
+use Rattle.limbo_small.specs.Typed.{Expr, Exprs, Stmt, Stmts, Var, Function}
+use Rattle.limbo_small.specs.Proper.{HasFunction, ProperExpr, ProperExprs, ProperReturn, ProperStmt, ProperStmts, ProperFunction}
 use Rattle.system_model.specs.World.{opening_world}
 use Rattle.system_model.specs.Limits.{frames_limit}
 use Rattle.limbo_meaning.specs.Trees.{Over, Block, Done, Then}

@@ -7,7 +7,7 @@ use Rattle.process_model.specs.Process.{Requested, Replied, Over}
 use Rattle.process_model.specs.Machine.{State, Event, Quantum, Reply, replay}
 use Rattle.process_model.specs.Law.{begins_code}
 use Rattle.process_model.specs.Plain.{no_names}
-use Rattle.limbo_typed.specs.Typed.{Module}
+use Rattle.limbo_small.specs.Typed.{Module}
 use Rattle.system_model.specs.Values.{Value}
 use Rattle.system_model.specs.World.{World, opening_world}
 use Rattle.system_model.specs.Prints.{Request, Printing, Requests, ask_piece}

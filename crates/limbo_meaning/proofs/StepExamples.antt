@@ -5,7 +5,7 @@ use Rattle.std.specs.Fmt.{digits}
 use Rattle.styx_msg.specs.declared.message.Rmsg.TheVariants as r
 use Rattle.process_model.specs.Process.{Went, Parks, Asks, Ends}
 use Rattle.process_model.specs.Plain.{no_names}
-use Rattle.limbo_typed.specs.Typed.{Add, Subtract, Multiply, Less, Equal, Chars, Decimal}
+use Rattle.limbo_small.specs.Typed.{Add, Subtract, Multiply, Less, Equal, Chars, Decimal}
 use Rattle.system_model.specs.Values.{Value, Num, result_of}
 use Rattle.system_model.specs.World.{World, opening_world, free_tag, begin_wait, wrote}
 use Rattle.system_model.specs.Prints.{text_of, twrite}

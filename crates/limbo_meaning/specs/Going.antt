@@ -2,8 +2,8 @@
 use Rattle.std.specs.Prelude.{ℕ, ◌≡◌, List, Some, slice_get}
 use Rattle.process_model.specs.Process.{Branch, Waiting}
 use Rattle.process_model.specs.Source.{Turn}
-use Rattle.limbo_typed.specs.Typed.{Module}
-use Rattle.limbo_typed.specs.Proper.{IsProper}
+use Rattle.limbo_small.specs.Typed.{Module}
+use Rattle.limbo_small.specs.Proper.{IsProper}
 use Rattle.system_model.specs.Values.{Value}
 use Rattle.limbo_meaning.specs.Process.{Process}
 use Rattle.limbo_meaning.specs.Runs.{Meaning, MeaningRun}

@@ -4,7 +4,7 @@ use Rattle.std.specs.Prelude.{ℕ, suc, ◌≡◌, ◌≤◌, List, Some, slice_
 use Rattle.styx_msg.specs.declared.message.Rmsg.{Rmsg}
 use Rattle.process_model.specs.Process.{Went, Asks, Doing, Ready, Waiting, Asking, Gone}
 use Rattle.process_model.specs.Source.{Turn}
-use Rattle.limbo_typed.specs.Typed.{Module}
+use Rattle.limbo_small.specs.Typed.{Module}
 use Rattle.system_model.specs.Values.{Value}
 use Rattle.system_model.specs.World.{World}
 use Rattle.system_model.specs.Prints.{Request}

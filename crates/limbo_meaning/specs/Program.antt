@@ -1,7 +1,7 @@
 -- The functions of a checked module, as trees of which nothing is done yet.
 use Rattle.std.specs.Prelude.{ℕ, List, map, length, Option, Some, None}
-use Rattle.limbo_typed.specs.Typed as typed
-use Rattle.limbo_typed.specs.Typed.{Expr, Exprs, Stmt, Stmts, Function, Module}
+use Rattle.limbo_small.specs.Typed as typed
+use Rattle.limbo_small.specs.Typed.{Expr, Exprs, Stmt, Stmts, Function, Module}
 use Rattle.system_model.specs.Values.{Num}
 use Rattle.limbo_meaning.specs.Trees.{Term, Constant, Variable, Apply, Call, Terms, NoTerms, MoreTerms, Over, Assign, Eval, If, While, Return, Leave, Print, Block, Done, Then}
 

@@ -3,7 +3,7 @@ use Rattle.std.specs.Prelude.{ℕ, ◌≡◌, List, [], Some, None, slice_get}
 use Rattle.styx_msg.specs.declared.message.Rmsg.{Rmsg}
 use Rattle.process_model.specs.Source.{Config, Turn, Matched}
 use Rattle.process_model.specs.Law.{begins}
-use Rattle.limbo_typed.specs.Typed.{Module}
+use Rattle.limbo_small.specs.Typed.{Module}
 use Rattle.system_model.specs.Values.{Value}
 use Rattle.system_model.specs.Limits.{frames_limit}
 use Rattle.system_model.specs.World.{World, opening_world}

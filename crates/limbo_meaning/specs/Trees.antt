@@ -1,6 +1,6 @@
 -- Trees in evaluation: what is left to do of an expression, of a statement, and of a function's body.
 use Rattle.std.specs.Prelude.{ℕ, List}
-use Rattle.limbo_typed.specs.Typed.{Operator, Piece}
+use Rattle.limbo_small.specs.Typed.{Operator, Piece}
 use Rattle.system_model.specs.Values.{Value}
 
 -- What is left of an expression. A part that is evaluated is its value; a part that waits for the answer of a call, or of a

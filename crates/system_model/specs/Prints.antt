@@ -5,7 +5,7 @@ use Rattle.styx_msg.specs.Styx.{spelling, t_row}
 use Rattle.styx_msg.specs.declared.message.Tmsg.TheVariants as t
 use Rattle.styx_msg.specs.declared.message.Rmsg.{Rmsg}
 use Rattle.styx_msg.specs.declared.message.Rmsg.TheVariants as r
-use Rattle.limbo_typed.specs.Typed.{Piece, Chars, Decimal}
+use Rattle.limbo_small.specs.Typed.{Piece, Chars, Decimal}
 use Rattle.system_model.specs.Values.{Value, Num, int_of}
 use Rattle.system_model.specs.World.{World, free_tag, begin_wait, end_wait, wrote}
 

@@ -1,5 +1,5 @@
 use Rattle.std.proofs.Common.{◌≡◌, ◌++◌, drop, map}
-use Rattle.limbo_typed.specs.View.{view_piece}
+use Rattle.limbo_small.specs.View.{view_piece}
 use Rattle.dis_codegen.specs.Code.{format_text}
 use Rattle.dis_codegen.proofs.formats.format_text.Given as goal
 

@@ -1,5 +1,5 @@
 use Rattle.limbo_tree.specs.View.{view_source}
-use Rattle.limbo_typed.specs.View.{view_module}
+use Rattle.limbo_small.specs.View.{view_module}
 use Rattle.limbo_check_stmt.proofs.Begins.{programs_begin}
 use Rattle.limbo_check_stmt.proofs.JudgedSource.{given}
 use Rattle.inferno_tool.proofs.Begins.{compiled}

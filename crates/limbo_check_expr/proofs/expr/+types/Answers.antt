@@ -2,8 +2,8 @@ use Rattle.std.proofs.Common.{◌≡◌, Result, subst, sym, ap, map}
 use Rattle.std.proofs.lemmas.Result.{err_from_is_err_and}
 use Rattle.limbo_tree.specs.View as trees
 use Rattle.limbo_types.specs.View.{view_fn}
-use Rattle.limbo_typed.specs.View.{view_expr}
-use Rattle.limbo_typed.specs.Typed.{Expr}
+use Rattle.limbo_small.specs.View.{view_expr}
+use Rattle.limbo_small.specs.Typed.{Expr}
 use Rattle.limbo_names.specs.declared.fault.Unmet.{Unmet}
 use Rattle.limbo_names.specs.View.{Gives, Refuses, view_scope}
 use Rattle.limbo_check_expr.specs.Checking.{type_all}

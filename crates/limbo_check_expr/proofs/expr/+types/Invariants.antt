@@ -3,7 +3,7 @@ use Rattle.std.proofs.Common.{◌≡◌, [], map, drop}
 use Rattle.limbo_check_expr.specs.Checking.{type_all}
 use Rattle.limbo_check_expr.specs.View.{view_env}
 use Rattle.limbo_names.specs.View.{view_scope}
-use Rattle.limbo_typed.specs.View.{view_expr}
+use Rattle.limbo_small.specs.View.{view_expr}
 use Rattle.limbo_check_expr.proofs.expr.+types.Given as goal
 
 abbrev pub invariant-type_all-loop-e : goal.invariant-type_all-loop-e

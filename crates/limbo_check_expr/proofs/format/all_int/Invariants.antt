@@ -1,6 +1,6 @@
 use Rattle.std.proofs.Common.{◌≡◌, map, drop}
 use Rattle.limbo_check_expr.specs.Formats.{all_int}
-use Rattle.limbo_typed.specs.View.{view_expr}
+use Rattle.limbo_small.specs.View.{view_expr}
 use Rattle.limbo_check_expr.proofs.format.all_int.Given as goal
 
 abbrev pub invariant-loop-x : goal.invariant-loop-x

@@ -1,6 +1,6 @@
 use Rattle.std.proofs.Common.{◌≡◌, ◌+◌, ◌≤◌, map, drop}
-use Rattle.limbo_typed.specs.Proper.{holes}
-use Rattle.limbo_typed.specs.View.{view_piece}
+use Rattle.limbo_small.specs.Proper.{holes}
+use Rattle.limbo_small.specs.View.{view_piece}
 use Rattle.limbo_check_expr.proofs.format.count_holes.Given as goal
 
 abbrev pub invariant-loop-piece : goal.invariant-loop-piece

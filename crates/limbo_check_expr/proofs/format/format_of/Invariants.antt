@@ -1,6 +1,6 @@
 use Rattle.std.proofs.Common.{◌≡◌, [], false, map, drop}
 use Rattle.limbo_check_expr.specs.Formats.{pieces}
-use Rattle.limbo_typed.specs.View.{view_piece}
+use Rattle.limbo_small.specs.View.{view_piece}
 use Rattle.limbo_check_expr.proofs.format.format_of.Given as goal
 
 abbrev pub invariant-loop-c : goal.invariant-loop-c

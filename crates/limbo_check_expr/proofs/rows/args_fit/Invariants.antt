@@ -1,7 +1,7 @@
 use Rattle.std.proofs.Common.{◌≡◌, map, drop}
 use Rattle.limbo_names.specs.Scopes.{same_list}
-use Rattle.limbo_typed.specs.Proper.{type_of}
-use Rattle.limbo_typed.specs.View.{view_expr}
+use Rattle.limbo_small.specs.Proper.{type_of}
+use Rattle.limbo_small.specs.View.{view_expr}
 use Rattle.limbo_types.specs.View.{view_ty}
 use Rattle.limbo_check_expr.proofs.rows.args_fit.Given as goal
 

@@ -2,7 +2,7 @@ use Rattle.std.proofs.Common.{◌≡◌, [], map, drop}
 use Rattle.limbo_tree.specs.View.{names_of}
 use Rattle.limbo_check_stmt.specs.Checking.{zeros}
 use Rattle.limbo_check_expr.specs.View.{view_env}
-use Rattle.limbo_typed.specs.View.{view_stmt}
+use Rattle.limbo_small.specs.View.{view_stmt}
 use Rattle.limbo_check_stmt.proofs.declare.zeros.Given as goal
 
 abbrev pub invariant-loop-name : goal.invariant-loop-name

@@ -2,7 +2,7 @@ use Rattle.std.proofs.Common.{◌≡◌, [], map, drop}
 use Rattle.limbo_check_stmt.specs.Checking.{functions}
 use Rattle.limbo_names.specs.View.{view_scope}
 use Rattle.limbo_tree.specs.View.{view_top}
-use Rattle.limbo_typed.specs.View.{view_function}
+use Rattle.limbo_small.specs.View.{view_function}
 use Rattle.limbo_check_stmt.proofs.module.functions.Given as goal
 
 abbrev pub invariant-loop-top : goal.invariant-loop-top

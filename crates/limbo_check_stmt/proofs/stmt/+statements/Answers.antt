@@ -2,7 +2,7 @@ use Rattle.std.proofs.Common.{[], sym, ap, ◌∙◌, map}
 use Rattle.limbo_types.specs.View.{view_ty}
 use Rattle.limbo_tree.specs.View.{stmts_of}
 use Rattle.limbo_tree.specs.View.{view_stmt as view_tree}
-use Rattle.limbo_typed.specs.View.{view_stmt}
+use Rattle.limbo_small.specs.View.{view_stmt}
 use Rattle.limbo_names.specs.View.{view_scope}
 use Rattle.limbo_check_expr.specs.View.{view_env}
 use Rattle.limbo_check_stmt.specs.Checking.{stmt_all}

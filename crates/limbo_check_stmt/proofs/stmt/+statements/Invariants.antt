@@ -4,7 +4,7 @@ use Rattle.limbo_types.specs.View.{view_ty}
 use Rattle.limbo_names.specs.View.{view_scope}
 use Rattle.limbo_check_stmt.specs.Checking.{stmt_all}
 use Rattle.limbo_check_expr.specs.View.{view_env}
-use Rattle.limbo_typed.specs.View.{view_stmt}
+use Rattle.limbo_small.specs.View.{view_stmt}
 use Rattle.limbo_check_stmt.proofs.stmt.+statements.Given as goal
 
 abbrev pub invariant-stmt_all-loop-s : goal.invariant-stmt_all-loop-s

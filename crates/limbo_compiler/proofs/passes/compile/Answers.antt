@@ -1,6 +1,6 @@
 use Rattle.std.proofs.Common.{sym, subst}
 use Rattle.core_code.specs.Code.{Module}
-use Rattle.limbo_typed.specs.View.{view_module}
+use Rattle.limbo_small.specs.View.{view_module}
 use Rattle.limbo_lower.specs.Code.{module_code}
 use Rattle.dis_codegen.specs.Sites.{AllSmall}
 use Rattle.dis_codegen.proofs.Spelled.{spelled_at}

@@ -1,7 +1,7 @@
 use Rattle.std.proofs.Common.{arith, ◌≡◌, ◌+◌, ◌++◌, map, drop, sym, ap, ◌∙◌}
 use Rattle.std.proofs.lemmas.List.{at_drop_more}
-use Rattle.limbo_typed.specs.Typed.{MoreExprs}
-use Rattle.limbo_typed.specs.View.{view_op, view_expr, view_exprs}
+use Rattle.limbo_small.specs.Typed.{MoreExprs}
+use Rattle.limbo_small.specs.View.{view_op, view_expr, view_exprs}
 use Rattle.limbo_meaning.specs.Program.{term_of, terms_of}
 use Rattle.core_code.specs.View.{view_inst}
 use Rattle.limbo_lower.specs.Code.{term_code, terms_code}

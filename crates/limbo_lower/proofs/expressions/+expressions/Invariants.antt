@@ -1,5 +1,5 @@
 use Rattle.std.proofs.Common.{◌≡◌, ◌≤◌, ◌+◌, ◌*◌, ◌^◌, ◌++◌, map, drop}
-use Rattle.limbo_typed.specs.View.{view_expr, view_exprs}
+use Rattle.limbo_small.specs.View.{view_expr, view_exprs}
 use Rattle.limbo_meaning.specs.Program.{terms_of}
 use Rattle.core_code.specs.View.{view_inst}
 use Rattle.limbo_lower.specs.Code.{terms_code}

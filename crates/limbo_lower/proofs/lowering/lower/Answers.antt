@@ -1,5 +1,5 @@
 use Rattle.std.proofs.Common.{◌≡◌, ◌≤◌, ◌*◌, Result, Ok, Err, IfOk, sym, subst}
-use Rattle.limbo_typed.specs.View.{view_module}
+use Rattle.limbo_small.specs.View.{view_module}
 use Rattle.core_code.specs.declared.code.CoreModule.{CoreModule}
 use Rattle.core_code.specs.Code as core_code
 use Rattle.core_code.specs.Proper as core_proper

@@ -1,9 +1,9 @@
 use Rattle.std.proofs.Common.{◌≡◌, ℕ, zero, suc, ◌<◌, List, [], ◌∷◌, length, map, get_or, Some, Err, sym, ap, ◌∙◌, refl, arith}
 use Rattle.std.specs.Prelude.{slice_get, option_map}
 use Rattle.std.proofs.lemmas.Option.{slice_get-map, slice_get_read}
-use Rattle.limbo_typed.specs.declared.module.TFn.{TFn}
-use Rattle.limbo_typed.specs.Typed.{Function}
-use Rattle.limbo_typed.specs.View.{view_function}
+use Rattle.limbo_small.specs.declared.module.TFn.{TFn}
+use Rattle.limbo_small.specs.Typed.{Function}
+use Rattle.limbo_small.specs.View.{view_function}
 use Rattle.limbo_lower.specs.declared.fault.LowerFault.TheVariants.{FrameTooLarge}
 use Rattle.limbo_lower.specs.Sizes.{frame_size}
 use Rattle.limbo_lower.proofs.SlotBounds.{slots_few}

@@ -1,6 +1,6 @@
 use Rattle.std.proofs.Common.{◌≡◌, ℕ, ◌<◌, ◌≤◌, map, take, get_or}
-use Rattle.limbo_typed.specs.declared.module.TFn.{TFn}
-use Rattle.limbo_typed.specs.View.{view_function}
+use Rattle.limbo_small.specs.declared.module.TFn.{TFn}
+use Rattle.limbo_small.specs.View.{view_function}
 use Rattle.core_code.specs.View as core
 use Rattle.limbo_lower.specs.Code.{function_code}
 use Rattle.limbo_lower.specs.Sizes.{frame_size, largest_frame}

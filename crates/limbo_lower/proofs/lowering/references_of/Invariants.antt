@@ -1,5 +1,5 @@
 use Rattle.std.proofs.Common.{◌≡◌, map, take}
-use Rattle.limbo_typed.specs.View.{view_var}
+use Rattle.limbo_small.specs.View.{view_var}
 use Rattle.limbo_lower.specs.Code.{is_reference}
 use Rattle.limbo_lower.proofs.lowering.references_of.Given as goal
 

@@ -1,6 +1,6 @@
 use Rattle.std.proofs.Common.{arith, ap}
 use Rattle.std.proofs.lemmas.Grind.{common_steps}
-use Rattle.limbo_typed.specs.View.{view_stmts}
+use Rattle.limbo_small.specs.View.{view_stmts}
 use Rattle.limbo_lower.specs.Sizes.{stmts_size}
 use Rattle.limbo_lower.proofs.Rooms.{assign_size, if_size, while_size, print_size}
 use Rattle.limbo_lower.proofs.sizes.+frames.Goals as goal

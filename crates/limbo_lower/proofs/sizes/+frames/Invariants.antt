@@ -1,5 +1,5 @@
 use Rattle.std.proofs.Common.{drop, ◌≤◌, ◌↔◌}
-use Rattle.limbo_typed.specs.View.{view_stmts}
+use Rattle.limbo_small.specs.View.{view_stmts}
 use Rattle.limbo_lower.specs.Sizes.{stmts_size}
 use Rattle.limbo_lower.proofs.sizes.+frames.Given as goal
 

@@ -1,6 +1,6 @@
 use Rattle.std.proofs.Common.{arith, ap}
 use Rattle.std.proofs.lemmas.Grind.{common_steps}
-use Rattle.limbo_typed.specs.View.{view_expr}
+use Rattle.limbo_small.specs.View.{view_expr}
 use Rattle.limbo_lower.specs.Sizes.{expr_size}
 use Rattle.limbo_lower.proofs.Emission.{binary_size}
 use Rattle.limbo_lower.proofs.sizes.+sizes.Goals as goal

@@ -1,5 +1,5 @@
 use Rattle.std.proofs.Common.{◌≡◌, ◌+◌, drop}
-use Rattle.limbo_typed.specs.View.{view_exprs}
+use Rattle.limbo_small.specs.View.{view_exprs}
 use Rattle.limbo_lower.specs.Sizes.{exprs_size}
 use Rattle.limbo_lower.proofs.sizes.+sizes.Given as goal
 

@@ -1,8 +1,8 @@
 use Rattle.std.proofs.Common.{arith, ◌≡◌, ◌+◌, ◌-◌, ◌++◌, [], ◌∷◌, map, length, drop, sym, ap, ◌∙◌}
 use Rattle.std.proofs.lemmas.List.{append-nil, at_drop_more}
-use Rattle.limbo_typed.specs.Typed.{MoreStmts}
-use Rattle.limbo_typed.specs.View.{view_expr, view_exprs, view_piece, view_stmt, view_stmts}
-use Rattle.limbo_typed.proofs.View.{view_stmt-Empty, view_stmt-Block, view_stmt-Assign, view_stmt-Eval, view_stmt-If, view_stmt-While, view_stmt-Return, view_stmt-Print}
+use Rattle.limbo_small.specs.Typed.{MoreStmts}
+use Rattle.limbo_small.specs.View.{view_expr, view_exprs, view_piece, view_stmt, view_stmts}
+use Rattle.limbo_small.proofs.View.{view_stmt-Empty, view_stmt-Block, view_stmt-Assign, view_stmt-Eval, view_stmt-If, view_stmt-While, view_stmt-Return, view_stmt-Print}
 use Rattle.limbo_meaning.specs.Trees.{Eval, Print, Done}
 use Rattle.limbo_meaning.specs.Program.{term_of, terms_of, before, all_before}
 use Rattle.core_code.specs.Code as core

@@ -1,5 +1,5 @@
 use Rattle.std.proofs.Common.{◌≡◌, ◌≤◌, ◌+◌, ◌*◌, ◌++◌, map, drop}
-use Rattle.limbo_typed.specs.View.{view_stmt, view_stmts}
+use Rattle.limbo_small.specs.View.{view_stmt, view_stmts}
 use Rattle.limbo_meaning.specs.Trees.{Done}
 use Rattle.limbo_meaning.specs.Program.{all_before}
 use Rattle.core_code.specs.View.{view_inst}

@@ -1,5 +1,5 @@
 use Rattle.std.proofs.Common.{◌≡◌, map, take}
-use Rattle.limbo_typed.specs.View.{view_piece}
+use Rattle.limbo_small.specs.View.{view_piece}
 use Rattle.limbo_lower.proofs.statements.copied.Given as goal
 
 abbrev pub invariant-loop-piece : goal.invariant-loop-piece

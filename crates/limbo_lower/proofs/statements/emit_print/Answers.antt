@@ -1,5 +1,5 @@
 use Rattle.std.proofs.Common.{arith, map, length, sym}
-use Rattle.limbo_typed.specs.View.{view_exprs, view_piece}
+use Rattle.limbo_small.specs.View.{view_exprs, view_piece}
 use Rattle.limbo_meaning.specs.Program.{terms_of}
 use Rattle.core_code.specs.View.{view_inst}
 use Rattle.limbo_lower.proofs.Emission.{length_takes, count_terms}

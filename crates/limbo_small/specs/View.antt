@@ -2,20 +2,20 @@
 use Rattle.std.specs.Prelude.{List, [], ◌∷◌, map, option_map}
 use Rattle.limbo_types.specs.Types.{Ty}
 use Rattle.limbo_types.specs.View.{view_ty, view_fn}
-use Rattle.limbo_typed.specs.declared.expr.BinaryOp as code_op
-use Rattle.limbo_typed.specs.declared.expr.BinaryOp.TheVariants as op
-use Rattle.limbo_typed.specs.declared.expr.TExpr as code_expr
-use Rattle.limbo_typed.specs.declared.expr.TExpr.{TExpr-F, fold-TExpr}
-use Rattle.limbo_typed.specs.declared.expr.TNode as code_node
-use Rattle.limbo_typed.specs.declared.expr.TNode.{TNode-F, fold-TNode}
-use Rattle.limbo_typed.specs.declared.stmt.Piece as code_piece
-use Rattle.limbo_typed.specs.declared.stmt.Piece.TheVariants as piece
-use Rattle.limbo_typed.specs.declared.stmt.TStmt as code_stmt
-use Rattle.limbo_typed.specs.declared.stmt.TStmt.{TStmt-F, fold-TStmt}
-use Rattle.limbo_typed.specs.declared.module.TVar as code_var
-use Rattle.limbo_typed.specs.declared.module.TFn as code_fn
-use Rattle.limbo_typed.specs.declared.module.TypedModule as code_module
-use Rattle.limbo_typed.specs.Typed.{Operator, Add, Subtract, Multiply, Less, Equal, Expr, Exprs, Number, Variable, Binary, Call, NoExprs, MoreExprs, Piece, Chars, Decimal, Stmt, Stmts, Empty, Block, Assign, Eval, If, While, Return, Print, NoStmts, MoreStmts, Var, Function, Module}
+use Rattle.limbo_small.specs.declared.expr.BinaryOp as code_op
+use Rattle.limbo_small.specs.declared.expr.BinaryOp.TheVariants as op
+use Rattle.limbo_small.specs.declared.expr.TExpr as code_expr
+use Rattle.limbo_small.specs.declared.expr.TExpr.{TExpr-F, fold-TExpr}
+use Rattle.limbo_small.specs.declared.expr.TNode as code_node
+use Rattle.limbo_small.specs.declared.expr.TNode.{TNode-F, fold-TNode}
+use Rattle.limbo_small.specs.declared.stmt.Piece as code_piece
+use Rattle.limbo_small.specs.declared.stmt.Piece.TheVariants as piece
+use Rattle.limbo_small.specs.declared.stmt.TStmt as code_stmt
+use Rattle.limbo_small.specs.declared.stmt.TStmt.{TStmt-F, fold-TStmt}
+use Rattle.limbo_small.specs.declared.module.TVar as code_var
+use Rattle.limbo_small.specs.declared.module.TFn as code_fn
+use Rattle.limbo_small.specs.declared.module.TypedModule as code_module
+use Rattle.limbo_small.specs.Typed.{Operator, Add, Subtract, Multiply, Less, Equal, Expr, Exprs, Number, Variable, Binary, Call, NoExprs, MoreExprs, Piece, Chars, Decimal, Stmt, Stmts, Empty, Block, Assign, Eval, If, While, Return, Print, NoStmts, MoreStmts, Var, Function, Module}
 
 abbrev pub view_op : code_op.BinaryOp → Operator
 view_op op.Add = Add

@@ -2,7 +2,7 @@
 use Rattle.std.specs.Prelude.{ℕ, ◌≡◌, ◌+◌, ◌⊎◌, List, [], ◌∷◌, map, take, length, Option, Some, None, slice_get, FitsSigned}
 use Rattle.std.specs.Int.{w32}
 use Rattle.limbo_types.specs.Types.{Ty, Int, Nothing, ListOf, RefAdt}
-use Rattle.limbo_typed.specs.Typed.{Expr, Exprs, Number, Variable, Binary, Call, NoExprs, MoreExprs, Piece, Chars, Decimal, Stmt, Stmts, Empty, Block, Assign, Eval, If, While, Return, Print, NoStmts, MoreStmts, Var, Function, Module}
+use Rattle.limbo_small.specs.Typed.{Expr, Exprs, Number, Variable, Binary, Call, NoExprs, MoreExprs, Piece, Chars, Decimal, Stmt, Stmts, Empty, Block, Assign, Eval, If, While, Return, Print, NoStmts, MoreStmts, Var, Function, Module}
 
 abbrev pub type_of : Expr → Ty
 type_of (Number ty n) = ty

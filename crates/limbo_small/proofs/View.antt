@@ -3,17 +3,17 @@ use Rattle.std.proofs.Common.{◌≡◌, ℕ, ℤ, Vec, Box, Global, Option, map
 use Rattle.std.specs.Prelude.{option_map}
 use Rattle.limbo_types.specs.Types.{Ty}
 use Rattle.limbo_types.specs.View.{view_ty}
-use Rattle.limbo_typed.specs.declared.expr.BinaryOp.{BinaryOp}
-use Rattle.limbo_typed.specs.declared.expr.TExpr as code_expr
-use Rattle.limbo_typed.specs.declared.expr.TExpr.{fold_out-TExpr}
-use Rattle.limbo_typed.specs.declared.expr.TNode.{TNode-F, fold-roll-TNode}
-use Rattle.limbo_typed.specs.declared.expr.TNode.TheVariants as node
-use Rattle.limbo_typed.specs.declared.stmt.Piece as code_piece
-use Rattle.limbo_typed.specs.declared.stmt.TStmt as code_stmt
-use Rattle.limbo_typed.specs.declared.stmt.TStmt.{TStmt-F, fold-roll-TStmt}
-use Rattle.limbo_typed.specs.declared.stmt.TStmt.TheVariants as stmt
-use Rattle.limbo_typed.specs.Typed.{Expr, Number, Variable, Binary, Call, Stmt, Empty, Block, Assign, Eval, If, While, Return, Print}
-use Rattle.limbo_typed.specs.View.{view_op, node_step, expr_step, view_expr, view_exprs, view_node, view_piece, stmt_step, view_stmt, view_stmts}
+use Rattle.limbo_small.specs.declared.expr.BinaryOp.{BinaryOp}
+use Rattle.limbo_small.specs.declared.expr.TExpr as code_expr
+use Rattle.limbo_small.specs.declared.expr.TExpr.{fold_out-TExpr}
+use Rattle.limbo_small.specs.declared.expr.TNode.{TNode-F, fold-roll-TNode}
+use Rattle.limbo_small.specs.declared.expr.TNode.TheVariants as node
+use Rattle.limbo_small.specs.declared.stmt.Piece as code_piece
+use Rattle.limbo_small.specs.declared.stmt.TStmt as code_stmt
+use Rattle.limbo_small.specs.declared.stmt.TStmt.{TStmt-F, fold-roll-TStmt}
+use Rattle.limbo_small.specs.declared.stmt.TStmt.TheVariants as stmt
+use Rattle.limbo_small.specs.Typed.{Expr, Number, Variable, Binary, Call, Stmt, Empty, Block, Assign, Eval, If, While, Return, Print}
+use Rattle.limbo_small.specs.View.{view_op, node_step, expr_step, view_expr, view_exprs, view_node, view_piece, stmt_step, view_stmt, view_stmts}
 
 -- an expression by its node, and its type
 pub view_expr-out : (e : code_expr.TExpr) → view_expr e ≡ view_node e.node (view_ty e.ty)
