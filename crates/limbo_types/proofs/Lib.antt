@@ -1,2 +1,3 @@
 pub mod View
 pub mod Same
+pub mod Forms
