@@ -1,0 +1,5 @@
+pub mod Scopes
+pub mod Laws
+pub mod Codes
+pub mod Maps
+pub mod View
