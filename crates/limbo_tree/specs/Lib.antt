@@ -5,3 +5,5 @@ pub mod Decls
 pub mod Stmts
 pub mod Sources
 pub mod View
+pub mod Parts
+pub mod Spans
