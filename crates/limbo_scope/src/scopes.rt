@@ -66,6 +66,14 @@ impl Scopes {
         }
     }
 
+    /// How many scopes lie in one another: at least the outermost.
+    pub fn depth(&self) -> usize
+        ensures counted { result ≡ length self.now }
+        ensures never_none { 0 < length self.now }
+    {
+        self.outer.len() + 1
+    }
+
     /// Begins a scope inside the innermost one.
     ///
     /// # Errors
