@@ -3,18 +3,13 @@
 use Rattle.std.specs.Prelude.{◌≡◌, ℕ, suc, pos, ◌+◌, List, [], ◌∷◌, ◌++◌, length, Option, Some, None, slice_get, ◌==◌, if◌then◌else◌}
 use Rattle.std.specs.Int.{w32, cast_signed, from_be_bytes}
 use Rattle.std.specs.Str.{chars, is_utf8, IsUtf8}
+use Rattle.inf_text.specs.Options.{◌>>=◌}
 use Rattle.dis_file.specs.declared.object.Item.{Item}
 use Rattle.dis_file.specs.declared.object.Object.{Object}
 use Rattle.system_model.specs.World.{opening_world}
 use Rattle.dis_meaning.specs.Words.{Word, Plain, Refer, Access, Found, Wrong, stored, blank}
 use Rattle.dis_meaning.specs.World.{Content, Text, Instance, World}
 use Rattle.dis_meaning.specs.Process.{Process}
-
-infixl 10 ◌>>=◌
--- Goes on with what is there.
-abbrev pub ◌>>=◌ : {S T : Type 0} → Option S → (S → Option T) → Option T
-None >>= f = None
-(Some s) >>= f = f s
 
 abbrev pub if_found : {T : Type 0} → Access T → Option T
 if_found (Found t) = Some t

@@ -12,7 +12,8 @@ use Rattle.dis_format.specs.declared.fault.ReadFault.TheVariants.{NoMemory, Refu
 use Rattle.dis_format.specs.declared.kind.ItemKind.{ItemKind}
 use Rattle.dis_format.specs.declared.kind.ItemKind.TheVariants.{Array, Enter}
 use Rattle.dis_format.specs.Loading.{Loading, kind_of, leaves_one, size_of, index_stands, entered, after}
-use Rattle.dis_format.specs.Reading.{◌>>=◌, Read, FailsAs, refused, byte_at, word_at, array_kind_at, array_length_at, new_array_at}
+use Rattle.inf_text.specs.Steps.{◌>>=◌}
+use Rattle.dis_format.specs.Reading.{Read, FailsAs, refused, byte_at, word_at, array_kind_at, array_length_at, new_array_at}
 use Rattle.dis_format.specs.Reading.{index_at, content_at, item_at, end_at, items_at, item_kind_at, kind_here}
 use Rattle.dis_format.proofs.Fields.{bind_ok, guard_ok, guard_not, ok_is}
 use Rattle.dis_reading.specs.Filling.{IsLongEnough, IsReadableAs, with_front}

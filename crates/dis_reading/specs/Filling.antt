@@ -4,7 +4,8 @@ use Rattle.dis_file.specs.declared.object.Item.{Item}
 use Rattle.dis_format.specs.declared.kind.ItemKind.{ItemKind}
 use Rattle.dis_format.specs.declared.kind.ItemKind.TheVariants as kind
 use Rattle.dis_format.specs.Loading.{Loading, kind_of}
-use Rattle.dis_format.specs.Reading.{◌>>=◌, Read, Body as Parts}
+use Rattle.inf_text.specs.Steps.{◌>>=◌}
+use Rattle.dis_format.specs.Reading.{Read, Body as Parts}
 use Rattle.dis_reading.specs.declared.filled.Filled.{Filled}
 use Rattle.dis_reading.specs.declared.object.Body.{Body}
 

@@ -18,7 +18,8 @@ use Rattle.system_model.specs.Limits.{frames_limit}
 use Rattle.dis_meaning.specs.World.{World}
 use Rattle.dis_meaning.specs.Process.{Process, Printing}
 use Rattle.dis_meaning.specs.Rules.{rules}
-use Rattle.dis_meaning.specs.Opening.{Opened, opened, ◌>>=◌}
+use Rattle.inf_text.specs.Options.{◌>>=◌}
+use Rattle.dis_meaning.specs.Opening.{Opened, opened}
 use Rattle.machine_core.specs.declared.event.Event.{Event}
 use Rattle.machine_core.specs.declared.event.Event.TheVariants as event
 
