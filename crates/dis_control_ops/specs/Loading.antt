@@ -7,7 +7,7 @@ use Rattle.dis_meaning.specs.World.{Sys, World, with_block}
 use Rattle.dis_meaning.specs.Process.{Process, Does}
 use Rattle.dis_meaning.specs.Places.{Spot, store}
 use Rattle.dis_meaning.specs.Step.{names}
-use Rattle.dis_control_ops.specs.Storing.{goes_on}
+use Rattle.dis_data_ops.specs.Storing.{goes_on}
 
 -- The import table of this number.
 abbrev pub imports_at : Object → ℕ → Access (List Import)

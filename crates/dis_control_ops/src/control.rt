@@ -7,35 +7,21 @@ ghost use Rattle.dis_meaning.specs.Words as words;
 ghost use Rattle.dis_meaning.specs.World.{World};
 ghost use Rattle.dis_meaning.specs.Process.{Frame};
 ghost use Rattle.dis_meaning.specs.Step as meaning;
-ghost use Rattle.dis_control_ops.specs.Words.{number_of, view_word, Gives, GivesFault};
+ghost use Rattle.dis_data_ops.specs.Words.{number_of, view_word, Gives, GivesFault};
 ghost use Rattle.dis_control_ops.specs.Made.{Made, entered};
-ghost use Rattle.dis_control_ops.specs.View.{view_process, view_world};
+ghost use Rattle.dis_data_ops.specs.View.{view_process, view_world};
 ghost use Rattle.dis_control_ops.specs.Outcomes.{effect_of, ends, Stays, Kept, DoesSend, Sends};
 
-use crate::blocks::block;
-use crate::frame::blank;
-use crate::frames::{position, words_in};
 use crate::outcome::Does;
-use crate::process::Proc;
-use crate::spots::{given_number, source_number, source_word, spot_of};
-use crate::store::Store;
-use crate::storing::{advance, write};
-use crate::word::{Fault, Halt, Place, Word};
+use dis_data_ops::{
+    Fault, Halt, Place, Proc, Store, Word, advance, at_least_zero, blank, block, given_number,
+    position, source_number, source_word, spot_of, words_in, write,
+};
 use dis_file::Object;
 use dis_isa::{Inst, Operand};
 use inf_text::Text;
 use std::alloc::{AllocError, Global};
 use std::mem;
-
-/// A number that isn't below 0.
-pub(crate) fn at_least_zero(n: i32) -> Result<u32, Fault>
-    ensures { GivesFault (λ n. n) result (meaning.at_least_zero n) }
-{
-    match u32::try_from(n) {
-        Ok(n) => Ok(n),
-        Err(_) => Err(Fault::TypeCheck),
-    }
-}
 
 /// The number of an immediate: a type, or a place in the code.
 pub(crate) fn immediate(operand: Operand) -> Result<u32, Fault>

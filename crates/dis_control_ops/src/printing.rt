@@ -8,24 +8,20 @@ ghost use Rattle.dis_meaning.specs.Process.{Frame};
 ghost use Rattle.dis_meaning.specs.Step as meaning;
 ghost use Rattle.sys_print.specs.Worlds as outside;
 ghost use Rattle.sys_print.specs.Sent.{Sent};
-ghost use Rattle.dis_control_ops.specs.Words.{view_place, view_words, Gives, GivesFault};
-ghost use Rattle.dis_control_ops.specs.View.{view_process, view_world, view_asking};
-ghost use Rattle.dis_control_ops.specs.Spots.{view_spot};
+ghost use Rattle.dis_data_ops.specs.Words.{view_place, view_words, Gives, GivesFault};
+ghost use Rattle.dis_data_ops.specs.View.{view_process, view_world, view_asking};
+ghost use Rattle.dis_data_ops.specs.Spots.{view_spot};
 ghost use Rattle.dis_control_ops.specs.Made.{discarded, is_frame, waits};
-ghost use Rattle.dis_control_ops.specs.Frames.{view_frames, count};
-ghost use Rattle.dis_control_ops.specs.Storing.{moved_on};
+ghost use Rattle.dis_data_ops.specs.Frames.{view_frames, count};
+ghost use Rattle.dis_data_ops.specs.Storing.{moved_on};
 ghost use Rattle.dis_control_ops.specs.Plans.{view_plan, planned, carried_out, IsPrint};
 ghost use Rattle.dis_control_ops.specs.Outcomes.{effect_of, ends, Kept, DoesSend, Sends};
 
-use crate::frames::position;
-use crate::memory::word_at;
 use crate::outcome::Does;
-use crate::process::{Asking, Proc};
-use crate::spots::{Spot, behind};
-use crate::store::Store;
-use crate::storing::{advance, write};
 use crate::texts::printed;
-use crate::word::{Fault, Halt, Place, Word};
+use dis_data_ops::{
+    Asking, Fault, Halt, Place, Proc, Spot, Store, Word, advance, behind, position, word_at, write,
+};
 use std::alloc::Global;
 use std::mem;
 use sys_print::{Printing, World, print};

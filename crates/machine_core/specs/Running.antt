@@ -12,9 +12,9 @@ use Rattle.system_model.specs.Ending.{Ended, Broken, Faulted}
 use Rattle.system_model.specs.Trace.{Trace}
 use Rattle.sys_print.specs.Printing.{view_request}
 use Rattle.dis_meaning.specs.Process.{Process}
-use Rattle.dis_control_ops.specs.declared.process.Asking.{Asking}
+use Rattle.dis_data_ops.specs.declared.process.Asking.{Asking}
 use Rattle.dis_control_ops.specs.Outcomes.{IsAsked}
-use Rattle.dis_control_ops.specs.View.{view_process, view_world}
+use Rattle.dis_data_ops.specs.View.{view_process, view_world}
 use Rattle.machine_core.specs.declared.event.Event.TheVariants as code
 use Rattle.machine_core.specs.declared.running.Doing.{Doing}
 use Rattle.machine_core.specs.declared.running.Doing.TheVariants as doing

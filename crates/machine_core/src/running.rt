@@ -2,7 +2,7 @@
 
 ghost use Rattle.std.specs.Prelude.{◌≡◌, ◌<◌, ◌≤◌, List, IfSome, MatchOption};
 ghost use Rattle.dis_file.specs.declared.object.Object.{Object as Code};
-ghost use Rattle.dis_control_ops.specs.View.{codes_of};
+ghost use Rattle.dis_data_ops.specs.View.{codes_of};
 ghost use Rattle.machine_core.specs.Running.{stands_after, stands_heard, IsTurn, HadTurns, IsHeard, NotHeard, Sent};
 
 use crate::state::Running;

@@ -3,9 +3,8 @@
 ghost use Rattle.std.specs.Prelude.{◌≡◌, IfOk};
 
 use crate::objects::{inst, seq};
-use dis_control_ops::{
-    Content, Fault, Heard, Stepped, Store, Word, answer, blank, first_process, put, step,
-};
+use dis_control_ops::{Heard, Stepped, answer, step};
+use dis_data_ops::{Content, Fault, Store, Word, blank, first_process, put};
 use dis_file::{Import, Object, TypeDesc};
 use dis_isa::{Inst, Middle, Op, Operand};
 use inf_text::{Seq, Text};

@@ -1,0 +1,5 @@
+pub mod Words
+pub mod Stored
+pub mod Serials
+pub mod Written
+pub mod Going
