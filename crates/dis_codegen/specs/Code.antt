@@ -1,5 +1,6 @@
 -- The Dis code of three-address code. Offsets are in bytes.
-use Rattle.std.specs.Prelude.{ℕ, zero, suc, ℤ, pos, negsuc, ◌+◌, ◌-◌, ◌*◌, Bool, true, false, List, [], ◌∷◌, ◌++◌, length, take, nat_le, int_le, if◌then◌else◌, ◌&&◌, ◌==◌}
+use Rattle.std.specs.Prelude.{ℕ, zero, suc, ℤ, pos, negsuc, ◌+◌, ◌-◌, ◌*◌, Bool, true, false, ◌&&◌, ◌==◌, nat_le, int_le}
+use Rattle.std.specs.Prelude.{List, [], ◌∷◌, ◌++◌, length, take, if◌then◌else◌}
 use Rattle.dis_isa.specs.declared.inst.Inst as code_inst
 use Rattle.dis_isa.specs.declared.inst.Middle.{Middle}
 use Rattle.dis_isa.specs.declared.inst.Middle.TheVariants as middle
@@ -138,7 +139,8 @@ in_made slots at = operand.IndFp (made_offset slots) at
 -- Arguments go to the frame that is made, where there are any.
 abbrev pub arguments : (slots args count datum : ℕ) → (to : ℤ) → Code
 arguments slots args zero k to = []
-arguments slots args (suc n) k to = inst op.Movm (slot args) (number_middle (fits_middle (4 * suc n)) (4 * suc n) k) (in_made slots to) ∷ []
+arguments slots args (suc n) k to =
+    inst op.Movm (slot args) (number_middle (fits_middle (4 * suc n)) (4 * suc n) k) (in_made slots to) ∷ []
 
 -- The address of the slot for the answer goes there too.
 abbrev pub answer_to : (slots into : ℕ) → code_inst.Inst
@@ -166,7 +168,8 @@ operate slots here Equal into left right = comparison op.Beqw slots here into le
 
 -- An answer goes to the address that stands at 16 of the frame, and the function returns.
 abbrev pub answer : Operand → Code
-answer source = inst op.Movw source middle.None (operand.IndFp (pos 16) (pos 0)) ∷ inst op.Ret operand.None middle.None operand.None ∷ []
+answer source =
+    inst op.Movw source middle.None (operand.IndFp (pos 16) (pos 0)) ∷ inst op.Ret operand.None middle.None operand.None ∷ []
 
 -- What the code of a function needs to know: where the code of each function begins, the type of a print's frame, and of the function
 -- its slots, its instructions and where its code begins.

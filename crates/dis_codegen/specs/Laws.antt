@@ -43,4 +43,5 @@ IsFew m = length (object_of m).insts ≤ 4 * code_instructions m.functions
 pub record CanBeEntered (m : Module) : Type 0 where
   pub entry : (object_of m).entry_pc < length (object_of m).insts
   pub frame : (object_of m).entry_type < length (object_of m).types
-  pub frames : (n : ℕ) (f : Function) → slice_get m.functions n ≡ Some f → slice_get (object_of m).types (suc n) ≡ Some (frame_desc f)
+  pub frames : (n : ℕ) (f : Function) → slice_get m.functions n ≡ Some f
+      → slice_get (object_of m).types (suc n) ≡ Some (frame_desc f)

@@ -1,5 +1,6 @@
 -- The object of a module of three-address code (dis(6)).
-use Rattle.std.specs.Prelude.{ℕ, zero, suc, ℤ, pos, ◌+◌, ◌*◌, ◌^◌, Bool, true, false, List, [], ◌∷◌, ◌++◌, length, map, max, drop, replicate, Option, Some, None, slice_get, codes, encode_utf8_all, if◌then◌else◌}
+use Rattle.std.specs.Prelude.{ℕ, zero, suc, ℤ, pos, ◌+◌, ◌*◌, ◌^◌, max, Bool, true, false, if◌then◌else◌, Option, Some, None}
+use Rattle.std.specs.Prelude.{List, [], ◌∷◌, ◌++◌, length, map, drop, replicate, slice_get, codes, encode_utf8_all}
 use Rattle.std.specs.Str.{bytes_eq}
 use Rattle.std.specs.Int.{to_be_bytes, cast_unsigned, w32}
 use Rattle.dis_isa.specs.declared.inst.Middle.TheVariants as middle
@@ -12,7 +13,8 @@ use Rattle.dis_file.specs.declared.object.Object.{Object}
 use Rattle.dis_file.specs.declared.types.TypeDesc.{TypeDesc}
 use Rattle.core_code.specs.Code as core
 use Rattle.core_code.specs.Code.{Inst, Function, Module, bodies}
-use Rattle.dis_codegen.specs.Code.{Code, Datum, Text, Number, all_data, sizes, inst, slot, path_word, sys_word, frame_type, frame_bytes, Context, insts_code}
+use Rattle.dis_codegen.specs.Code.{Code, Datum, Text, Number, Context, all_data, sizes, insts_code}
+use Rattle.dis_codegen.specs.Code.{inst, slot, path_word, sys_word, frame_type, frame_bytes}
 
 -- ---- code
 

@@ -168,7 +168,8 @@ fn emit_operate(
 ) -> Result<(), AllocError>
     requires stands { IsSite site.now }
     requires there { HasInst site.now pc (core.Operate (view_op op) into left right) }
-    ensures { OnOk result (insts.new.items ≡ insts.old.items ++ dis.inst_code (context_of site.now) pc 0 (core.Operate (view_op op) into left right)) }
+    ensures { OnOk result
+        (insts.new.items ≡ insts.old.items ++ dis.inst_code (context_of site.now) pc 0 (core.Operate (view_op op) into left right)) }
 {
     let here = place(site, pc);
     let slots = site.function.slots;
@@ -236,7 +237,8 @@ fn emit_call(
     requires stands { IsSite site.now }
     requires there { HasInst site.now pc (core.Call function args count into) }
     requires datum { datum ≤ 1048576 }
-    ensures { OnOk result (insts.new.items ≡ insts.old.items ++ dis.inst_code (context_of site.now) pc datum (core.Call function args count into)) }
+    ensures { OnOk result
+        (insts.new.items ≡ insts.old.items ++ dis.inst_code (context_of site.now) pc datum (core.Call function args count into)) }
 {
     let slots = site.function.slots;
     let made = slot(slots);

@@ -105,7 +105,8 @@ fn put_number(
     requires number { FitsSigned w32 number }
     requires few { length items.old.items ≤ 1048577 }
     requires spelled { AreSpelled items.old.items }
-    ensures items { OnOk result (items.new.items ≡ items.old.items ++ objects.items_from (4 + 4 * length items.old.items) (dis.number_datum fits number)) }
+    ensures items { OnOk result
+        (items.new.items ≡ items.old.items ++ objects.items_from (4 + 4 * length items.old.items) (dis.number_datum fits number)) }
     ensures spelled { OnOk result (AreSpelled items.new.items) }
 {
     if fits {
@@ -121,7 +122,9 @@ fn put_bytes(alloc: Global, items: &mut Vec<Item>, count: u32) -> Result<(), All
     requires count { count ≤ frame_words }
     requires few { length items.old.items ≤ 1048577 }
     requires spelled { AreSpelled items.old.items }
-    ensures items { OnOk result (items.new.items ≡ items.old.items ++ objects.items_from (4 + 4 * length items.old.items) (dis.number_datum (dis.fits_middle (4 * count)) (pos (4 * count)))) }
+    ensures items { OnOk result
+        (items.new.items ≡ items.old.items
+        ++ objects.items_from (4 + 4 * length items.old.items) (dis.number_datum (dis.fits_middle (4 * count)) (pos (4 * count)))) }
     ensures spelled { OnOk result (AreSpelled items.new.items) }
 {
     let fits = fits_middle(bytes_of(count));
@@ -133,7 +136,8 @@ fn put_datum(alloc: Global, items: &mut Vec<Item>, inst: &CoreInst) -> Result<()
     requires datum { SmallDatum (view_inst inst.now) }
     requires few { length items.old.items ≤ 1048577 }
     requires spelled { AreSpelled items.old.items }
-    ensures items { OnOk result (items.new.items ≡ items.old.items ++ objects.items_from (4 + 4 * length items.old.items) (dis.data_of (view_inst inst.now))) }
+    ensures items { OnOk result
+        (items.new.items ≡ items.old.items ++ objects.items_from (4 + 4 * length items.old.items) (dis.data_of (view_inst inst.now))) }
     ensures spelled { OnOk result (AreSpelled items.new.items) }
 {
     match inst {
@@ -159,7 +163,9 @@ fn put_data(alloc: Global, items: &mut Vec<Item>, insts: &[CoreInst]) -> Result<
     requires data { (pc : ℕ) (i : Inst) → slice_get (map view_inst insts.now) pc ≡ Some i → SmallDatum i }
     requires few { length items.old.items + length (dis.all_data (map view_inst insts.now)) ≤ 1048577 }
     requires spelled { AreSpelled items.old.items }
-    ensures items { OnOk result (items.new.items ≡ items.old.items ++ objects.items_from (4 + 4 * length items.old.items) (dis.all_data (map view_inst insts.now))) }
+    ensures items { OnOk result
+        (items.new.items ≡ items.old.items
+        ++ objects.items_from (4 + 4 * length items.old.items) (dis.all_data (map view_inst insts.now))) }
     ensures spelled { OnOk result (AreSpelled items.new.items) }
 {
     for inst in insts {
@@ -173,9 +179,11 @@ fn put_data(alloc: Global, items: &mut Vec<Item>, insts: &[CoreInst]) -> Result<
 /// # Errors
 /// Want of memory, also for a text whose length doesn't fit 32 bits.
 pub(crate) fn items_of(alloc: Global, functions: &[CoreFn]) -> Result<Vec<Item>, AllocError>
-    requires data { (n : ℕ) (f : Function) → slice_get (map view_function functions.now) n ≡ Some f → (pc : ℕ) (i : Inst) → slice_get f.code pc ≡ Some i → SmallDatum i }
+    requires data { (n : ℕ) (f : Function) → slice_get (map view_function functions.now) n ≡ Some f
+        → (pc : ℕ) (i : Inst) → slice_get f.code pc ≡ Some i → SmallDatum i }
     requires few { length (objects.module_data (map view_function functions.now)) ≤ 1048576 }
-    ensures items { IfOk result (λ items. items.items ≡ objects.string_item 0 (codes "$Sys") ∷ objects.items_from 8 (objects.module_data (map view_function functions.now))) }
+    ensures items { IfOk result (λ items. items.items ≡ objects.string_item 0 (codes "$Sys")
+        ∷ objects.items_from 8 (objects.module_data (map view_function functions.now))) }
     ensures spelled { IfOk result (λ items. AreSpelled items.items) }
 {
     let mut items = Vec::new(alloc);

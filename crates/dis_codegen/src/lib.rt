@@ -7,8 +7,8 @@
 //!
 //! `specs/` in the order of reading: `Code` (the instructions of each instruction), `Objects` (the whole object: its entry, code, types,
 //! data and links), `Sites` and `Site` (the tables of places, and where code is written), `Start` (the machine in which the object
-//! begins), `Spelled` (its strings), `Stands` (when a process of the object stands for one of the code), `Paces` (how far a process is in the code of an
-//! instruction), `Laws` (what the object keeps).
+//! begins), `Spelled` (its strings), `Stands` (when a process of the object stands for one of the code), `Paces` (how far a process is
+//! in the code of an instruction), `Laws` (what the object keeps).
 //!
 //! An object begins with an entry that loads Sys and goes to `init`. Each instruction then becomes a row of up to four, and a frame has
 //! a word for each slot and one more behind them. A process of the object is at most some instructions into a row, and `Stands` says for

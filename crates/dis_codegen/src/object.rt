@@ -31,7 +31,8 @@ fn code_of(
 ) -> Result<Seq<Inst>, AllocError>
     requires ready { IsReady (map view_function functions.now) entries.now }
     requires within { ForSome init (λ n. n < length functions.now) }
-    ensures { IfOk result (λ insts. insts ≡ objects.entry (map view_function functions.now) init ++ objects.functions_code (map view_function functions.now) 0 0 (map view_function functions.now)) }
+    ensures { let fs = map view_function functions.now in
+        IfOk result (λ insts. insts ≡ objects.entry fs init ++ objects.functions_code fs 0 0 fs) }
 {
     let mut insts = Vec::new(alloc);
     emit_entry(&mut insts, functions, init, entries)?;

@@ -58,7 +58,8 @@ fn size_of(inst: &CoreInst) -> u32
 // Where the code of these instructions ends, which begins at a place, if the code may be so long.
 fn end_of(insts: &[CoreInst], begin: u32) -> Option<u32>
     requires { begin ≤ most_instructions }
-    ensures { MatchOption result (most_instructions < begin + dis.sizes (map view_inst insts.now)) (λ end. (end ≡ begin + dis.sizes (map view_inst insts.now)) × (end ≤ most_instructions)) }
+    ensures { let behind = begin + dis.sizes (map view_inst insts.now) in
+        MatchOption result (most_instructions < behind) (λ end. (end ≡ behind) × (end ≤ most_instructions)) }
 {
     let mut end = begin;
     for inst in insts {

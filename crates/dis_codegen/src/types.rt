@@ -1,4 +1,5 @@
-ghost use Rattle.std.specs.Prelude.{◌≡◌, ◌+◌, ◌*◌, ◌<◌, ◌≤◌, [], ◌∷◌, ◌++◌, ◌==◌, true, false, codes, length, map, drop, IfOk, slice_index_or, if◌then◌else◌};
+ghost use Rattle.std.specs.Prelude.{◌≡◌, ◌+◌, ◌*◌, ◌<◌, ◌≤◌, ◌==◌, true, false, IfOk, if◌then◌else◌};
+ghost use Rattle.std.specs.Prelude.{[], ◌∷◌, ◌++◌, codes, length, map, drop, slice_index_or};
 ghost use Rattle.core_code.specs.Code.{Function};
 ghost use Rattle.core_code.specs.View.{view_inst, view_function};
 ghost use Rattle.dis_codegen.specs.Objects as objects;
@@ -119,7 +120,8 @@ fn print_desc(alloc: Global, functions: &[CoreFn]) -> Result<TypeDesc, AllocErro
 fn data_desc(alloc: Global, items: &[Item]) -> Result<TypeDesc, AllocError>
     requires some { 0 < length items.now }
     requires few { length items.now ≤ 1048577 }
-    ensures { IfOk result (λ desc. desc ≡ record { size = 4 + 4 * length items.now; map = objects.map_of (true ∷ true ∷ map (λ i. i.kind == 3) (drop 1 items.now)) }) }
+    ensures { let references = true ∷ true ∷ map (λ i. i.kind == 3) (drop 1 items.now) in
+        IfOk result (λ desc. desc ≡ record { size = 4 + 4 * length items.now; map = objects.map_of references }) }
 {
     let mut marks = Vec::from_slice(alloc, &[true, true])?;
     for item in &items[1..] {
@@ -143,8 +145,11 @@ pub(crate) fn types_of(
     requires small { AllSmall (map view_function functions.now) }
     requires few { length (objects.module_data (map view_function functions.now)) ≤ 1048576 }
     requires most { objects.most_of_all (map view_function functions.now) ≤ frame_words }
-    requires items { items.now ≡ objects.string_item 0 (codes "$Sys") ∷ objects.items_from 8 (objects.module_data (map view_function functions.now)) }
-    ensures { IfOk result (λ types. types ≡ objects.data_desc (objects.module_data (map view_function functions.now)) ∷ (map objects.frame_desc (map view_function functions.now) ++ objects.print_desc (map view_function functions.now) ∷ [])) }
+    requires items { items.now ≡ objects.string_item 0 (codes "$Sys")
+        ∷ objects.items_from 8 (objects.module_data (map view_function functions.now)) }
+    ensures { let fs = map view_function functions.now in
+        IfOk result (λ types. types ≡ objects.data_desc (objects.module_data fs)
+        ∷ (map objects.frame_desc fs ++ objects.print_desc fs ∷ [])) }
 {
     let mut types = Vec::new(alloc);
     types.push(data_desc(alloc, items)?)?;

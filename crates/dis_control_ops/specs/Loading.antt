@@ -19,4 +19,5 @@ sys_loaded x p s names = goes_on (store (with_block x (Sys names)) p s (Refer (S
 
 -- The same where the module is Sys; else a reference to none is stored.
 abbrev pub loaded_if : Bool → World → Process → Spot → List Import → Access Does
-loaded_if b x p s table = goes_on (if b then store (with_block x (Sys (names table))) p s (Refer (Some (length x.blocks))) else store x p s (Refer None))
+loaded_if b x p s table =
+    goes_on (if b then store (with_block x (Sys (names table))) p s (Refer (Some (length x.blocks))) else store x p s (Refer None))

@@ -120,7 +120,8 @@ pub(crate) fn branch_less(
 
 /// `ret`: the frame goes, and the frame below goes on. The first function's return ends the process.
 pub(crate) fn give_back(proc: &mut Proc) -> Does
-    ensures gives { (x : World) → meaning.returns x (view_process proc.old) (view_process proc.old).below ≡ effect_of result x (view_process proc.new) }
+    ensures gives { (x : World)
+        → meaning.returns x (view_process proc.old) (view_process proc.old).below ≡ effect_of result x (view_process proc.new) }
     ensures kept { (x : World) → Stays (ends result) x (view_process proc.old) x (view_process proc.new) }
     ensures silent { DoesSend result proc.new.printing }
 {
@@ -181,7 +182,8 @@ fn enter(proc: &mut Proc, made: usize, pc: usize)
     requires made { made < vec_len proc.old.made }
     requires place { proc.old.frame.pc + 1 < 2 ^ 64 }
     requires room { vec_len proc.old.below < vec_capacity proc.old.below }
-    ensures { (f : Frame) → slice_get (view_process proc.old).made made ≡ Some f → view_process proc.new ≡ entered (view_process proc.old) f pc }
+    ensures { (f : Frame) → slice_get (view_process proc.old).made made ≡ Some f
+        → view_process proc.new ≡ entered (view_process proc.old) f pc }
 {
     let mut frame = proc.made.remove(made);
     frame.pc = pc;

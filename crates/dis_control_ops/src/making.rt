@@ -37,7 +37,8 @@ fn make(store: &mut Store, proc: &mut Proc, words: Vec<Word>)
     requires given { HasGiven (view_world store.old) (view_process proc.old) }
     requires room { vec_len proc.old.made < vec_capacity proc.old.made }
     ensures world { view_world store.new ≡ meaning.with_frame_made (view_world store.old) }
-    ensures process { view_process proc.new ≡ moved_on (meaning.new_frame store.old.frames (view_process proc.old) (view_words words.items)) }
+    ensures process { view_process proc.new
+        ≡ moved_on (meaning.new_frame store.old.frames (view_process proc.old) (view_words words.items)) }
 {
     let frame = Frame {
         serial: store.frames,

@@ -81,7 +81,8 @@ fn finish_print(
     requires place { proc.old.frame.pc + 1 < 2 ^ 64 }
     requires made { count serial (view_frames proc.old.made.items) ≡ 1 }
     ensures gives { GivesFault (λ _. Went (view_world store.new) (view_process proc.new)) result
-        (meaning.prints (view_world store.old) (discarded (view_process proc.old) serial) (view_place place) at (prints.Answers (outside.view_world world) (Num number))) }
+        (meaning.prints (view_world store.old) (discarded (view_process proc.old) serial) (view_place place) at
+        (prints.Answers (outside.view_world world) (Num number))) }
     ensures kept { OnErr result ((view_world store.new ≡ view_world store.old) × (proc.new ≡ proc.old)) }
 {
     if is_frame(place, serial) {
@@ -176,7 +177,8 @@ pub(crate) fn print_call(
     requires place { proc.old.frame.pc + 1 < 2 ^ 64 }
     requires made { made < vec_len proc.old.made }
     ensures gives { (f : Frame) → slice_get (view_process proc.old).made made ≡ Some f →
-        Gives (λ d. effect_of d (view_world store.new) (view_process proc.new)) result (meaning.print_call (view_world store.old) (view_process proc.old) f) }
+        Gives (λ d. effect_of d (view_world store.new) (view_process proc.new)) result
+        (meaning.print_call (view_world store.old) (view_process proc.old) f) }
     ensures kept { Kept result (view_world store.old) (view_process proc.old) (view_world store.new) (view_process proc.new) }
     ensures sent { Sends result proc.new.printing }
 {

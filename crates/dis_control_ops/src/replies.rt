@@ -27,7 +27,8 @@ fn take_answer(
     number: i32,
 ) -> Heard
     ensures effect { Hears result (view_process proc.old) (view_world store.new) (view_process proc.new)
-        (meaning.hears (view_world store.old) (view_process proc.old) (view_place place) at (prints.Answers (outside.view_world world) (Num number))) }
+        (meaning.hears (view_world store.old) (view_process proc.old) (view_place place) at
+        (prints.Answers (outside.view_world world) (Num number))) }
     ensures kept { Stays (stays_after_reply result) (view_world store.old) (view_process proc.old)
         (view_world store.new) (view_process proc.new) }
     ensures sent { SentAgain result proc.new.printing }

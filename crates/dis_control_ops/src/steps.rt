@@ -7,7 +7,8 @@ ghost use Rattle.dis_meaning.specs.Step as meaning;
 ghost use Rattle.dis_data_ops.specs.declared.process.Asking.{Asking};
 ghost use Rattle.dis_data_ops.specs.Words.{Gives, GivesFault};
 ghost use Rattle.dis_data_ops.specs.View.{view_content, view_world, view_process, codes_of};
-ghost use Rattle.dis_control_ops.specs.Outcomes.{effect_of, went_of, does_told, halt_told, stepped_of, running, worked, Kept, Steps, stays_after, Stays, Sends, Sent};
+ghost use Rattle.dis_control_ops.specs.Outcomes.{effect_of, went_of, does_told, halt_told, stepped_of, running};
+ghost use Rattle.dis_control_ops.specs.Outcomes.{worked, Kept, Steps, stays_after, Stays, Sends, Sent};
 
 use crate::control::{branch_equal, branch_less, call, give_back, jump};
 use crate::making::make_frame;

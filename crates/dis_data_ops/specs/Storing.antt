@@ -4,7 +4,8 @@ use Rattle.std.specs.Global.{Global}
 use Rattle.dis_meaning.specs.Words.{Word, Access, Found, Wrong, ◌>>=◌, type_check, or_wrong, fits, word_number}
 use Rattle.dis_meaning.specs.World.{Content, World}
 use Rattle.dis_meaning.specs.Process.{Process, Does, with_frames, at_pc}
-use Rattle.dis_meaning.specs.Places.{Spot, Memory, words_in, all_frames, data_of, data_at, words_at, with_words_at, with_frame_words, renewed, with_data, place_in}
+use Rattle.dis_meaning.specs.Places.{Spot, Memory, words_in, all_frames, data_of, data_at, words_at}
+use Rattle.dis_meaning.specs.Places.{with_words_at, with_frame_words, renewed, with_data, place_in}
 use Rattle.dis_meaning.specs.Step.{all_replaced, next}
 use Rattle.dis_data_ops.specs.declared.frame.Frame.{Frame}
 use Rattle.dis_data_ops.specs.declared.frames.Slot.{Slot}
@@ -15,7 +16,9 @@ use Rattle.dis_data_ops.specs.Frames.{view_frame, view_frames, occurs, IsAt}
 -- Each of these words has a word of its kind to replace, from this number on.
 abbrev pub takes_all : List Word → (from : ℕ) → List Word → Access Bool
 takes_all words from [] = Found true
-takes_all words from (v ∷ vs) = or_wrong type_check (slice_get words from) >>= λ old. if fits old v then takes_all words (suc from) vs else Wrong type_check
+takes_all words from (v ∷ vs) =
+    or_wrong type_check (slice_get words from) >>= λ old.
+    if fits old v then takes_all words (suc from) vs else Wrong type_check
 
 -- These words in place of those from a byte on.
 abbrev pub put_all : List Word → (at : ℤ) → List Word → Access (List Word)

@@ -1,6 +1,7 @@
 -- Words of the program, as the definitions have them, and what a call gives that may meet a fault.
 use Rattle.std.specs.Prelude.{◌≡◌, ℕ, List, map, Result, Ok, Err}
-use Rattle.dis_meaning.specs.Words.{Place, InBlock, InFrame, Word, Plain, Refer, Address, Access, Found, Wrong, type_check, bad_jump, dead_address}
+use Rattle.dis_meaning.specs.Words.{Place, InBlock, InFrame, Word, Plain, Refer, Address}
+use Rattle.dis_meaning.specs.Words.{Access, Found, Wrong, type_check, bad_jump, dead_address}
 use Rattle.dis_data_ops.specs.declared.word.Place as code_place
 use Rattle.dis_data_ops.specs.declared.word.Place.TheVariants as place
 use Rattle.dis_data_ops.specs.declared.word.Word as code_word

@@ -38,7 +38,8 @@ impl Spot {
 
 /// The words of a place.
 fn words_of<'a>(store: &'a Store, proc: &'a Proc, place: Place) -> Result<&'a [Word], Fault>
-    ensures { GivesFault (λ ws. view_words ws.now) result (meaning.words_of (view_world store.now) (view_process proc.now) (view_place place)) }
+    ensures { GivesFault (λ ws. view_words ws.now) result
+        (meaning.words_of (view_world store.now) (view_process proc.now) (view_place place)) }
 {
     match place {
         Place::Frame(serial) => words_in(proc, serial),
@@ -52,7 +53,8 @@ pub(crate) fn words_at<'a>(
     proc: &'a Proc,
     spot: Spot,
 ) -> Result<&'a [Word], Fault>
-    ensures { GivesFault (λ ws. view_words ws.now) result (meaning.words_at (view_world store.now) (view_process proc.now) (view_spot spot)) }
+    ensures { GivesFault (λ ws. view_words ws.now) result
+        (meaning.words_at (view_world store.now) (view_process proc.now) (view_spot spot)) }
 {
     match spot {
         Spot::Own(_) => Ok(&proc.frame.words),

@@ -43,7 +43,8 @@ with_numbers words offset _ = None
 abbrev pub with_item : Data → Item → Option Data
 with_item d item =
     if item.kind == 3 then characters item.content >>= with_text d item.offset
-    else (if item.kind == 2 then with_numbers d.words item.offset item.content >>= (λ words. Some (record { words = words; texts = d.texts }))
+    else (if item.kind == 2
+    then with_numbers d.words item.offset item.content >>= (λ words. Some (record { words = words; texts = d.texts }))
     else None)
 
 abbrev pub with_items : Data → List Item → Option Data
@@ -76,7 +77,10 @@ opened o =
     slice_get o.types 0 >>= λ data_type.
     with_items (record { words = blank data_type; texts = [] }) o.items >>= λ d.
     slice_get o.types o.entry_type >>= λ frame_type.
-    Some (record { world = record { blocks = opening_blocks d; frames = 1; outside = opening_world }; first = entered o (blank frame_type) })
+    Some (record {
+      world = record { blocks = opening_blocks d; frames = 1; outside = opening_world };
+      first = entered o (blank frame_type);
+    })
 
 -- The strings of an object are well-formed UTF-8.
 abbrev pub StringsSpell : Object → Type 0

@@ -67,7 +67,8 @@ module _ (objects : List Object) where
 
   -- So many instructions were obeyed.
   abbrev pub HadTurns : Running → Running → (count : ℕ) → Turn → Type 0
-  HadTurns old new count t = (told : Trace) → turns (machine_rules objects) no_names 0 count (state_with old told) ≡ Some (state_with new (told ++ told_by t))
+  HadTurns old new count t =
+      (told : Trace) → turns (machine_rules objects) no_names 0 count (state_with old told) ≡ Some (state_with new (told ++ told_by t))
 
 -- ---- replies
 

@@ -66,7 +66,8 @@ pub(crate) struct Opened {
 
 /// Stores a word, where one of its kind stands.
 fn put_word(words: &mut Vec<Word>, offset: u64, new: Word) -> Result<(), StartFault>
-    ensures { Puts result (meaning.if_found (stored (view_words words.old.items) (pos offset) (view_word new))) (view_words words.new.items) }
+    ensures { Puts result (meaning.if_found (stored (view_words words.old.items) (pos offset) (view_word new)))
+        (view_words words.new.items) }
 {
     let Ok(at) = i64::try_from(offset) else {
         return Err(StartFault::NoMemory);

@@ -121,7 +121,8 @@ impl Running {
     /// What a reply does to a process that waits for one, or `None` where it is none to the process's request.
     pub(crate) fn hear(&mut self, alloc: Global, reply: &Rmsg) -> Option<Turn>
         requires { self.old.doing ≡ Doing.Asking }
-        ensures heard { (objects : List Code) → MatchOption result (NotHeard objects reply.now self.old self.new) (IsHeard objects reply.now self.old self.new) }
+        ensures heard { (objects : List Code)
+            → MatchOption result (NotHeard objects reply.now self.old self.new) (IsHeard objects reply.now self.old self.new) }
         ensures stands { IfSome result (λ t. self.new.doing ≡ stands_heard t) }
         ensures sent { IfSome result (λ t. Sent t self.new.process.printing) }
     {
