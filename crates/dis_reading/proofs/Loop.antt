@@ -7,7 +7,7 @@ use Rattle.dis_format.specs.declared.fault.ReadFault.{ReadFault}
 use Rattle.dis_format.specs.declared.fault.ReadFault.TheVariants.{NoMemory, Refused}
 use Rattle.inf_text.specs.Steps.{◌>>=◌}
 use Rattle.dis_format.specs.Reading.{Read, FailsAs, many, type_at, types_at}
-use Rattle.dis_reading.specs.Filling.{with_front}
+use Rattle.dis_reading.specs.Body.{with_front}
 
 pub regroup : {A : Type 0} (front : List A) (a : A) (read : Read (List A))
     → with_front front (read >>= λ x. Ok (a ∷ x.0, x.1)) ≡ with_front (front ++ a ∷ []) read

@@ -1,6 +1,6 @@
 use Rattle.std.proofs.Common.{◌≡◌, length, reverse}
 use Rattle.dis_format.specs.Loading.{array_at}
-use Rattle.dis_reading.proofs.filled.array_at.Given as goal
+use Rattle.dis_filling.proofs.filled.array_at.Given as goal
 
 abbrev pub decreases-loop-last : goal.decreases-loop-last
 decreases-loop-last l = length l.older

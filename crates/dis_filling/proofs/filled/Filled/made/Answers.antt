@@ -1,6 +1,6 @@
 use Rattle.std.proofs.Common.{refl}
 use Rattle.std.proofs.lemmas.List.{length-reverse}
-use Rattle.dis_reading.proofs.filled.Filled.made.Goals as goal
+use Rattle.dis_filling.proofs.filled.Filled.made.Goals as goal
 
 pub returns : goal.returns
 returns c =

@@ -1,6 +1,6 @@
 use Rattle.std.proofs.Common.{◌≡◌, ◌+◌, ◌-◌, sym, ◌∙◌, arith}
-use Rattle.dis_reading.proofs.Stands.{plain_step}
-use Rattle.dis_reading.proofs.filled.all_plain.Goals as goal
+use Rattle.dis_filling.proofs.Stands.{plain_step}
+use Rattle.dis_filling.proofs.filled.all_plain.Goals as goal
 
 pub loop-at-preserved : goal.loop-at-preserved
 loop-at-preserved c =

@@ -1,8 +1,8 @@
 use Rattle.std.proofs.Common.{◌≡◌, ◌∷◌, [], ◌++◌, arith}
 use Rattle.std.proofs.lemmas.List.{nil_from_length}
-use Rattle.dis_reading.specs.Filling.{loading_of}
-use Rattle.dis_reading.proofs.Stands.{left, left_none}
-use Rattle.dis_reading.proofs.filled.Filled.leave.Goals as goal
+use Rattle.dis_filling.specs.Filling.{loading_of}
+use Rattle.dis_filling.proofs.Stands.{left, left_none}
+use Rattle.dis_filling.proofs.filled.Filled.leave.Goals as goal
 
 pub returns-in-Some : goal.returns-in-Some
 returns-in-Some c =

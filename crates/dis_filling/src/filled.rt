@@ -5,7 +5,7 @@ ghost use Rattle.byteorder.specs.Endian.{big_number};
 ghost use Rattle.dis_format.specs.Loading.{size_of, content_size, extent, is_reference, begins_reference, all_plain, room};
 ghost use Rattle.dis_format.specs.Loading.{opening, array_at, address_of, entered, leaves_one, suits, offset_stands};
 ghost use Rattle.dis_format.specs.Loading.{index_stands, is_none, put, enter, leave, made, after_kind, after};
-ghost use Rattle.dis_reading.specs.Filling.{loading_of, IsLongEnough, IsReadable};
+ghost use Rattle.dis_filling.specs.Filling.{loading_of, IsLongEnough, IsReadable};
 
 use byteorder::{BigEndian, ByteOrder};
 use dis_file::{Item, TypeDesc};
