@@ -4,14 +4,14 @@ ghost use Rattle.dis_data_ops.specs.Words.{number_of};
 use std::alloc::{AllocError, AllocFailed};
 
 /// Where words stand: in a block, or in a frame of the process, each by its serial.
-#[derive(Clone, Copy, PartialEq, Eq, Debug)]
+#[derive(Clone, Copy)]
 pub enum Place {
     Block(u64),
     Frame(u64),
 }
 
 /// A word of memory (Dis Virtual Machine Specification, "Data representations").
-#[derive(Clone, Copy, PartialEq, Eq, Debug)]
+#[derive(Clone, Copy)]
 pub enum Word {
     /// A plain word that is read as a number.
     Plain(i32),
@@ -22,7 +22,7 @@ pub enum Word {
 }
 
 /// What is wrong with an object that an instruction runs into.
-#[derive(Clone, Copy, PartialEq, Eq, Debug)]
+#[derive(Clone, Copy)]
 pub enum Fault {
     /// 110: an operand, a type or a table outside the object, or a word of another kind than is asked for.
     TypeCheck,
@@ -46,7 +46,7 @@ impl Fault {
 }
 
 /// Why an access gives nothing.
-#[derive(Clone, Copy, Debug)]
+#[derive(Clone, Copy)]
 pub enum Halt {
     NoMemory,
     Fault(Fault),

@@ -1,8 +1,9 @@
 //! Where items of the initial data may stand (dis(6), "Data section").
 
-ghost use Rattle.std.specs.Prelude.{◌≡◌, ◌+◌, ◌<◌, ◌^◌, ◌==◌, ◌&&◌, ◌≤◌, length, drop, reverse, OnOk};
+ghost use Rattle.std.specs.Prelude.{◌≡◌, ◌+◌, ◌/◌, ◌%◌, ◌<◌, ◌^◌, ◌==◌, ◌&&◌, ◌≤◌, length, drop, reverse, OnOk};
+ghost use Rattle.dis_file.specs.References.{marks};
 ghost use Rattle.byteorder.specs.Endian.{big_number};
-ghost use Rattle.dis_format.specs.Loading.{size_of, content_size, extent, is_reference, begins_reference, all_plain, room};
+ghost use Rattle.dis_format.specs.Loading.{size_of, content_size, extent, map_of, is_reference, begins_reference, all_plain, room};
 ghost use Rattle.dis_format.specs.Loading.{opening, array_at, address_of, entered, leaves_one, suits, offset_stands};
 ghost use Rattle.dis_format.specs.Loading.{index_stands, is_none, put, enter, leave, made, after_kind, after};
 ghost use Rattle.dis_filling.specs.Filling.{loading_of, IsLongEnough, IsReadable};
@@ -67,6 +68,24 @@ fn room(place: Place) -> u64
     u64::from(place.block.size) * u64::from(place.block.length.saturating_sub(place.index))
 }
 
+/// Whether the map of a type marks this word.
+fn marks(types: &[TypeDesc], number: u32, word: u32) -> bool
+    ensures { result ≡ marks (map_of types.now number) word }
+{
+    match types.get(number as usize) {
+        Some(desc) => desc.is_reference(word),
+        None => false,
+    }
+}
+
+/// The word that has the byte at this offset, counted from the start of its element.
+fn word_of(block: Block, offset: u64) -> u32
+    requires { 0 < block.size }
+    ensures { result ≡ offset % block.size / 4 }
+{
+    (offset % u64::from(block.size) / 4) as u32
+}
+
 /// Whether the byte at this offset is one of a reference word.
 fn is_reference(types: &[TypeDesc], block: Block, offset: u64) -> bool
     ensures { result ≡ is_reference types.now block offset }
@@ -74,11 +93,7 @@ fn is_reference(types: &[TypeDesc], block: Block, offset: u64) -> bool
     if block.size == 0 {
         return false;
     }
-    let word = (offset % u64::from(block.size) / 4) as u32;
-    match types.get(block.kind as usize) {
-        Some(desc) => desc.is_reference(word),
-        None => false,
-    }
+    marks(types, block.kind, word_of(block, offset))
 }
 
 /// Whether a reference word begins at the offset.
