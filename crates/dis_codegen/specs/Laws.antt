@@ -12,7 +12,7 @@ use Rattle.core_code.specs.Rules as core_rules
 use Rattle.dis_meaning.specs.World.{World}
 use Rattle.dis_meaning.specs.Process.{Process}
 use Rattle.dis_meaning.specs.Step.{step}
-use Rattle.dis_codegen.specs.Objects.{init_of, object_of, code_instructions, frame_desc}
+use Rattle.dis_tables.specs.Objects.{init_of, object_of, code_instructions, frame_desc}
 use Rattle.dis_codegen.specs.Start.{opening, first_process}
 use Rattle.dis_codegen.specs.Stands.{Known, Ready, WorldStands, sides}
 

@@ -24,8 +24,8 @@ use Rattle.dis_meaning.specs.World.{Content, Instance, Sys, World}
 use Rattle.dis_meaning.specs.Process.{Frame, Process}
 use Rattle.dis_meaning.specs.Step.{word_of, names, path_of_sys}
 use Rattle.dis_meaning.specs.Rules as dis_rules
-use Rattle.dis_codegen.specs.Code.{slot_offset, moved_size, format_text, place}
-use Rattle.dis_codegen.specs.Objects.{context, module_data, most_of_all, sys_imports, init_of, object_of}
+use Rattle.dis_tables.specs.Code.{slot_offset, moved_size, format_text, place}
+use Rattle.dis_tables.specs.Objects.{context, module_data, most_of_all, sys_imports, init_of, object_of}
 use Rattle.dis_codegen.specs.Start.{data_words, data_texts, opening_blocks}
 
 -- Neither a reference nor anything else than a number or an address.

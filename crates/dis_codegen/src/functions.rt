@@ -1,19 +1,19 @@
 ghost use Rattle.std.specs.Prelude.{◌≡◌, ◌+◌, ◌<◌, ◌≤◌, ◌++◌, length, map, IfOk, OnOk};
 ghost use Rattle.std.specs.Option.{ForSome};
 ghost use Rattle.core_code.specs.View.{view_function};
-ghost use Rattle.dis_codegen.specs.Code as dis;
-ghost use Rattle.dis_codegen.specs.Objects.{functions_code};
-ghost use Rattle.dis_codegen.specs.Objects as objects;
-ghost use Rattle.dis_codegen.specs.Sites.{IsReady, SmallFrame};
+ghost use Rattle.dis_tables.specs.Code as dis;
+ghost use Rattle.dis_tables.specs.Objects.{functions_code};
+ghost use Rattle.dis_tables.specs.Objects as objects;
+ghost use Rattle.dis_tables.specs.Sites.{IsReady, SmallFrame};
 ghost use Rattle.dis_codegen.specs.Site.{context_of, function_of, IsSite};
 
 use crate::insts::{emit_inst, put};
-use crate::items::data_count;
 use crate::operands::{ANSWER_PLACE, SYS, slot};
 use crate::site::Site;
 use crate::sizes::places_of;
 use core_code::CoreFn;
 use dis_isa::{Inst, Middle, Op, Operand};
+use dis_tables::data_count;
 use std::alloc::{AllocError, Global};
 
 // Where the module's data hold the path of Sys.

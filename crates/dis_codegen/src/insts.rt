@@ -2,9 +2,9 @@ ghost use Rattle.std.specs.Prelude.{◌≡◌, ◌<◌, ◌≤◌, [], ◌∷◌
 ghost use Rattle.limbo_small.specs.View.{view_op};
 ghost use Rattle.core_code.specs.Code as core;
 ghost use Rattle.core_code.specs.View.{view_inst};
-ghost use Rattle.dis_codegen.specs.Code as dis;
+ghost use Rattle.dis_tables.specs.Code as dis;
 ghost use Rattle.dis_codegen.specs.Site.{context_of, function_of, IsSite, HasInst};
-ghost use Rattle.dis_codegen.specs.Words.{frame_words};
+ghost use Rattle.dis_tables.specs.Words.{frame_words};
 
 use crate::operands::{
     ANSWER_PLACE, SYS, datum_offset, in_made, make, number_middle, number_source, slot, slot_offset,

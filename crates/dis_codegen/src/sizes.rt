@@ -1,9 +1,9 @@
 ghost use Rattle.std.specs.Prelude.{◌≡◌, ◌+◌, ◌*◌, ◌<◌, ◌≤◌, length, map, IfOk, OnOk, MatchOption};
 ghost use Rattle.limbo_small.specs.View.{view_op};
 ghost use Rattle.core_code.specs.View.{view_inst, view_function};
-ghost use Rattle.dis_codegen.specs.Code as dis;
-ghost use Rattle.dis_codegen.specs.Objects.{most_instructions};
-ghost use Rattle.dis_codegen.specs.Sites.{functions_size, entries_from, places_from};
+ghost use Rattle.dis_tables.specs.Code as dis;
+ghost use Rattle.dis_tables.specs.Objects.{most_instructions};
+ghost use Rattle.dis_tables.specs.Sites.{functions_size, entries_from, places_from};
 
 use crate::fault::GenFault;
 use core_code::{CoreFn, CoreInst};
