@@ -3,3 +3,4 @@ pub mod Stored
 pub mod Serials
 pub mod Written
 pub mod Going
+pub mod Moved

@@ -3,3 +3,4 @@ pub mod Frames
 pub mod View
 pub mod Spots
 pub mod Storing
+pub mod Rows
