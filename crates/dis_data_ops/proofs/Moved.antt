@@ -1,5 +1,5 @@
 -- Words that are moved as a row, as an instruction that is read and stored.
-use Rattle.std.proofs.Common.{◌≡◌, ℕ, ℤ, pos, List, refl}
+use Rattle.std.proofs.Common.{◌≡◌, ℕ, pos, List, refl}
 use Rattle.dis_isa.specs.declared.inst.Inst.{Inst}
 use Rattle.dis_isa.specs.declared.op.Op.TheVariants as op
 use Rattle.dis_file.specs.declared.object.Object.{Object}

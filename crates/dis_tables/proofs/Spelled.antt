@@ -1,7 +1,6 @@
 -- Items that are spelled, one more behind them, and one of them by its number.
-use Rattle.std.proofs.Common.{◌≡◌, ℕ, zero, suc, List, [], ◌∷◌, ◌++◌, Option, Some, None, subst, sym}
+use Rattle.std.proofs.Common.{◌≡◌, ℕ, zero, suc, List, [], ◌∷◌, ◌++◌, Some, subst, sym}
 use Rattle.std.specs.Prelude.{slice_get}
-use Rattle.std.specs.Str.{IsUtf8}
 use Rattle.dis_file.specs.declared.object.Item.{Item}
 use Rattle.dis_tables.specs.Spelled.{IsSpelled, AreSpelled}
 

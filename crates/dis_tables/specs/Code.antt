@@ -10,7 +10,7 @@ use Rattle.dis_isa.specs.declared.op.Op.{Op}
 use Rattle.dis_isa.specs.declared.op.Op.TheVariants as op
 use Rattle.limbo_small.specs.Typed.{Operator, Add, Subtract, Multiply, Less, Equal, Piece, Chars, Decimal}
 use Rattle.core_code.specs.Code as core
-use Rattle.core_code.specs.Code.{Inst, Function, Module}
+use Rattle.core_code.specs.Code.{Inst}
 
 abbrev pub Code : Type 0
 Code = List code_inst.Inst

@@ -12,7 +12,7 @@ use Rattle.dis_file.specs.declared.object.LinkEntry.{LinkEntry}
 use Rattle.dis_file.specs.declared.object.Object.{Object}
 use Rattle.dis_file.specs.declared.types.TypeDesc.{TypeDesc}
 use Rattle.core_code.specs.Code as core
-use Rattle.core_code.specs.Code.{Inst, Function, Module, bodies}
+use Rattle.core_code.specs.Code.{Inst, Function, Module}
 use Rattle.dis_tables.specs.Code.{Code, Datum, Text, Number, Context, all_data, sizes, insts_code}
 use Rattle.dis_tables.specs.Code.{inst, slot, path_word, sys_word, frame_type, frame_bytes}
 

@@ -9,8 +9,9 @@ ghost use Rattle.limbo_stmt_parts.specs.declared.start.Branch.TheVariants as bra
 ghost use Rattle.limbo_stmt_parts.specs.declared.start.Choice.TheVariants as choice;
 ghost use Rattle.limbo_stmt_parts.specs.declared.start.Loop.TheVariants as loop;
 ghost use Rattle.limbo_stmt_parts.specs.declared.start.Region.TheVariants as region;
-ghost use Rattle.limbo_parser.specs.Stmts as stmts;
+ghost use Rattle.limbo_stmt_parser.specs.Stmts as stmts;
 
+use crate::jump::{built, jump_at};
 use inf_text::Span;
 use limbo_decl_parser::decl_at;
 use limbo_lexer::{Key, Mark, Token};
@@ -18,9 +19,8 @@ use limbo_reading::{
     ReadError, after_key, after_mark, expect_key, expect_mark, expect_name, place, too_deep,
 };
 use limbo_stmt_parts::{
-    Branch, Choice, ForHead, Loop, Region, Start, alt_front_at, beginning, built, case_front_at,
-    ends, expr_before, for_head_at, handler_front_at, jump_at, label_at, option_before,
-    pick_front_at,
+    Branch, Choice, ForHead, Loop, Region, Start, alt_front_at, beginning, case_front_at, ends,
+    expr_before, for_head_at, handler_front_at, label_at, option_before, pick_front_at,
 };
 use limbo_tree::{AltArm, Block, CaseArm, Handler, HandlerArm, Name, PickArm, Stmt};
 use std::alloc::Global;

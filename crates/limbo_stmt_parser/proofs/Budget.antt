@@ -3,7 +3,7 @@ use Rattle.std.proofs.Common.{◌≡◌, ℕ, zero, suc, ◌-◌, List, length, 
 use Rattle.limbo_lexer.specs.declared.token.Kind.{Kind}
 use Rattle.limbo_reading.specs.declared.fault.Fault.TheVariants.{TooDeep}
 use Rattle.limbo_stmt_parts.specs.Start.{start}
-use Rattle.limbo_parser.specs.Stmts.{stmt_at, begun}
+use Rattle.limbo_stmt_parser.specs.Stmts.{stmt_at, begun}
 
 pub stmt_used : (n : ℕ) (ts : List Kind) → n ≡ 0 → stmt_at n ts ≡ Err (TooDeep (length ts))
 unfolding stmt_at

@@ -2,8 +2,8 @@ use Rattle.std.proofs.Common.{◌+◌, ◌*◌, length}
 use Rattle.limbo_tree.specs.View.{view_case_arm, view_alt_arm, view_pick_arm, view_handler_arm}
 use Rattle.limbo_reading.specs.Reading.{kinds}
 use Rattle.limbo_stmt_parts.specs.declared.start.Region.TheVariants as region
-use Rattle.limbo_parser.proofs.Going.{Statements, Arms}
-use Rattle.limbo_parser.proofs.stmt.+statements.Given as goal
+use Rattle.limbo_stmt_parser.proofs.Going.{Statements, Arms}
+use Rattle.limbo_stmt_parser.proofs.stmt.+statements.Given as goal
 
 -- A statement counts above what it holds: there the budget is one less.
 abbrev pub decreases-stmt_at : goal.decreases-stmt_at

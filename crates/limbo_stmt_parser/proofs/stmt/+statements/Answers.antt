@@ -6,8 +6,8 @@ use Rattle.limbo_reading.specs.Reading.{kinds}
 use Rattle.limbo_tree.specs.View.{view_boxed}
 use Rattle.limbo_stmt_parts.specs.declared.start.Region.TheVariants as region
 use Rattle.limbo_tree.proofs.Stmts.{view_case_arm-is, view_alt_arm-is, view_pick_arm-is, view_handler_arm-is}
-use Rattle.limbo_parser.proofs.Going.{statements_more, statements_end, statements_fail, statements_test_fails, stmt_shorter, arms_more, arms_end, arms_front_fails, arms_body_fails, arm_shorter}
-use Rattle.limbo_parser.proofs.stmt.+statements.Goals as goal
+use Rattle.limbo_stmt_parser.proofs.Going.{statements_more, statements_end, statements_fail, statements_test_fails, stmt_shorter, arms_more, arms_end, arms_front_fails, arms_body_fails, arm_shorter}
+use Rattle.limbo_stmt_parser.proofs.stmt.+statements.Goals as goal
 
 pub stmts_at-returns-in_err-done : goal.stmts_at-returns-in_err-done
 stmts_at-returns-in_err-done t c =

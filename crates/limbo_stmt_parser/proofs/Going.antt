@@ -12,8 +12,8 @@ use Rattle.limbo_reading.proofs.Loops.{Going, until_start, going_more, going_end
 use Rattle.limbo_reading.proofs.Steps.{kept_shorter, fails_bind}
 use Rattle.limbo_stmt_parts.specs.declared.start.Region.{Region}
 use Rattle.limbo_stmt_parts.specs.Heads.{front_at, closing, ends}
-use Rattle.limbo_parser.specs.Stmts.{stmt_at, stmts_at, arm_at, arms_at}
-use Rattle.limbo_parser.proofs.Keep.{stmt_kept, arm_kept}
+use Rattle.limbo_stmt_parser.specs.Stmts.{stmt_at, stmts_at, arm_at, arms_at}
+use Rattle.limbo_stmt_parser.proofs.Keep.{stmt_kept, arm_kept}
 
 -- ---- {stmt} of a region
 
