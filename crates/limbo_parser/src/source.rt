@@ -52,7 +52,11 @@ fn defined_at(
     tokens: &[Token],
 ) -> Result<(Box<Function>, &[Token]), ReadError>
     requires { budget < 1000 }
-    ensures { Gives (λ x. (Defined x.0.value.name.text (name_of x.0.value.part) (view_fn x.0.value.of) (view_block x.0.value.body), kinds x.1.now)) result (sources.defined_at budget (kinds tokens.now)) }
+    ensures { Gives (λ x. (
+      Defined x.0.value.name.text (name_of x.0.value.part) (view_fn x.0.value.of) (view_block x.0.value.body),
+      kinds x.1.now,
+    )) result
+        (sources.defined_at budget (kinds tokens.now)) }
 {
     let (name, rest) = expect_name(tokens)?;
     let (part, rest) = part_at(rest)?;

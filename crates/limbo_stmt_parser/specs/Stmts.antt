@@ -3,7 +3,8 @@
 use Rattle.std.specs.Prelude.{ℕ, zero, suc, List, length, Option, Some, None, Ok, Err}
 use Rattle.limbo_lexer.specs.declared.token.Mark.TheVariants as mark
 use Rattle.limbo_lexer.specs.declared.token.Key.TheVariants as key
-use Rattle.limbo_tree.specs.Stmts.{Stmt, Stmts, Block, Empty, Nested, Declare, Eval, If, IfElse, While, Do, For, Case, Alt, Pick, Plain, Handled}
+use Rattle.limbo_tree.specs.Stmts.{Stmt, Stmts, Block, Empty, Nested, Declare, Eval, If}
+use Rattle.limbo_tree.specs.Stmts.{IfElse, While, Do, For, Case, Alt, Pick, Plain, Handled}
 use Rattle.limbo_tree.specs.View.{Arm, stmts_of, arms_of}
 use Rattle.limbo_reading.specs.declared.fault.Fault.TheVariants.{TooDeep}
 use Rattle.limbo_reading.specs.Reading.{◌>>=◌, Reader, choose, after_key, expect_mark, expect_key, expect_name}

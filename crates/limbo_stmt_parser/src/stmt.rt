@@ -112,7 +112,8 @@ fn branch_at(
     tokens: &[Token],
 ) -> Result<(Box<Stmt>, &[Token]), ReadError>
     requires { inner < 1000 }
-    ensures { Gives (λ x. (view_stmt x.0.value, kinds x.1.now)) result (stmts.branch_above inner (stmts.stmt_at inner) (name_of label) branch (kinds tokens.now)) }
+    ensures { Gives (λ x. (view_stmt x.0.value, kinds x.1.now)) result
+        (stmts.branch_above inner (stmts.stmt_at inner) (name_of label) branch (kinds tokens.now)) }
 {
     match branch {
         Branch::Loop(Loop::While) => while_at(alloc, inner, span, label, tokens),
@@ -134,7 +135,8 @@ fn while_at(
     tokens: &[Token],
 ) -> Result<(Box<Stmt>, &[Token]), ReadError>
     requires { inner < 1000 }
-    ensures { Gives (λ x. (view_stmt x.0.value, kinds x.1.now)) result (stmts.branch_above inner (stmts.stmt_at inner) (name_of label) (branch.Loop loop.While) (kinds tokens.now)) }
+    ensures { Gives (λ x. (view_stmt x.0.value, kinds x.1.now)) result
+        (stmts.branch_above inner (stmts.stmt_at inner) (name_of label) (branch.Loop loop.While) (kinds tokens.now)) }
 {
     let rest = expect_mark(Mark::OpenParen, tokens)?;
     let (condition, rest) = option_before(alloc, inner, Mark::CloseParen, rest)?;
@@ -158,7 +160,8 @@ fn do_at(
     tokens: &[Token],
 ) -> Result<(Box<Stmt>, &[Token]), ReadError>
     requires { inner < 1000 }
-    ensures { Gives (λ x. (view_stmt x.0.value, kinds x.1.now)) result (stmts.branch_above inner (stmts.stmt_at inner) (name_of label) (branch.Loop loop.Do) (kinds tokens.now)) }
+    ensures { Gives (λ x. (view_stmt x.0.value, kinds x.1.now)) result
+        (stmts.branch_above inner (stmts.stmt_at inner) (name_of label) (branch.Loop loop.Do) (kinds tokens.now)) }
 {
     let (body, rest) = stmt_at(alloc, inner, tokens)?;
     let rest = expect_key(Key::While, rest)?;
@@ -184,7 +187,8 @@ fn for_at(
     tokens: &[Token],
 ) -> Result<(Box<Stmt>, &[Token]), ReadError>
     requires { inner < 1000 }
-    ensures { Gives (λ x. (view_stmt x.0.value, kinds x.1.now)) result (stmts.branch_above inner (stmts.stmt_at inner) (name_of label) (branch.Loop loop.For) (kinds tokens.now)) }
+    ensures { Gives (λ x. (view_stmt x.0.value, kinds x.1.now)) result
+        (stmts.branch_above inner (stmts.stmt_at inner) (name_of label) (branch.Loop loop.For) (kinds tokens.now)) }
 {
     let (head, rest) = for_head_at(alloc, inner, tokens)?;
     let (body, rest) = stmt_at(alloc, inner, rest)?;
@@ -214,7 +218,8 @@ fn case_at(
     tokens: &[Token],
 ) -> Result<(Box<Stmt>, &[Token]), ReadError>
     requires { inner < 1000 }
-    ensures { Gives (λ x. (view_stmt x.0.value, kinds x.1.now)) result (stmts.branch_above inner (stmts.stmt_at inner) (name_of label) (branch.Choice choice.Case) (kinds tokens.now)) }
+    ensures { Gives (λ x. (view_stmt x.0.value, kinds x.1.now)) result
+        (stmts.branch_above inner (stmts.stmt_at inner) (name_of label) (branch.Choice choice.Case) (kinds tokens.now)) }
 {
     let (value, rest) = expr_before(alloc, inner, Mark::OpenBrace, tokens)?;
     let (arms, rest) = case_arms_at(alloc, inner, rest)?;
@@ -237,7 +242,8 @@ fn alt_at(
     tokens: &[Token],
 ) -> Result<(Box<Stmt>, &[Token]), ReadError>
     requires { inner < 1000 }
-    ensures { Gives (λ x. (view_stmt x.0.value, kinds x.1.now)) result (stmts.branch_above inner (stmts.stmt_at inner) (name_of label) (branch.Choice choice.Alt) (kinds tokens.now)) }
+    ensures { Gives (λ x. (view_stmt x.0.value, kinds x.1.now)) result
+        (stmts.branch_above inner (stmts.stmt_at inner) (name_of label) (branch.Choice choice.Alt) (kinds tokens.now)) }
 {
     let rest = expect_mark(Mark::OpenBrace, tokens)?;
     let (arms, rest) = alt_arms_at(alloc, inner, rest)?;
@@ -254,7 +260,8 @@ fn pick_at(
     tokens: &[Token],
 ) -> Result<(Box<Stmt>, &[Token]), ReadError>
     requires { inner < 1000 }
-    ensures { Gives (λ x. (view_stmt x.0.value, kinds x.1.now)) result (stmts.branch_above inner (stmts.stmt_at inner) (name_of label) (branch.Choice choice.Pick) (kinds tokens.now)) }
+    ensures { Gives (λ x. (view_stmt x.0.value, kinds x.1.now)) result
+        (stmts.branch_above inner (stmts.stmt_at inner) (name_of label) (branch.Choice choice.Pick) (kinds tokens.now)) }
 {
     let (name, rest) = expect_name(tokens)?;
     let rest = expect_mark(Mark::Define, rest)?;
@@ -320,7 +327,8 @@ fn stmts_at(
     tokens: &[Token],
 ) -> Result<(Vec<Stmt>, &[Token]), ReadError>
     requires { budget < 1000 }
-    ensures { Gives (λ x. (map view_stmt x.0.items, kinds x.1.now)) result (stmts.stmts_at budget (stmts.stmt_at budget) region (kinds tokens.now)) }
+    ensures { Gives (λ x. (map view_stmt x.0.items, kinds x.1.now)) result
+        (stmts.stmts_at budget (stmts.stmt_at budget) region (kinds tokens.now)) }
 {
     let mut statements = Vec::new(alloc);
     let mut rest = tokens;
@@ -343,7 +351,8 @@ fn case_arms_at(
     tokens: &[Token],
 ) -> Result<(Vec<CaseArm>, &[Token]), ReadError>
     requires { budget < 1000 }
-    ensures { Gives (λ x. (map view_case_arm x.0.items, kinds x.1.now)) result (stmts.arms_at budget (stmts.stmt_at budget) region.Case (kinds tokens.now)) }
+    ensures { Gives (λ x. (map view_case_arm x.0.items, kinds x.1.now)) result
+        (stmts.arms_at budget (stmts.stmt_at budget) region.Case (kinds tokens.now)) }
 {
     let mut arms = Vec::new(alloc);
     let mut rest = tokens;
@@ -371,7 +380,8 @@ fn alt_arms_at(
     tokens: &[Token],
 ) -> Result<(Vec<AltArm>, &[Token]), ReadError>
     requires { budget < 1000 }
-    ensures { Gives (λ x. (map view_alt_arm x.0.items, kinds x.1.now)) result (stmts.arms_at budget (stmts.stmt_at budget) region.Alt (kinds tokens.now)) }
+    ensures { Gives (λ x. (map view_alt_arm x.0.items, kinds x.1.now)) result
+        (stmts.arms_at budget (stmts.stmt_at budget) region.Alt (kinds tokens.now)) }
 {
     let mut arms = Vec::new(alloc);
     let mut rest = tokens;
@@ -395,7 +405,8 @@ fn pick_arms_at(
     tokens: &[Token],
 ) -> Result<(Vec<PickArm>, &[Token]), ReadError>
     requires { budget < 1000 }
-    ensures { Gives (λ x. (map view_pick_arm x.0.items, kinds x.1.now)) result (stmts.arms_at budget (stmts.stmt_at budget) region.Pick (kinds tokens.now)) }
+    ensures { Gives (λ x. (map view_pick_arm x.0.items, kinds x.1.now)) result
+        (stmts.arms_at budget (stmts.stmt_at budget) region.Pick (kinds tokens.now)) }
 {
     let mut arms = Vec::new(alloc);
     let mut rest = tokens;
@@ -419,7 +430,8 @@ fn handler_arms_at(
     tokens: &[Token],
 ) -> Result<(Vec<HandlerArm>, &[Token]), ReadError>
     requires { budget < 1000 }
-    ensures { Gives (λ x. (map view_handler_arm x.0.items, kinds x.1.now)) result (stmts.arms_at budget (stmts.stmt_at budget) region.Handler (kinds tokens.now)) }
+    ensures { Gives (λ x. (map view_handler_arm x.0.items, kinds x.1.now)) result
+        (stmts.arms_at budget (stmts.stmt_at budget) region.Handler (kinds tokens.now)) }
 {
     let mut arms = Vec::new(alloc);
     let mut rest = tokens;
