@@ -22,10 +22,11 @@ use Rattle.dis_meaning.specs.Words.{Word, Plain, Refer, fits, stored, blank_word
 use Rattle.dis_meaning.specs.World as memory
 use Rattle.dis_meaning.specs.World.{Content}
 use Rattle.dis_meaning.specs.Opening as opening
-use Rattle.dis_meaning.specs.Opening.{◌>>=◌, Data, characters, if_found, with_text, with_numbers, with_item, with_items, Opened, opened, entered, StringsSpell}
-use Rattle.dis_codegen.specs.Code.{Datum, Text, Number, data_of, all_data, number_datum, fits_source, fits_middle}
-use Rattle.dis_codegen.specs.Objects.{init_of, entry_type_of, map_of, is_text, data_desc, frame_desc, print_desc, module_data, string_item, word_item, items_from, object_of}
-use Rattle.dis_codegen.specs.Sites.{SmallFrame}
+use Rattle.inf_text.specs.Options.{◌>>=◌}
+use Rattle.dis_meaning.specs.Opening.{Data, characters, if_found, with_text, with_numbers, with_item, with_items, Opened, opened, entered, StringsSpell}
+use Rattle.dis_tables.specs.Code.{Datum, Text, Number, data_of, all_data, number_datum, fits_source, fits_middle}
+use Rattle.dis_tables.specs.Objects.{init_of, entry_type_of, map_of, is_text, data_desc, frame_desc, print_desc, module_data, string_item, word_item, items_from, object_of}
+use Rattle.dis_tables.specs.Sites.{SmallFrame}
 use Rattle.dis_codegen.specs.Start as start
 use Rattle.dis_codegen.specs.Start.{data_words, data_texts, entry_words}
 use Rattle.dis_codegen.proofs.Marks.{marks_is}

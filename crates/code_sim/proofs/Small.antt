@@ -11,8 +11,8 @@ use Rattle.limbo_lower.specs.Code.{function_code, module_code}
 use Rattle.limbo_lower.specs.Sizes.{frame_size, FrameTooLarge}
 use Rattle.limbo_lower.proofs.SlotBounds.{frames_fit}
 use Rattle.dis_file.specs.declared.types.TypeDesc.{TypeDesc}
-use Rattle.dis_codegen.specs.Code.{frame_bytes}
-use Rattle.dis_codegen.specs.Objects.{frame_desc}
+use Rattle.dis_tables.specs.Code.{frame_bytes}
+use Rattle.dis_tables.specs.Objects.{frame_desc}
 use Rattle.dis_codegen.proofs.Entered.{entered}
 use Rattle.code_sim.specs.Keeps.{object_for}
 use Rattle.code_sim.specs.Frames.{FramesFit}

@@ -28,7 +28,7 @@ use Rattle.dis_meaning.specs.World.{World}
 use Rattle.dis_meaning.specs.Process.{Process}
 use Rattle.dis_meaning.specs.Step.{step}
 use Rattle.dis_meaning.specs.Rules as dis_rules
-use Rattle.dis_codegen.specs.Objects.{init_of, object_of}
+use Rattle.dis_tables.specs.Objects.{init_of, object_of}
 use Rattle.dis_codegen.specs.Start.{opening, first_process}
 use Rattle.dis_codegen.specs.Stands as upper
 use Rattle.dis_codegen.specs.Laws.{at_first}

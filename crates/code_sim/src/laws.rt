@@ -6,7 +6,7 @@ ghost use Rattle.core_code.specs.Proper as core;
 ghost use Rattle.limbo_lower.specs.Code.{module_code};
 ghost use Rattle.limbo_lower.specs.Sizes.{FrameTooLarge};
 ghost use Rattle.dis_meaning.specs.Opening.{StringsSpell};
-ghost use Rattle.dis_codegen.specs.Sites.{AllSmall};
+ghost use Rattle.dis_tables.specs.Sites.{AllSmall};
 ghost use Rattle.code_sim.specs.Keeps.{object_for, Keeps, JournalsAreRuns, NeverFaults};
 ghost use Rattle.code_sim.specs.Begins.{Begins};
 ghost use Rattle.code_sim.specs.Frames.{FramesFit};

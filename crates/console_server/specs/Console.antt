@@ -1,5 +1,6 @@
 -- The console (Inferno manual, cons): a write to its file `cons` goes to the output's sink whole.
-use Rattle.std.specs.Prelude.{◌≡◌, ◌<◌, ◌^◌, ◌==◌, ℕ, List, [], ◌∷◌, ◌++◌, length, take, Bool, true, false, Option, Some, None, if◌then◌else◌, MatchOption, IfSome, codes, ◌≤◌, encode_utf8_all}
+use Rattle.std.specs.Prelude.{◌≡◌, ◌<◌, ◌^◌, ◌==◌, ℕ, List, [], ◌∷◌, ◌++◌, length, take, Bool, true, false, Option}
+use Rattle.std.specs.Prelude.{Some, None, if◌then◌else◌, MatchOption, IfSome, codes, ◌≤◌, encode_utf8_all}
 use Rattle.styx_msg.specs.declared.message.Tmsg.{Tmsg}
 use Rattle.styx_msg.specs.declared.message.Tmsg.TheVariants as t
 use Rattle.styx_msg.specs.declared.message.Rmsg.{Rmsg}

@@ -6,9 +6,9 @@ use Rattle.dis_file.specs.declared.object.LinkEntry.{LinkEntry}
 use Rattle.dis_file.specs.declared.object.Catch.{Catch}
 use Rattle.dis_file.specs.declared.types.TypeDesc.{TypeDesc}
 use Rattle.core_code.specs.Code.{Module}
-use Rattle.dis_codegen.specs.Code.{Code}
-use Rattle.dis_codegen.specs.Objects.{find, entry, functions_code, entry_type_of, data_desc, frame_desc, print_desc, module_data, string_item, items_from, sys_imports, init_links, object_of}
-use Rattle.dis_codegen.proofs.Words.{items_length}
+use Rattle.dis_tables.specs.Code.{Code}
+use Rattle.dis_tables.specs.Objects.{find, entry, functions_code, entry_type_of, data_desc, frame_desc, print_desc, module_data, string_item, items_from, sys_imports, init_links, object_of}
+use Rattle.dis_tables.proofs.Words.{items_length}
 
 pub object_is : (m : Module) (o : Option ℕ) (size type : ℕ) (insts : Code) (types : List TypeDesc) (items : List Item) (name : List ℕ) (links : List LinkEntry) (imports : List (List Import)) (catches : List Catch) →
     o ≡ find 0 (codes "init") m.functions →

@@ -27,8 +27,8 @@ use Rattle.dis_meaning.specs.Process.{Frame, Process, with_words, with_frames, a
 use Rattle.dis_meaning.specs.Places.{Own, Far, spot, behind}
 use Rattle.dis_meaning.specs.Step as dis_step
 use Rattle.dis_meaning.specs.Step.{word_of, frame_at, with_frame_made}
-use Rattle.dis_codegen.specs.Code.{moved_size, size, slot, slot_offset, in_made, fits_middle, number_middle, number_datum, Context, place, inst, arguments, answer_to, inst_code}
-use Rattle.dis_codegen.specs.Objects.{base_of, context, module_data, frame_desc, object_of}
+use Rattle.dis_tables.specs.Code.{moved_size, size, slot, slot_offset, in_made, fits_middle, number_middle, number_datum, Context, place, inst, arguments, answer_to, inst_code}
+use Rattle.dis_tables.specs.Objects.{base_of, context, module_data, frame_desc, object_of}
 use Rattle.dis_codegen.specs.Stands.{Known, IsPlain, HasSlots, AnswersTo, made_at, Made, ForCall, StackStands, Running, Ready, begins, framed, moved, addressed, WorldStands}
 use Rattle.dis_codegen.specs.Paces as paces
 use Rattle.dis_codegen.proofs.Memory.{number_at, slot_number, stored_at, set_same, set_other, set_length}

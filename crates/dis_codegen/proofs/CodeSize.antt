@@ -3,12 +3,12 @@ use Rattle.std.proofs.Common.{◌≡◌, ℕ, zero, suc, ◌+◌, ◌<◌, ◌�
 use Rattle.std.specs.Prelude.{slice_get}
 use Rattle.core_code.specs.Code as core
 use Rattle.core_code.specs.Code.{Inst, Function, Module}
-use Rattle.dis_codegen.specs.Code.{all_data, insts_code}
-use Rattle.dis_codegen.specs.Objects.{base_of, context, functions_code, entry, entry_length, or_ends, arguments_of, most_arguments, most_of_all}
-use Rattle.dis_codegen.specs.Sites.{functions_size, places_from, IsReady, SmallDatum}
+use Rattle.dis_tables.specs.Code.{all_data, insts_code}
+use Rattle.dis_tables.specs.Objects.{base_of, context, functions_code, entry, entry_length, or_ends, arguments_of, most_arguments, most_of_all}
+use Rattle.dis_tables.specs.Sites.{functions_size, places_from, IsReady, SmallDatum}
 use Rattle.dis_codegen.proofs.Lookups.{insts_length}
 use Rattle.dis_codegen.proofs.Ready.{ready_stands}
-use Rattle.dis_codegen.proofs.Words.{small_datum}
+use Rattle.dis_codegen.proofs.Emission.{small_datum}
 
 functions_long : (all : List Function) (n k : ℕ) (fs : List Function) → length (functions_code all n k fs) ≡ functions_size fs
 functions_long all n k [] = refl

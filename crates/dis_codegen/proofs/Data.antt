@@ -9,8 +9,8 @@ use Rattle.dis_meaning.specs.World as memory
 use Rattle.dis_meaning.specs.World.{Content, Instance, World}
 use Rattle.dis_meaning.specs.Process.{Process}
 use Rattle.dis_meaning.specs.Places.{Data, data_of, data_at, read, source_plain, given_number}
-use Rattle.dis_codegen.specs.Code.{Datum, Text, Number, datum_offset, number_datum, number_source, number_middle}
-use Rattle.dis_codegen.specs.Objects.{module_data}
+use Rattle.dis_tables.specs.Code.{Datum, Text, Number, datum_offset, number_datum, number_source, number_middle}
+use Rattle.dis_tables.specs.Objects.{module_data}
 use Rattle.dis_codegen.specs.Start.{data_words, data_texts, opening_blocks}
 use Rattle.dis_codegen.specs.Stands.{Known, WorldStands}
 use Rattle.dis_codegen.proofs.Memory.{at_word}

@@ -6,11 +6,12 @@ use Rattle.std.proofs.lemmas.Option.{slice_get_within}
 use mir.Syntax.{w32}
 use mir.Val.{to_z}
 use Rattle.dis_isa.specs.declared.inst.Operand.TheVariants as operand
+use Rattle.core_code.specs.Code as core
 use Rattle.core_code.specs.Code.{Inst, Function}
 use Rattle.core_code.specs.Proper.{IsInt, AreInts, Runs}
-use Rattle.dis_codegen.specs.Code.{moved_size, size, sizes, start}
-use Rattle.dis_codegen.specs.Objects.{entry_size, size_before, base_of}
-use Rattle.dis_codegen.specs.Sites.{functions_size, entries_from, places_from, Stands}
+use Rattle.dis_tables.specs.Code.{moved_size, size, sizes, start}
+use Rattle.dis_tables.specs.Objects.{entry_size, size_before, base_of}
+use Rattle.dis_tables.specs.Sites.{functions_size, entries_from, places_from, Stands, SmallDatum}
 use Rattle.dis_codegen.proofs.Simple.{some_size}
 
 pub moved_none : (n : ℕ) → n ≡ 0 → moved_size n ≡ 0
@@ -114,3 +115,17 @@ module _ (fs : List Function) (number : ℕ) (f : Function) (entries places : Li
 
   pub entry_small : (k : ℕ) → base_of fs k ≤ 1048576
   entry_small k = let w = before_whole fs k in let s = h.short in omega (arith, w, s)
+
+-- In proper code with small frames all data are small.
+pub small_datum : (fs : List Function) (number : ℕ) (f : Function) (entries places : List ℕ) → Stands fs number f entries places → (pc : ℕ) (i : Inst) → slice_get f.code pc ≡ Some i → SmallDatum i
+small_datum fs number f entries places h pc (core.Set into n) e = (h.proper.each pc _ e).1
+small_datum fs number f entries places h pc (core.Move into from) e = tt
+small_datum fs number f entries places h pc (core.Operate o into left right) e = tt
+small_datum fs number f entries places h pc (core.Unless condition n) e = tt
+small_datum fs number f entries places h pc (core.Jump n) e = tt
+small_datum fs number f entries places h pc (core.Back n) e = tt
+small_datum fs number f entries places h pc (core.Call g args count into) e = count_small fs number f entries places h args count (h.proper.each pc _ e).1
+small_datum fs number f entries places h pc (core.Format pieces) e = tt
+small_datum fs number f entries places h pc (core.Print args count into) e = count_small fs number f entries places h args count (h.proper.each pc _ e).0
+small_datum fs number f entries places h pc (core.Return value) e = tt
+small_datum fs number f entries places h pc core.Leave e = tt

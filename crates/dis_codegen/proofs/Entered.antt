@@ -3,8 +3,8 @@ use Rattle.std.proofs.Common.{◌≡◌, ℕ, suc, ◌+◌, ◌<◌, List, [], �
 use Rattle.std.specs.Prelude.{slice_get}
 use Rattle.std.proofs.lemmas.List.{length-map}
 use Rattle.core_code.specs.Code.{Function, Module}
-use Rattle.dis_codegen.specs.Code.{Code}
-use Rattle.dis_codegen.specs.Objects.{find, init_of, base_of, or_ends, entry, functions_code, frame_desc, print_desc, entry_type_of}
+use Rattle.dis_tables.specs.Code.{Code}
+use Rattle.dis_tables.specs.Objects.{find, init_of, base_of, or_ends, entry, functions_code, frame_desc, print_desc, entry_type_of}
 use Rattle.dis_codegen.specs.Laws.{CanBeEntered}
 use Rattle.dis_codegen.proofs.Lookups.{found_within, frame_type_is}
 

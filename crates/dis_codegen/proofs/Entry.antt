@@ -18,8 +18,8 @@ use Rattle.dis_meaning.specs.Process.{Frame, Process, with_words, with_frames}
 use Rattle.dis_meaning.specs.Places.{Own, Data, data_of, renewed}
 use Rattle.dis_meaning.specs.Step as dis_step
 use Rattle.dis_meaning.specs.Step.{names, text_at, loaded, middle_immediate, target}
-use Rattle.dis_codegen.specs.Code.{place, slot, slot_offset, path_word, sys_word, inst, inst_code}
-use Rattle.dis_codegen.specs.Objects.{entry, begins, or_ends, entry_size, entry_length, base_of, context, functions_code, init_of, module_data, sys_imports, object_of}
+use Rattle.dis_tables.specs.Code.{place, slot, slot_offset, path_word, sys_word, inst, inst_code}
+use Rattle.dis_tables.specs.Objects.{entry, begins, or_ends, entry_size, entry_length, base_of, context, functions_code, init_of, module_data, sys_imports, object_of}
 use Rattle.dis_codegen.specs.Start.{data_words, data_texts}
 use Rattle.dis_codegen.specs.Stands.{Known, IsPlain, AnswersTo, HasSlots, Entering, FrameStands, StackStands, Running, Ready, loads, leaves, WorldStands}
 use Rattle.dis_codegen.specs.Stands as stands

@@ -24,8 +24,8 @@ use Rattle.dis_isa.specs.declared.op.Op.TheVariants as op
 use Rattle.dis_meaning.specs.World.{World}
 use Rattle.dis_meaning.specs.Process.{Process}
 use Rattle.dis_meaning.specs.Rules.{rules}
-use Rattle.dis_codegen.specs.Code.{inst}
-use Rattle.dis_codegen.specs.Objects.{object_of, sys_imports}
+use Rattle.dis_tables.specs.Code.{inst}
+use Rattle.dis_tables.specs.Objects.{object_of, sys_imports}
 use Rattle.dis_codegen.specs.Start.{opening, first_process}
 
 traced : Option (State World Process Value Request Rmsg Ending) → Option Trace

@@ -20,7 +20,7 @@ use Rattle.dis_meaning.specs.Process as dis
 use Rattle.dis_meaning.specs.Process.{Process, with_words, with_frames}
 use Rattle.dis_meaning.specs.Step as dis_step
 use Rattle.dis_meaning.specs.Step.{word_of, outside_is}
-use Rattle.dis_codegen.specs.Code.{slot_offset}
+use Rattle.dis_tables.specs.Code.{slot_offset}
 use Rattle.dis_codegen.specs.Stands.{Known, Running, Ready, enters, loads, leaves, begins, compares, fails, result, framed, moved, addressed, formats, formatted, passed, prints, returns, Asking, WorldStands, sides}
 use Rattle.dis_codegen.proofs.Memory.{stored_at, word_plain}
 use Rattle.dis_codegen.proofs.Runs.{as_known, slots_put, linkage_kept, stack_same}

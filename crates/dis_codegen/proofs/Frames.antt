@@ -8,8 +8,8 @@ use Rattle.core_code.specs.Machine.{Slots, taken}
 use Rattle.core_code.specs.Proper.{AreInts}
 use Rattle.dis_meaning.specs.Words.{Word, Plain, Refer, Found, ◌>>=◌, type_check, or_wrong, plain, blank_word, blanks, blank}
 use Rattle.dis_meaning.specs.Step.{word_of, plains, all_replaced}
-use Rattle.dis_codegen.specs.Code.{frame_bytes}
-use Rattle.dis_codegen.specs.Objects.{linkage, map_of, frame_desc}
+use Rattle.dis_tables.specs.Code.{frame_bytes}
+use Rattle.dis_tables.specs.Objects.{linkage, map_of, frame_desc}
 use Rattle.dis_codegen.specs.Stands.{IsPlain, HasSlots}
 use Rattle.dis_codegen.proofs.Memory.{plain_is, word_plain, replaced_fit, fits_plain, set_other, set_length}
 use Rattle.dis_codegen.proofs.Marks.{marks_is}

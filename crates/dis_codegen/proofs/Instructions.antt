@@ -16,7 +16,7 @@ use Rattle.dis_meaning.specs.World.{Content, World}
 use Rattle.dis_meaning.specs.Process.{Frame, Process, Does}
 use Rattle.dis_meaning.specs.Places.{Spot, Memory, read, store, spot, source_number, source_plain, source_word, given_number, middle_number, words_at, with_words_at, place_in, address}
 use Rattle.dis_meaning.specs.Step.{next, target, branch, jumps, framed, frame_at, calls, plains, all_replaced, at_least_zero, middle_immediate, text_at, loaded, module_at, function_of, sys_call, operates, tests, obey}
-use Rattle.dis_codegen.specs.Code.{inst}
+use Rattle.dis_tables.specs.Code.{inst}
 
 module _ (limit : ℕ) (o : Object) (x : World) (r : Process) where
   pub movw : (src dst : Operand) (w : Word) (d : Spot) (after : Memory) → source_plain x r src ≡ Found w → spot x r dst ≡ Found d → store x r d w ≡ Found after →

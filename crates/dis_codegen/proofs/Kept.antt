@@ -19,8 +19,8 @@ use Rattle.core_code.specs.Proper.{IsProper}
 use Rattle.dis_meaning.specs.Words.{Plain, Refer}
 use Rattle.dis_meaning.specs.World as memory
 use Rattle.dis_meaning.specs.World.{Instance, World}
-use Rattle.dis_codegen.specs.Code.{all_data, insts_code, sizes}
-use Rattle.dis_codegen.specs.Objects.{module_data, init_of, object_of, frame_desc, functions_code, context, entry, or_ends, base_of, entry_type_of, code_instructions}
+use Rattle.dis_tables.specs.Code.{all_data, insts_code, sizes}
+use Rattle.dis_tables.specs.Objects.{module_data, init_of, object_of, frame_desc, functions_code, context, entry, or_ends, base_of, entry_type_of, code_instructions}
 use Rattle.dis_codegen.specs.Start.{opening, first_process, entry_words, data_words, data_texts}
 use Rattle.dis_codegen.specs.Stands.{Ready, enters, WorldStands, HasSlots, sides}
 use Rattle.dis_codegen.specs.Paces.{place}

@@ -1,8 +1,6 @@
 pub mod Examples
 pub mod Emission
 pub mod Ready
-pub mod Words
-pub mod Maps
 pub mod CodeSize
 pub mod Assembly
 pub mod Memory
@@ -26,4 +24,3 @@ pub mod Whole
 pub mod Kept
 pub mod Entered
 pub mod Under
-pub mod Spelled

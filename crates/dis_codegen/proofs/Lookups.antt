@@ -8,8 +8,8 @@ use Rattle.dis_isa.specs.declared.op.Op.TheVariants as op
 use Rattle.limbo_small.specs.Typed.{Operator, Add, Subtract, Multiply, Less, Equal}
 use Rattle.core_code.specs.Code as core
 use Rattle.core_code.specs.Code.{Inst, Function, Module}
-use Rattle.dis_codegen.specs.Code.{Code, Datum, all_data, data_of, moved_size, operation_size, size, sizes, arguments, operate, answer_to, inst, slot, sys_word, Context, place, inst_code, insts_code}
-use Rattle.dis_codegen.specs.Objects.{size_before, entry_size, entry_length, base_of, context, functions_code, entry, or_ends, init_of, find, object_of, module_data, frame_desc, print_desc}
+use Rattle.dis_tables.specs.Code.{Code, Datum, all_data, data_of, moved_size, operation_size, size, sizes, arguments, operate, answer_to, inst, slot, sys_word, Context, place, inst_code, insts_code}
+use Rattle.dis_tables.specs.Objects.{size_before, entry_size, entry_length, base_of, context, functions_code, entry, or_ends, init_of, find, object_of, module_data, frame_desc, print_desc}
 
 -- ---- pieces of lists
 

@@ -5,7 +5,7 @@ use Rattle.std.proofs.Math.Nat.{zero-div, mul-add-div, mul-add-mod_self_left, di
 use Rattle.std.proofs.lemmas.Nat.{pow_pos, pow-add}
 use Rattle.std.proofs.lemmas.List.{get_or-drop}
 use Rattle.dis_file.specs.References.{marks}
-use Rattle.dis_codegen.specs.Objects.{bit, bits, bytes_of, map_of}
+use Rattle.dis_tables.specs.Objects.{bit, bits, bytes_of, map_of}
 
 -- ---- a byte
 

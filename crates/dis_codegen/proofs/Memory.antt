@@ -4,7 +4,7 @@ use Rattle.std.specs.Prelude.{slice_get, slice_set, ◌==◌}
 use Rattle.system_model.specs.Values.{Value, Num}
 use Rattle.dis_meaning.specs.Words.{Word, Plain, Refer, Address, Found, Wrong, ◌>>=◌, type_check, or_wrong, word_number, word_at, fits, replaced, stored, plain}
 use Rattle.dis_meaning.specs.Step.{word_of}
-use Rattle.dis_codegen.specs.Code.{slot_offset}
+use Rattle.dis_tables.specs.Code.{slot_offset}
 use Rattle.dis_codegen.specs.Stands.{IsPlain}
 
 number_if : (n k : ℕ) → n % 4 ≡ 0 → n / 4 ≡ k → word_number (pos n) ≡ Found k

@@ -25,8 +25,8 @@ use Rattle.dis_meaning.specs.Process.{Frame, Process, with_words, with_frames}
 use Rattle.dis_meaning.specs.Places.{Own, store}
 use Rattle.dis_meaning.specs.Step as dis_step
 use Rattle.dis_meaning.specs.Step.{word_of, target}
-use Rattle.dis_codegen.specs.Code.{operation_size, size, slot, slot_offset, Context, place, inst, operation, comparison, operate}
-use Rattle.dis_codegen.specs.Objects.{context, module_data, object_of}
+use Rattle.dis_tables.specs.Code.{operation_size, size, slot, slot_offset, Context, place, inst, operation, comparison, operate}
+use Rattle.dis_tables.specs.Objects.{context, module_data, object_of}
 use Rattle.dis_codegen.specs.Stands.{Known, IsPlain, HasSlots, Running, begins, compares, fails, result, compared, IsComparison, WorldStands}
 use Rattle.dis_codegen.specs.Paces as paces
 use Rattle.dis_codegen.proofs.Memory.{plain_is, word_plain}

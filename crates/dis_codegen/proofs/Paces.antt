@@ -2,8 +2,8 @@
 use Rattle.std.proofs.Common.{◌≡◌, ℕ, zero, suc, ◌+◌, ◌-◌, ◌<◌, ◌≤◌, true, false, List, [], ◌∷◌, ◌++◌, map, Some, sym, ap, ◌∙◌, subst, arith, rules, tests, if◌then◌else◌}
 use Rattle.std.specs.Prelude.{slice_get, nat_lt, take}
 use Rattle.core_code.specs.Code.{Inst, Function, Module}
-use Rattle.dis_codegen.specs.Code.{size, sizes, start, place}
-use Rattle.dis_codegen.specs.Objects.{size_before, entry_size, context}
+use Rattle.dis_tables.specs.Code.{size, sizes, start, place}
+use Rattle.dis_tables.specs.Objects.{size_before, entry_size, context}
 use Rattle.dis_codegen.specs.Paces.{all_sizes, within, far}
 
 less : (a b : ℕ) → a < b → nat_lt a b ≡ true

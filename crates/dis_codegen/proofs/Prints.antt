@@ -27,8 +27,8 @@ use Rattle.dis_meaning.specs.Places.{Own, Far, behind, place_in}
 use Rattle.dis_meaning.specs.Formats.{formatted}
 use Rattle.dis_meaning.specs.Step as dis_step
 use Rattle.dis_meaning.specs.Step.{with_frame_made, word_of, names, numbers, text_at, frame_at, printed, print_call, outside_is, answer_spot, place_of}
-use Rattle.dis_codegen.specs.Code.{Context, place, moved_size, slot, slot_offset, in_made, datum_offset, sys_word, format_text, inst, arguments, answer_to}
-use Rattle.dis_codegen.specs.Objects.{context, module_data, most_of_all, print_desc, sys_imports, object_of}
+use Rattle.dis_tables.specs.Code.{Context, place, moved_size, slot, slot_offset, in_made, datum_offset, sys_word, format_text, inst, arguments, answer_to}
+use Rattle.dis_tables.specs.Objects.{context, module_data, most_of_all, print_desc, sys_imports, object_of}
 use Rattle.dis_codegen.specs.Start.{opening_blocks}
 use Rattle.dis_codegen.specs.Stands.{Known, IsPlain, HasSlots, made_at, Made, ForFormat, ForPrint, FrameStands, FrameWaits, Running, Ready, begins, formats, passed, prints, Asking, WorldStands, sides}
 use Rattle.dis_codegen.specs.Stands as stands

@@ -1,20 +1,13 @@
 -- Functions whose code can be made.
-use Rattle.std.proofs.Common.{◌≡◌, ℕ, suc, ℤ, pos, ◌+◌, ◌*◌, ◌<◌, ◌≤◌, Bool, true, false, List, [], ◌∷◌, length, map, get_or, Option, Some, refl, sym, ap, ◌∙◌, arith, length-append}
-use Rattle.std.specs.Prelude.{slice_get, option_map}
-use Rattle.std.proofs.lemmas.Option.{slice_get-map, slice_get_read}
-use Rattle.core_code.specs.declared.code.CoreFn.{CoreFn}
+use Rattle.std.proofs.Common.{◌≡◌, ℕ, suc, ℤ, pos, ◌+◌, ◌*◌, ◌<◌, ◌≤◌, Bool, true, false, List, [], ◌∷◌, length, get_or, Option, Some, refl, sym, ap, ◌∙◌, arith, length-append}
+use Rattle.std.specs.Prelude.{slice_get}
 use Rattle.core_code.specs.Code as core
 use Rattle.core_code.specs.Code.{Inst, Function}
-use Rattle.core_code.specs.View.{view_function}
-use Rattle.dis_codegen.specs.Code.{number_datum, fits_source, fits_middle, data_of, all_data, sizes}
-use Rattle.dis_codegen.specs.Objects.{entry_size, base_of, begins, entry, or_ends, module_data, most_instructions}
-use Rattle.dis_codegen.specs.Sites.{functions_size, places_from, Stands, IsReady}
+use Rattle.dis_tables.specs.Code.{number_datum, fits_source, fits_middle, data_of, all_data, sizes}
+use Rattle.dis_tables.specs.Objects.{entry_size, base_of, begins, entry, or_ends, module_data, most_instructions}
+use Rattle.dis_tables.specs.Sites.{functions_size, places_from, Stands, IsReady}
 use Rattle.dis_codegen.proofs.Simple.{some_size}
 use Rattle.dis_codegen.proofs.Emission.{before_whole, function_within, entries_long, entries_at}
-
--- The function that is seen at a place.
-pub seen : (fs : List CoreFn) (k : ℕ) (f : CoreFn) → k < length fs → f ≡ get_or fs k f → slice_get (map view_function fs) k ≡ Some (view_function f)
-seen fs k f lt is = slice_get-map view_function fs k ∙ ap (option_map view_function) (slice_get_read fs (length fs) k f refl lt is)
 
 -- ---- data are few
 

@@ -21,8 +21,8 @@ use Rattle.dis_meaning.specs.Process.{Frame, Process, with_words, with_frames, a
 use Rattle.dis_meaning.specs.Places.{Far, Memory, spot, store, behind, source_plain}
 use Rattle.dis_meaning.specs.Step as dis_step
 use Rattle.dis_meaning.specs.Step.{word_of}
-use Rattle.dis_codegen.specs.Code.{Context, place, size, slot, slot_offset, inst, answer}
-use Rattle.dis_codegen.specs.Objects.{context, object_of}
+use Rattle.dis_tables.specs.Code.{Context, place, size, slot, slot_offset, inst, answer}
+use Rattle.dis_tables.specs.Objects.{context, object_of}
 use Rattle.dis_codegen.specs.Stands.{Known, AnswersTo, answered, after_answer, Answers, StackStands, Running, begins, returns, WorldStands}
 use Rattle.dis_codegen.specs.Paces as paces
 use Rattle.dis_codegen.proofs.Memory.{at_word, stored_at, word_plain}

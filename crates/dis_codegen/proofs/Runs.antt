@@ -28,8 +28,8 @@ use Rattle.dis_meaning.specs.Process.{Frame, Process, with_words, with_frames}
 use Rattle.dis_meaning.specs.Places.{Own, store}
 use Rattle.dis_meaning.specs.Step as dis_step
 use Rattle.dis_meaning.specs.Step.{word_of, with_frame_made}
-use Rattle.dis_codegen.specs.Code.{size, sizes, slot_offset, Context, place}
-use Rattle.dis_codegen.specs.Objects.{context, object_of}
+use Rattle.dis_tables.specs.Code.{size, sizes, slot_offset, Context, place}
+use Rattle.dis_tables.specs.Objects.{context, object_of}
 use Rattle.dis_codegen.specs.Stands.{Known, Grows, IsPlain, HasSlots, StackStands, Running, Ready, WorldStands, sides}
 use Rattle.dis_codegen.specs.Paces as paces
 use Rattle.dis_codegen.proofs.Memory.{at_word, stored_at, word_plain, set_same, set_other, set_length}

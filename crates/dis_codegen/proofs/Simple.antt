@@ -27,8 +27,8 @@ use Rattle.dis_meaning.specs.Process.{Frame, Process, with_words, with_frames}
 use Rattle.dis_meaning.specs.Places.{Own, source_number, source_plain, middle_number}
 use Rattle.dis_meaning.specs.Step as dis_step
 use Rattle.dis_meaning.specs.Step.{word_of, target}
-use Rattle.dis_codegen.specs.Code.{operation_size, size, slot, slot_offset, fits_source, number_source, Context, place, to_place, inst, inst_code}
-use Rattle.dis_codegen.specs.Objects.{context, module_data, object_of}
+use Rattle.dis_tables.specs.Code.{operation_size, size, slot, slot_offset, fits_source, number_source, Context, place, to_place, inst, inst_code}
+use Rattle.dis_tables.specs.Objects.{context, module_data, object_of}
 use Rattle.dis_codegen.specs.Stands.{Known, Running, begins, WorldStands, sides}
 use Rattle.dis_codegen.specs.Paces as paces
 use Rattle.dis_codegen.proofs.Memory.{plain_is, word_plain}

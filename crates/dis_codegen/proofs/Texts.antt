@@ -12,8 +12,8 @@ use Rattle.core_code.specs.Code.{Inst, Function, Module}
 use Rattle.dis_meaning.specs.Words.{Word, Plain, Refer, Found, ◌>>=◌, blanks, blank}
 use Rattle.dis_meaning.specs.Formats.{in_front, verb, formatted}
 use Rattle.dis_meaning.specs.Step.{word_of, numbers}
-use Rattle.dis_codegen.specs.Code.{doubled, format_text}
-use Rattle.dis_codegen.specs.Objects.{linkage, print_desc, most_arguments, most_of_all, arguments_of}
+use Rattle.dis_tables.specs.Code.{doubled, format_text}
+use Rattle.dis_tables.specs.Objects.{linkage, print_desc, most_arguments, most_of_all, arguments_of}
 use Rattle.dis_codegen.proofs.Simple.{number_of, number_word_of}
 use Rattle.dis_codegen.proofs.Frames.{rows, ArePlain, unmarked, past_end}
 

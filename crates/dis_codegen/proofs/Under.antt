@@ -13,8 +13,8 @@ use Rattle.core_code.specs.Step.{fetch}
 use Rattle.core_code.specs.Proper.{IsProper, is_print}
 use Rattle.dis_meaning.specs.Words.{Word}
 use Rattle.dis_meaning.specs.Process.{Process}
-use Rattle.dis_codegen.specs.Code.{moved_size, size, sizes, start, place}
-use Rattle.dis_codegen.specs.Objects.{size_before, entry_size, entry_length, context}
+use Rattle.dis_tables.specs.Code.{moved_size, size, sizes, start, place}
+use Rattle.dis_tables.specs.Objects.{size_before, entry_size, entry_length, context}
 use Rattle.dis_codegen.specs.Stands.{Known, FrameStands, Entering, Ready, IsComparison, Answers, enters, loads, leaves, begins, compares, fails, result, framed, moved, addressed, formats, formatted, passed, prints, returns}
 use Rattle.dis_codegen.specs.Paces.{holding, all_insts, inst_at, print_rank}
 use Rattle.dis_codegen.proofs.Simple.{some_size}

@@ -14,8 +14,8 @@ use Rattle.core_code.specs.Machine as machine
 use Rattle.core_code.specs.Proper.{IsProper}
 use Rattle.dis_meaning.specs.Words.{Word}
 use Rattle.dis_meaning.specs.Process.{Frame, Process}
-use Rattle.dis_codegen.specs.Code.{operation_size, moved_size, size}
-use Rattle.dis_codegen.specs.Objects.{find, entry_size, entry_length}
+use Rattle.dis_tables.specs.Code.{operation_size, moved_size, size}
+use Rattle.dis_tables.specs.Objects.{find, entry_size, entry_length}
 use Rattle.dis_codegen.proofs.Runs.{as_known, up}
 use Rattle.dis_codegen.specs.Stands.{Known, Grows, Made, Entering, Running, Ready, enters, loads, leaves, begins, compares, fails, result, framed, moved, addressed, formats, formatted, passed, prints, returns, Asking, code_and_object, sides}
 use Rattle.dis_codegen.specs.Paces.{all_sizes, within, far, place}

@@ -12,7 +12,7 @@ use Rattle.core_code.specs.Rules as core_rules
 use Rattle.dis_meaning.specs.World.{World}
 use Rattle.dis_meaning.specs.Process.{Process}
 use Rattle.dis_meaning.specs.Step.{step}
-use Rattle.dis_codegen.specs.Objects.{init_of, object_of, code_instructions, frame_desc}
+use Rattle.dis_tables.specs.Objects.{init_of, object_of, code_instructions, frame_desc}
 use Rattle.dis_codegen.specs.Start.{opening, first_process}
 use Rattle.dis_codegen.specs.Stands.{Known, Ready, WorldStands, sides}
 
@@ -43,4 +43,5 @@ IsFew m = length (object_of m).insts ≤ 4 * code_instructions m.functions
 pub record CanBeEntered (m : Module) : Type 0 where
   pub entry : (object_of m).entry_pc < length (object_of m).insts
   pub frame : (object_of m).entry_type < length (object_of m).types
-  pub frames : (n : ℕ) (f : Function) → slice_get m.functions n ≡ Some f → slice_get (object_of m).types (suc n) ≡ Some (frame_desc f)
+  pub frames : (n : ℕ) (f : Function) → slice_get m.functions n ≡ Some f
+      → slice_get (object_of m).types (suc n) ≡ Some (frame_desc f)

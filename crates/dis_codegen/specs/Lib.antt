@@ -1,10 +1,5 @@
-pub mod Words
-pub mod Code
-pub mod Objects
-pub mod Sites
 pub mod Site
 pub mod Start
 pub mod Stands
 pub mod Paces
 pub mod Laws
-pub mod Spelled

@@ -3,8 +3,8 @@ use Rattle.std.specs.Prelude.{ℕ, ◌+◌, ◌-◌, Option, Some, None, List, [
 use Rattle.core_code.specs.Code as core
 use Rattle.core_code.specs.Code.{Inst, Function, Module}
 use Rattle.dis_meaning.specs.Process.{Process}
-use Rattle.dis_codegen.specs.Code.{size}
-use Rattle.dis_codegen.specs.Objects.{entry_size}
+use Rattle.dis_tables.specs.Code.{size}
+use Rattle.dis_tables.specs.Objects.{entry_size}
 
 -- How many instructions each instruction becomes, over all functions.
 abbrev pub all_sizes : List Function → List ℕ

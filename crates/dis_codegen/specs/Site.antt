@@ -3,9 +3,9 @@ use Rattle.std.specs.Prelude.{ℕ, ◌≡◌, List, map, Some, slice_get}
 use Rattle.core_code.specs.Code.{Inst, Function}
 use Rattle.core_code.specs.View.{view_function}
 use Rattle.dis_codegen.specs.declared.site.Site.{Site}
-use Rattle.dis_codegen.specs.Code.{Context}
-use Rattle.dis_codegen.specs.Objects.{context}
-use Rattle.dis_codegen.specs.Sites.{Stands}
+use Rattle.dis_tables.specs.Code.{Context}
+use Rattle.dis_tables.specs.Objects.{context}
+use Rattle.dis_tables.specs.Sites.{Stands}
 
 abbrev pub functions_of : Site → List Function
 functions_of s = map view_function s.functions.now

@@ -1,6 +1,7 @@
 -- When a process of Dis code stands for one of three-address code: each frame is at the place of the other's instruction, or so many
 -- instructions further, and its words have the slots' values.
-use Rattle.std.specs.Prelude.{ℕ, suc, ℤ, pos, ◌+◌, ◌<◌, ◌≤◌, ◌≡◌, Bool, true, false, List, [], ◌∷◌, ◌++◌, length, map, replicate, Option, Some, None, slice_get, slice_index_or}
+use Rattle.std.specs.Prelude.{ℕ, suc, ℤ, pos, ◌+◌, ◌<◌, ◌≤◌, ◌≡◌, Bool, true, false, Option, Some, None}
+use Rattle.std.specs.Prelude.{List, [], ◌∷◌, ◌++◌, length, map, replicate, slice_get, slice_index_or}
 use Rattle.styx_msg.specs.declared.message.Rmsg.{Rmsg}
 use Rattle.process_model.specs.Follows.{Sides}
 use Rattle.process_model.specs.Plain.{GrowingSides, opened}
@@ -23,8 +24,8 @@ use Rattle.dis_meaning.specs.World.{Content, Instance, Sys, World}
 use Rattle.dis_meaning.specs.Process.{Frame, Process}
 use Rattle.dis_meaning.specs.Step.{word_of, names, path_of_sys}
 use Rattle.dis_meaning.specs.Rules as dis_rules
-use Rattle.dis_codegen.specs.Code.{slot_offset, moved_size, format_text, place}
-use Rattle.dis_codegen.specs.Objects.{context, module_data, most_of_all, sys_imports, init_of, object_of}
+use Rattle.dis_tables.specs.Code.{slot_offset, moved_size, format_text, place}
+use Rattle.dis_tables.specs.Objects.{context, module_data, most_of_all, sys_imports, init_of, object_of}
 use Rattle.dis_codegen.specs.Start.{data_words, data_texts, opening_blocks}
 
 -- Neither a reference nor anything else than a number or an address.
@@ -110,7 +111,8 @@ module _ (m : Module) where
   abbrev pub StackStands : Function → Frame → List machine.Frame → List Frame → Type 0
   StackStands f r [] [] = AnswersTo r.words (InFrame r.serial) (slot_offset f.slots)
   StackStands f r (g ∷ gs) (r' ∷ rs) =
-      (w : FrameWaits g r') × AnswersTo r.words (InFrame r'.serial) (slot_offset g.into) × (r'.serial < r.serial) × StackStands w.stands.function r' gs rs
+      (w : FrameWaits g r') × AnswersTo r.words (InFrame r'.serial) (slot_offset g.into) × (r'.serial < r.serial)
+      × StackStands w.stands.function r' gs rs
   StackStands f r [] (r' ∷ rs) = ⊥
   StackStands f r (g ∷ gs) [] = ⊥
 
@@ -178,30 +180,49 @@ module _ (m : Module) where
     -- in the entry: before Sys is loaded, and behind that
     enters : {w : Word} → Entering k p r 0 w → Ready k p r
     loads : {w : Word} → k.loaded ≡ true → Entering k p r 1 w → Ready k p r
-    leaves : {w : Word} → k.loaded ≡ true → (h : Entering k p r 2 w) → AnswersTo r.frame.words (InFrame r.frame.serial) (slot_offset h.function.slots) → Ready k p r
+    leaves : {w : Word} → k.loaded ≡ true → (h : Entering k p r 2 w)
+        → AnswersTo r.frame.words (InFrame r.frame.serial) (slot_offset h.function.slots) → Ready k p r
     -- at the begin of an instruction
     begins : {w : Word} → (h : Running k p r 0 w []) → is_print h.frame.inst ≡ false → Ready k p r
     -- in a comparison: the 1 is there; the test failed; the result is there
-    compares : {o : Operator} {into left right : ℕ} → (h : Running k p r 1 (Plain (pos 1)) []) → h.frame.inst ≡ core.Operate o into left right → IsComparison o → Ready k p r
-    fails : {o : Operator} {into left right : ℕ} → (h : Running k p r 2 (Plain (pos 1)) []) → h.frame.inst ≡ core.Operate o into left right → IsComparison o →
-        compared o (p.frame.slots left) (p.frame.slots right) ≡ Plain (pos 0) → Ready k p r
-    result : {o : Operator} {into left right : ℕ} → (h : Running k p r 3 (compared o (p.frame.slots left) (p.frame.slots right)) []) → h.frame.inst ≡ core.Operate o into left right → IsComparison o → Ready k p r
+    compares : {o : Operator} {into left right : ℕ} → (h : Running k p r 1 (Plain (pos 1)) [])
+        → h.frame.inst ≡ core.Operate o into left right → IsComparison o → Ready k p r
+    fails : {o : Operator} {into left right : ℕ} → (h : Running k p r 2 (Plain (pos 1)) [])
+        → h.frame.inst ≡ core.Operate o into left right → IsComparison o
+        → compared o (p.frame.slots left) (p.frame.slots right) ≡ Plain (pos 0) → Ready k p r
+    result : {o : Operator} {into left right : ℕ}
+        → (h : Running k p r 3 (compared o (p.frame.slots left) (p.frame.slots right)) [])
+        → h.frame.inst ≡ core.Operate o into left right → IsComparison o → Ready k p r
     -- in a call: the frame is made; it has the arguments; it has the place for the answer
-    framed : {f args n into : ℕ} {callee : Function} {made : Frame} → (h : Running k p r 1 (made_at made) (made ∷ [])) → h.frame.inst ≡ core.Call f args (suc n) into →
-        slice_get m.functions f ≡ Some callee → Made k r made → ForCall callee [] made → Ready k p r
-    moved : {f args n into : ℕ} {callee : Function} {made : Frame} → (h : Running k p r (suc (moved_size n)) (made_at made) (made ∷ [])) → h.frame.inst ≡ core.Call f args n into →
-        slice_get m.functions f ≡ Some callee → Made k r made → ForCall callee (taken p.frame.slots args n) made → Ready k p r
-    addressed : {f args n into : ℕ} {callee : Function} {made : Frame} → (h : Running k p r (suc (suc (moved_size n))) (made_at made) (made ∷ [])) → h.frame.inst ≡ core.Call f args n into →
-        slice_get m.functions f ≡ Some callee → Made k r made → ForCall callee (taken p.frame.slots args n) made → AnswersTo made.words (InFrame r.frame.serial) (slot_offset into) → Ready k p r
+    framed : {f args n into : ℕ} {callee : Function} {made : Frame} → (h : Running k p r 1 (made_at made) (made ∷ []))
+        → h.frame.inst ≡ core.Call f args (suc n) into → slice_get m.functions f ≡ Some callee
+        → Made k r made → ForCall callee [] made → Ready k p r
+    moved : {f args n into : ℕ} {callee : Function} {made : Frame}
+        → (h : Running k p r (suc (moved_size n)) (made_at made) (made ∷ []))
+        → h.frame.inst ≡ core.Call f args n into → slice_get m.functions f ≡ Some callee
+        → Made k r made → ForCall callee (taken p.frame.slots args n) made → Ready k p r
+    addressed : {f args n into : ℕ} {callee : Function} {made : Frame}
+        → (h : Running k p r (suc (suc (moved_size n))) (made_at made) (made ∷ []))
+        → h.frame.inst ≡ core.Call f args n into → slice_get m.functions f ≡ Some callee
+        → Made k r made → ForCall callee (taken p.frame.slots args n) made
+        → AnswersTo made.words (InFrame r.frame.serial) (slot_offset into) → Ready k p r
     -- in a format: the frame is made
-    formats : {pieces : List Piece} {made : Frame} → (h : Running k p r 1 (made_at made) (made ∷ [])) → h.frame.inst ≡ core.Format pieces → Made k r made → ForFormat made → Ready k p r
+    formats : {pieces : List Piece} {made : Frame} → (h : Running k p r 1 (made_at made) (made ∷ []))
+        → h.frame.inst ≡ core.Format pieces → Made k r made → ForFormat made → Ready k p r
     -- in a print: the format is there; the arguments are; the place for the answer is
-    formatted : {args n into : ℕ} {made : Frame} → (h : Running k p r 0 (made_at made) (made ∷ [])) → h.frame.inst ≡ core.Print args (suc n) into → holes p.frame.format ≤ suc n → Made k r made → ForPrint p.frame.format [] made → Ready k p r
-    passed : {args n into : ℕ} {made : Frame} → (h : Running k p r (moved_size n) (made_at made) (made ∷ [])) → h.frame.inst ≡ core.Print args n into → holes p.frame.format ≤ n → Made k r made → ForPrint p.frame.format (taken p.frame.slots args n) made → Ready k p r
-    prints : {args n into : ℕ} {made : Frame} → (h : Running k p r (suc (moved_size n)) (made_at made) (made ∷ [])) → h.frame.inst ≡ core.Print args n into → holes p.frame.format ≤ n → Made k r made →
-        (its : ForPrint p.frame.format (taken p.frame.slots args n) made) → its.linkage ≡ Address (InFrame r.frame.serial) (slot_offset into) → Ready k p r
+    formatted : {args n into : ℕ} {made : Frame} → (h : Running k p r 0 (made_at made) (made ∷ []))
+        → h.frame.inst ≡ core.Print args (suc n) into → holes p.frame.format ≤ suc n
+        → Made k r made → ForPrint p.frame.format [] made → Ready k p r
+    passed : {args n into : ℕ} {made : Frame} → (h : Running k p r (moved_size n) (made_at made) (made ∷ []))
+        → h.frame.inst ≡ core.Print args n into → holes p.frame.format ≤ n
+        → Made k r made → ForPrint p.frame.format (taken p.frame.slots args n) made → Ready k p r
+    prints : {args n into : ℕ} {made : Frame} → (h : Running k p r (suc (moved_size n)) (made_at made) (made ∷ []))
+        → h.frame.inst ≡ core.Print args n into → holes p.frame.format ≤ n
+        → Made k r made → (its : ForPrint p.frame.format (taken p.frame.slots args n) made)
+        → its.linkage ≡ Address (InFrame r.frame.serial) (slot_offset into) → Ready k p r
     -- in a return: the frame below has the answer
-    returns : {w : Word} (v : Value) → (h : Running k (after_answer v p) r 1 w []) → Answers h.frame.inst p.frame.slots v → Ready k p r
+    returns : {w : Word} (v : Value) → (h : Running k (after_answer v p) r 1 w [])
+        → Answers h.frame.inst p.frame.slots v → Ready k p r
 
   -- A process that waits for a reply to its print.
   pub record Asking (k : Known) (p : machine.Process) (r : Process) : Type 0 where
@@ -222,7 +243,8 @@ module _ (m : Module) where
     pub frames : x.frames ≡ k.frames
     pub sys : Option ℕ
     pub more : List Content
-    pub blocks : x.blocks ≡ Instance 0 (Refer (Some 1) ∷ Refer sys ∷ data_words 2 (module_data m.functions)) ∷ memory.Text path_of_sys ∷ (data_texts (module_data m.functions) ++ more)
+    pub blocks : x.blocks ≡ Instance 0 (Refer (Some 1) ∷ Refer sys ∷ data_words 2 (module_data m.functions))
+        ∷ memory.Text path_of_sys ∷ (data_texts (module_data m.functions) ++ more)
     pub loaded : k.loaded ≡ true → (n : ℕ) × (sys ≡ Some n) × (slice_get x.blocks n ≡ Some (Sys (names sys_imports)))
 
   -- Three-address code and its object. No process waits for another yet.

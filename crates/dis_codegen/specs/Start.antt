@@ -7,8 +7,8 @@ use Rattle.dis_meaning.specs.Words.{Word, Plain, Refer, blank}
 use Rattle.dis_meaning.specs.World as memory
 use Rattle.dis_meaning.specs.World.{Content, Instance, World}
 use Rattle.dis_meaning.specs.Process.{Process}
-use Rattle.dis_codegen.specs.Code.{Datum, Text, Number}
-use Rattle.dis_codegen.specs.Objects.{module_data, object_of}
+use Rattle.dis_tables.specs.Code.{Datum, Text, Number}
+use Rattle.dis_tables.specs.Objects.{module_data, object_of}
 
 -- The word of each datum; a text is a block, and the next of these has this serial.
 abbrev pub data_words : (serial : ℕ) → List Datum → List Word

@@ -1,19 +1,19 @@
 ghost use Rattle.std.specs.Prelude.{◌≡◌, ◌+◌, ◌<◌, ◌≤◌, ◌++◌, length, map, IfOk, OnOk};
 ghost use Rattle.std.specs.Option.{ForSome};
 ghost use Rattle.core_code.specs.View.{view_function};
-ghost use Rattle.dis_codegen.specs.Code as dis;
-ghost use Rattle.dis_codegen.specs.Objects.{functions_code};
-ghost use Rattle.dis_codegen.specs.Objects as objects;
-ghost use Rattle.dis_codegen.specs.Sites.{IsReady, SmallFrame};
+ghost use Rattle.dis_tables.specs.Code as dis;
+ghost use Rattle.dis_tables.specs.Objects.{functions_code};
+ghost use Rattle.dis_tables.specs.Objects as objects;
+ghost use Rattle.dis_tables.specs.Sites.{IsReady, SmallFrame};
 ghost use Rattle.dis_codegen.specs.Site.{context_of, function_of, IsSite};
 
 use crate::insts::{emit_inst, put};
-use crate::items::data_count;
 use crate::operands::{ANSWER_PLACE, SYS, slot};
 use crate::site::Site;
 use crate::sizes::places_of;
 use core_code::CoreFn;
 use dis_isa::{Inst, Middle, Op, Operand};
+use dis_tables::data_count;
 use std::alloc::{AllocError, Global};
 
 // Where the module's data hold the path of Sys.
@@ -24,7 +24,8 @@ fn emit_function(insts: &mut Vec<Inst>, site: &Site<'_>, datum: u32) -> Result<u
     requires stands { IsSite site.now }
     requires data { datum + length (dis.all_data (function_of site.now).code) ≤ 1048576 }
     ensures next { IfOk result (λ next. next ≡ datum + length (dis.all_data (function_of site.now).code)) }
-    ensures added { OnOk result (insts.new.items ≡ insts.old.items ++ dis.insts_code (context_of site.now) 0 datum (function_of site.now).code) }
+    ensures added { OnOk result
+        (insts.new.items ≡ insts.old.items ++ dis.insts_code (context_of site.now) 0 datum (function_of site.now).code) }
 {
     let mut next = datum;
     for (pc, inst) in site.function.code.iter().enumerate() {
@@ -45,7 +46,8 @@ pub(crate) fn emit_functions(
     entries: &[u32],
 ) -> Result<(), AllocError>
     requires { IsReady (map view_function functions.now) entries.now }
-    ensures { OnOk result (insts.new.items ≡ insts.old.items ++ functions_code (map view_function functions.now) 0 0 (map view_function functions.now)) }
+    ensures { OnOk result
+        (insts.new.items ≡ insts.old.items ++ functions_code (map view_function functions.now) 0 0 (map view_function functions.now)) }
 {
     let mut datum = 0;
     for (number, function) in functions.iter().enumerate() {

@@ -2,9 +2,9 @@ ghost use Rattle.std.specs.Prelude.{◌≡◌, ◌<◌, ◌≤◌, [], ◌∷◌
 ghost use Rattle.limbo_small.specs.View.{view_op};
 ghost use Rattle.core_code.specs.Code as core;
 ghost use Rattle.core_code.specs.View.{view_inst};
-ghost use Rattle.dis_codegen.specs.Code as dis;
+ghost use Rattle.dis_tables.specs.Code as dis;
 ghost use Rattle.dis_codegen.specs.Site.{context_of, function_of, IsSite, HasInst};
-ghost use Rattle.dis_codegen.specs.Words.{frame_words};
+ghost use Rattle.dis_tables.specs.Words.{frame_words};
 
 use crate::operands::{
     ANSWER_PLACE, SYS, datum_offset, in_made, make, number_middle, number_source, slot, slot_offset,
@@ -168,7 +168,8 @@ fn emit_operate(
 ) -> Result<(), AllocError>
     requires stands { IsSite site.now }
     requires there { HasInst site.now pc (core.Operate (view_op op) into left right) }
-    ensures { OnOk result (insts.new.items ≡ insts.old.items ++ dis.inst_code (context_of site.now) pc 0 (core.Operate (view_op op) into left right)) }
+    ensures { OnOk result
+        (insts.new.items ≡ insts.old.items ++ dis.inst_code (context_of site.now) pc 0 (core.Operate (view_op op) into left right)) }
 {
     let here = place(site, pc);
     let slots = site.function.slots;
@@ -236,7 +237,8 @@ fn emit_call(
     requires stands { IsSite site.now }
     requires there { HasInst site.now pc (core.Call function args count into) }
     requires datum { datum ≤ 1048576 }
-    ensures { OnOk result (insts.new.items ≡ insts.old.items ++ dis.inst_code (context_of site.now) pc datum (core.Call function args count into)) }
+    ensures { OnOk result
+        (insts.new.items ≡ insts.old.items ++ dis.inst_code (context_of site.now) pc datum (core.Call function args count into)) }
 {
     let slots = site.function.slots;
     let made = slot(slots);

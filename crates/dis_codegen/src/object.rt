@@ -2,20 +2,18 @@ ghost use Rattle.std.specs.Prelude.{◌≡◌, ◌+◌, ◌<◌, ◌≤◌, [], 
 ghost use Rattle.std.specs.Option.{ForSome};
 ghost use Rattle.core_code.specs.Proper.{IsProper};
 ghost use Rattle.core_code.specs.View.{view_function, view_module};
-ghost use Rattle.dis_codegen.specs.Objects as objects;
-ghost use Rattle.dis_codegen.specs.Objects.{object_of, all_code, code_instructions, most_instructions};
-ghost use Rattle.dis_codegen.specs.Sites.{AllSmall, IsReady};
-ghost use Rattle.dis_codegen.specs.Spelled.{AreSpelled};
+ghost use Rattle.dis_tables.specs.Objects as objects;
+ghost use Rattle.dis_tables.specs.Objects.{object_of, all_code, code_instructions, most_instructions};
+ghost use Rattle.dis_tables.specs.Sites.{AllSmall, IsReady};
+ghost use Rattle.dis_tables.specs.Spelled.{AreSpelled};
 
 use crate::fault::GenFault;
 use crate::functions::{emit_entry, emit_functions};
-use crate::items::items_of;
-use crate::links::{entry_length, find_init, imports_of_sys, links_of};
 use crate::sizes::entries_of;
-use crate::types::types_of;
 use core_code::{CoreFn, CoreModule};
 use dis_file::{Import, Object};
 use dis_isa::Inst;
+use dis_tables::{entry_length, find_init, imports_of_sys, items_of, links_of, types_of};
 use inf_text::Seq;
 use std::alloc::{AllocError, Global};
 
@@ -31,7 +29,8 @@ fn code_of(
 ) -> Result<Seq<Inst>, AllocError>
     requires ready { IsReady (map view_function functions.now) entries.now }
     requires within { ForSome init (λ n. n < length functions.now) }
-    ensures { IfOk result (λ insts. insts ≡ objects.entry (map view_function functions.now) init ++ objects.functions_code (map view_function functions.now) 0 0 (map view_function functions.now)) }
+    ensures { let fs = map view_function functions.now in
+        IfOk result (λ insts. insts ≡ objects.entry fs init ++ objects.functions_code fs 0 0 fs) }
 {
     let mut insts = Vec::new(alloc);
     emit_entry(&mut insts, functions, init, entries)?;

@@ -1,15 +1,9 @@
 ghost use Rattle.std.specs.Prelude.{◌≡◌, ◌+◌, ◌*◌, ◌<◌, ◌≤◌, pos};
-ghost use Rattle.dis_codegen.specs.Code as dis;
-ghost use Rattle.dis_codegen.specs.Words.{frame_words};
+ghost use Rattle.dis_tables.specs.Code as dis;
+ghost use Rattle.dis_tables.specs.Words.{frame_words};
 
 use dis_isa::{Inst, Middle, Op, Operand};
-
-// The least and greatest immediates of a source, and the greatest of a middle.
-const LEAST_SOURCE: i64 = -536_870_912;
-
-const GREATEST_SOURCE: i64 = 536_870_911;
-
-const GREATEST_MIDDLE: u64 = 32_767;
+use dis_tables::{fits_middle, fits_source};
 
 /// Where the module's data hold the module Sys.
 pub(crate) const SYS: i32 = 4;
@@ -62,20 +56,6 @@ pub(crate) fn datum_offset(number: u32) -> i32
     ensures { result ≡ dis.datum_offset number }
 {
     (8 + 4 * number) as i32
-}
-
-/// Whether a number is an immediate of a source, which has 30 bits.
-pub(crate) fn fits_source(number: i64) -> bool
-    ensures { result ≡ dis.fits_source number }
-{
-    LEAST_SOURCE <= number && number <= GREATEST_SOURCE
-}
-
-/// Whether a number is an immediate of a middle, which has 16 bits.
-pub(crate) fn fits_middle(number: u64) -> bool
-    ensures { result ≡ dis.fits_middle number }
-{
-    number <= GREATEST_MIDDLE
 }
 
 /// A number as a source: an immediate, or the word of a datum.

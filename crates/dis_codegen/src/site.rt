@@ -1,5 +1,5 @@
 ghost use Rattle.std.specs.Prelude.{◌≡◌, ◌<◌, ◌≤◌, length, pos};
-ghost use Rattle.dis_codegen.specs.Code as dis;
+ghost use Rattle.dis_tables.specs.Code as dis;
 ghost use Rattle.dis_codegen.specs.Site.{functions_of, function_of, context_of, IsSite};
 
 use core_code::CoreFn;

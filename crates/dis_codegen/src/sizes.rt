@@ -1,9 +1,9 @@
 ghost use Rattle.std.specs.Prelude.{◌≡◌, ◌+◌, ◌*◌, ◌<◌, ◌≤◌, length, map, IfOk, OnOk, MatchOption};
 ghost use Rattle.limbo_small.specs.View.{view_op};
 ghost use Rattle.core_code.specs.View.{view_inst, view_function};
-ghost use Rattle.dis_codegen.specs.Code as dis;
-ghost use Rattle.dis_codegen.specs.Objects.{most_instructions};
-ghost use Rattle.dis_codegen.specs.Sites.{functions_size, entries_from, places_from};
+ghost use Rattle.dis_tables.specs.Code as dis;
+ghost use Rattle.dis_tables.specs.Objects.{most_instructions};
+ghost use Rattle.dis_tables.specs.Sites.{functions_size, entries_from, places_from};
 
 use crate::fault::GenFault;
 use core_code::{CoreFn, CoreInst};
@@ -58,7 +58,8 @@ fn size_of(inst: &CoreInst) -> u32
 // Where the code of these instructions ends, which begins at a place, if the code may be so long.
 fn end_of(insts: &[CoreInst], begin: u32) -> Option<u32>
     requires { begin ≤ most_instructions }
-    ensures { MatchOption result (most_instructions < begin + dis.sizes (map view_inst insts.now)) (λ end. (end ≡ begin + dis.sizes (map view_inst insts.now)) × (end ≤ most_instructions)) }
+    ensures { let behind = begin + dis.sizes (map view_inst insts.now) in
+        MatchOption result (most_instructions < behind) (λ end. (end ≡ behind) × (end ≤ most_instructions)) }
 {
     let mut end = begin;
     for inst in insts {

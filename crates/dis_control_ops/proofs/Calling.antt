@@ -11,14 +11,15 @@ use Rattle.dis_meaning.specs.Places.{Spot, Memory, words_at, with_words_at, plac
 use Rattle.dis_meaning.specs.Given.{AreGiven, HasGiven, StaysGiven}
 use Rattle.dis_meaning.proofs.Given.{Finds, finds_on, on_any, words_given}
 use Rattle.dis_meaning.specs.Step.{without}
-use Rattle.dis_control_ops.specs.declared.frame.Frame as code_frame
-use Rattle.dis_control_ops.specs.declared.process.Proc as code_proc
-use Rattle.dis_control_ops.specs.Frames.{view_frame, view_frames, one, count, occurs}
+use Rattle.dis_data_ops.specs.declared.frame.Frame as code_frame
+use Rattle.dis_data_ops.specs.declared.process.Proc as code_proc
+use Rattle.dis_data_ops.specs.Frames.{view_frame, view_frames, one, count, occurs}
 use Rattle.dis_control_ops.specs.Made.{entered}
-use Rattle.dis_control_ops.specs.Storing.{put_all, written}
-use Rattle.dis_control_ops.specs.View.{view_process}
-use Rattle.dis_control_ops.proofs.Serials.{which, one_here, one_elsewhere, count_append, count_reverse, count_removed, without_one, map_remove}
-use Rattle.dis_control_ops.proofs.Written.{once, seen}
+use Rattle.dis_data_ops.specs.Storing.{put_all, written}
+use Rattle.dis_data_ops.specs.View.{view_process}
+use Rattle.dis_data_ops.proofs.Serials.{which, one_here, one_elsewhere, count_append, count_reverse}
+use Rattle.dis_control_ops.proofs.Made.{count_removed, without_one, map_remove}
+use Rattle.dis_data_ops.proofs.Written.{once, seen}
 
 -- one frame more at the end
 pub count_pushed : (n : ℕ) (fs : List code_frame.Frame) (f : code_frame.Frame) → count n (view_frames (fs ++ f ∷ [])) ≡ count n (view_frames fs) + one n (view_frame f)

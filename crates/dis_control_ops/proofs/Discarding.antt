@@ -12,18 +12,18 @@ use Rattle.dis_meaning.specs.Step.{without, next, printed, answer_spot, place_of
 use Rattle.sys_print.specs.declared.prints.Printing as code_printing
 use Rattle.sys_print.specs.declared.prints.Printing.TheVariants as printing
 use Rattle.sys_print.specs.Printing.{view_printing}
-use Rattle.dis_control_ops.specs.declared.word.Halt.{Halt}
-use Rattle.dis_control_ops.specs.declared.word.Halt.TheVariants as halt
-use Rattle.dis_control_ops.specs.declared.frame.Frame as code_frame
-use Rattle.dis_control_ops.specs.declared.process.Proc as code_proc
-use Rattle.dis_control_ops.specs.declared.word.Word as code_word
-use Rattle.dis_control_ops.specs.Words.{view_words, Halts}
-use Rattle.dis_control_ops.specs.Frames.{view_frame, view_frames, one, count}
-use Rattle.dis_control_ops.specs.View.{view_process}
+use Rattle.dis_data_ops.specs.declared.word.Halt.{Halt}
+use Rattle.dis_data_ops.specs.declared.word.Halt.TheVariants as halt
+use Rattle.dis_data_ops.specs.declared.frame.Frame as code_frame
+use Rattle.dis_data_ops.specs.declared.process.Proc as code_proc
+use Rattle.dis_data_ops.specs.declared.word.Word as code_word
+use Rattle.dis_data_ops.specs.Words.{view_words, Halts}
+use Rattle.dis_data_ops.specs.Frames.{view_frame, view_frames, one, count}
+use Rattle.dis_data_ops.specs.View.{view_process}
 use Rattle.dis_control_ops.specs.Made.{discarded, is_frame}
 use Rattle.dis_control_ops.specs.Plans.{planned, carried_out, IsPrint}
-use Rattle.dis_control_ops.proofs.Serials.{which, count_reverse, count_at, words_past, no_words}
-use Rattle.dis_control_ops.proofs.Written.{once, seen}
+use Rattle.dis_data_ops.proofs.Serials.{which, count_reverse, count_at, words_past, no_words}
+use Rattle.dis_data_ops.proofs.Written.{once, seen}
 
 -- ---- frames without those of a serial
 

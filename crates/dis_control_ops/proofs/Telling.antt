@@ -9,8 +9,8 @@ use Rattle.dis_meaning.specs.Words.{Access}
 use Rattle.dis_meaning.specs.World.{World}
 use Rattle.dis_meaning.specs.Process.{Process, Does, or_fault}
 use Rattle.dis_meaning.specs.Step.{obey}
-use Rattle.dis_control_ops.specs.declared.word.Halt.{Halt}
-use Rattle.dis_control_ops.specs.declared.word.Halt.TheVariants as halt
+use Rattle.dis_data_ops.specs.declared.word.Halt.{Halt}
+use Rattle.dis_data_ops.specs.declared.word.Halt.TheVariants as halt
 use Rattle.dis_control_ops.specs.declared.outcome.Does as code_does
 use Rattle.dis_control_ops.specs.declared.outcome.Does.TheVariants as does
 use Rattle.dis_control_ops.specs.declared.outcome.Stepped.{Stepped}
@@ -18,7 +18,7 @@ use Rattle.dis_control_ops.specs.declared.outcome.Stepped.TheVariants as stepped
 use Rattle.dis_control_ops.specs.declared.outcome.Heard.{Heard}
 use Rattle.dis_control_ops.specs.declared.outcome.Heard.TheVariants as heard
 use Rattle.dis_meaning.specs.Given.{HasGiven, IsGivenAfter}
-use Rattle.dis_control_ops.specs.Words.{Gives, number_of}
+use Rattle.dis_data_ops.specs.Words.{Gives, number_of}
 use Rattle.dis_control_ops.specs.Outcomes.{effect_of, went_of, stepped_of, Steps, Hears, Stays, stays_after, stays_after_reply, Kept}
 
 pub steps_told : (r : Result code_does.Does Halt) (x : World) (p : Process) (y : World) (q : Process) (a : Access Does) →

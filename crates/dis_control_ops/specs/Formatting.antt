@@ -2,9 +2,9 @@
 use Rattle.std.specs.Prelude.{◌≡◌, ℕ, ℤ, List, Option, None, Result, Ok, Err}
 use Rattle.std.specs.Borrow.{Bor}
 use Rattle.dis_meaning.specs.Formats.{in_front, verb}
-use Rattle.dis_control_ops.specs.declared.word.Halt.{Halt}
-use Rattle.dis_control_ops.specs.declared.word.Halt.TheVariants as halt
-use Rattle.dis_control_ops.specs.declared.word.Fault.TheVariants as fault
+use Rattle.dis_data_ops.specs.declared.word.Halt.{Halt}
+use Rattle.dis_data_ops.specs.declared.word.Halt.TheVariants as halt
+use Rattle.dis_data_ops.specs.declared.word.Fault.TheVariants as fault
 
 -- A verb and what follows, behind a text: the text with what the verb stands for, and what follows with the arguments that are left.
 abbrev pub AddsVerb : Result (Bor (List ℤ)) Halt → (old new : List ℕ) → (c : ℕ) → List ℤ → Type 0

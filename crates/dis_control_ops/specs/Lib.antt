@@ -1,8 +1,3 @@
-pub mod Words
-pub mod Frames
-pub mod View
-pub mod Spots
-pub mod Storing
 pub mod Made
 pub mod Plans
 pub mod Loading

@@ -7,7 +7,7 @@ use Rattle.dis_meaning.specs.World.{Sys, World, with_block}
 use Rattle.dis_meaning.specs.Process.{Process, Does}
 use Rattle.dis_meaning.specs.Places.{Spot, store}
 use Rattle.dis_meaning.specs.Step.{names}
-use Rattle.dis_control_ops.specs.Storing.{goes_on}
+use Rattle.dis_data_ops.specs.Storing.{goes_on}
 
 -- The import table of this number.
 abbrev pub imports_at : Object → ℕ → Access (List Import)
@@ -19,4 +19,5 @@ sys_loaded x p s names = goes_on (store (with_block x (Sys names)) p s (Refer (S
 
 -- The same where the module is Sys; else a reference to none is stored.
 abbrev pub loaded_if : Bool → World → Process → Spot → List Import → Access Does
-loaded_if b x p s table = goes_on (if b then store (with_block x (Sys (names table))) p s (Refer (Some (length x.blocks))) else store x p s (Refer None))
+loaded_if b x p s table =
+    goes_on (if b then store (with_block x (Sys (names table))) p s (Refer (Some (length x.blocks))) else store x p s (Refer None))

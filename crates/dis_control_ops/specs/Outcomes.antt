@@ -10,16 +10,16 @@ use Rattle.dis_meaning.specs.Process.{Process, Does}
 use Rattle.sys_print.specs.declared.writing.Request.{Request}
 use Rattle.sys_print.specs.Printing.{view_request}
 use Rattle.sys_print.specs.Sent.{IsSent}
-use Rattle.dis_control_ops.specs.declared.word.Halt.{Halt}
-use Rattle.dis_control_ops.specs.declared.word.Halt.TheVariants as halt
-use Rattle.dis_control_ops.specs.declared.process.Asking.{Asking}
+use Rattle.dis_data_ops.specs.declared.word.Halt.{Halt}
+use Rattle.dis_data_ops.specs.declared.word.Halt.TheVariants as halt
+use Rattle.dis_data_ops.specs.declared.process.Asking.{Asking}
 use Rattle.dis_control_ops.specs.declared.outcome.Does as code_does
 use Rattle.dis_control_ops.specs.declared.outcome.Does.TheVariants as does
 use Rattle.dis_control_ops.specs.declared.outcome.Stepped.{Stepped}
 use Rattle.dis_control_ops.specs.declared.outcome.Stepped.TheVariants as stepped
 use Rattle.dis_control_ops.specs.declared.outcome.Heard.{Heard}
 use Rattle.dis_control_ops.specs.declared.outcome.Heard.TheVariants as heard
-use Rattle.dis_control_ops.specs.Words.{number_of}
+use Rattle.dis_data_ops.specs.Words.{number_of}
 
 -- What an instruction does that left this world and this process.
 abbrev pub effect_of : code_does.Does → World → Process → Does

@@ -10,7 +10,7 @@ use Rattle.sys_print.specs.declared.prints.Printing as code_printing
 use Rattle.sys_print.specs.declared.prints.Printing.TheVariants as printing
 use Rattle.sys_print.specs.Printing.{view_printing}
 use Rattle.dis_control_ops.specs.declared.printing.Plan as code_plan
-use Rattle.dis_control_ops.specs.Words.{view_place}
+use Rattle.dis_data_ops.specs.Words.{view_place}
 
 -- What it comes to, and where its answer goes.
 pub record Plan : Type 0 where

@@ -7,35 +7,21 @@ ghost use Rattle.dis_meaning.specs.Words as words;
 ghost use Rattle.dis_meaning.specs.World.{World};
 ghost use Rattle.dis_meaning.specs.Process.{Frame};
 ghost use Rattle.dis_meaning.specs.Step as meaning;
-ghost use Rattle.dis_control_ops.specs.Words.{number_of, view_word, Gives, GivesFault};
+ghost use Rattle.dis_data_ops.specs.Words.{number_of, view_word, Gives, GivesFault};
 ghost use Rattle.dis_control_ops.specs.Made.{Made, entered};
-ghost use Rattle.dis_control_ops.specs.View.{view_process, view_world};
+ghost use Rattle.dis_data_ops.specs.View.{view_process, view_world};
 ghost use Rattle.dis_control_ops.specs.Outcomes.{effect_of, ends, Stays, Kept, DoesSend, Sends};
 
-use crate::blocks::block;
-use crate::frame::blank;
-use crate::frames::{position, words_in};
 use crate::outcome::Does;
-use crate::process::Proc;
-use crate::spots::{given_number, source_number, source_word, spot_of};
-use crate::store::Store;
-use crate::storing::{advance, write};
-use crate::word::{Fault, Halt, Place, Word};
+use dis_data_ops::{
+    Fault, Halt, Place, Proc, Store, Word, advance, at_least_zero, blank, block, given_number,
+    position, source_number, source_word, spot_of, words_in, write,
+};
 use dis_file::Object;
 use dis_isa::{Inst, Operand};
 use inf_text::Text;
 use std::alloc::{AllocError, Global};
 use std::mem;
-
-/// A number that isn't below 0.
-pub(crate) fn at_least_zero(n: i32) -> Result<u32, Fault>
-    ensures { GivesFault (λ n. n) result (meaning.at_least_zero n) }
-{
-    match u32::try_from(n) {
-        Ok(n) => Ok(n),
-        Err(_) => Err(Fault::TypeCheck),
-    }
-}
 
 /// The number of an immediate: a type, or a place in the code.
 pub(crate) fn immediate(operand: Operand) -> Result<u32, Fault>
@@ -134,7 +120,8 @@ pub(crate) fn branch_less(
 
 /// `ret`: the frame goes, and the frame below goes on. The first function's return ends the process.
 pub(crate) fn give_back(proc: &mut Proc) -> Does
-    ensures gives { (x : World) → meaning.returns x (view_process proc.old) (view_process proc.old).below ≡ effect_of result x (view_process proc.new) }
+    ensures gives { (x : World)
+        → meaning.returns x (view_process proc.old) (view_process proc.old).below ≡ effect_of result x (view_process proc.new) }
     ensures kept { (x : World) → Stays (ends result) x (view_process proc.old) x (view_process proc.new) }
     ensures silent { DoesSend result proc.new.printing }
 {
@@ -195,7 +182,8 @@ fn enter(proc: &mut Proc, made: usize, pc: usize)
     requires made { made < vec_len proc.old.made }
     requires place { proc.old.frame.pc + 1 < 2 ^ 64 }
     requires room { vec_len proc.old.below < vec_capacity proc.old.below }
-    ensures { (f : Frame) → slice_get (view_process proc.old).made made ≡ Some f → view_process proc.new ≡ entered (view_process proc.old) f pc }
+    ensures { (f : Frame) → slice_get (view_process proc.old).made made ≡ Some f
+        → view_process proc.new ≡ entered (view_process proc.old) f pc }
 {
     let mut frame = proc.made.remove(made);
     frame.pc = pc;

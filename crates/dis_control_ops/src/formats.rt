@@ -3,10 +3,10 @@
 ghost use Rattle.std.specs.Prelude.{◌≡◌};
 ghost use Rattle.dis_meaning.specs.Words.{or_wrong, type_check};
 ghost use Rattle.dis_meaning.specs.Formats as meaning;
-ghost use Rattle.dis_control_ops.specs.Words.{view_words, Gives, GivesFault};
+ghost use Rattle.dis_data_ops.specs.Words.{view_words, Gives, GivesFault};
 ghost use Rattle.dis_control_ops.specs.Formatting.{AddsVerb};
 
-use crate::word::{Fault, Halt, Word};
+use dis_data_ops::{Fault, Halt, Word};
 use inf_text::{Text, decimal};
 use std::alloc::Global;
 

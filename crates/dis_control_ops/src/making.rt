@@ -6,18 +6,16 @@ ghost use Rattle.dis_isa.specs.declared.op.Op.TheVariants as op;
 ghost use Rattle.dis_meaning.specs.Words as words;
 ghost use Rattle.dis_meaning.specs.Given.{HasGiven};
 ghost use Rattle.dis_meaning.specs.Step as meaning;
-ghost use Rattle.dis_control_ops.specs.Words.{view_words, Gives, GivesFault};
-ghost use Rattle.dis_control_ops.specs.View.{view_process, view_world};
-ghost use Rattle.dis_control_ops.specs.Spots.{view_spot};
-ghost use Rattle.dis_control_ops.specs.Storing.{moved_on, frame_stored};
+ghost use Rattle.dis_data_ops.specs.Words.{view_words, Gives, GivesFault};
+ghost use Rattle.dis_data_ops.specs.View.{view_process, view_world};
+ghost use Rattle.dis_data_ops.specs.Spots.{view_spot};
+ghost use Rattle.dis_data_ops.specs.Storing.{moved_on};
+ghost use Rattle.dis_control_ops.specs.Made.{frame_stored};
 
 use crate::control::immediate;
-use crate::frame::{Frame, blank};
-use crate::process::Proc;
-use crate::spots::{Spot, spot_of};
-use crate::store::Store;
-use crate::storing::{advance, write};
-use crate::word::{Fault, Halt, Place, Word};
+use dis_data_ops::{
+    Fault, Frame, Halt, Place, Proc, Spot, Store, Word, advance, blank, spot_of, write,
+};
 use dis_file::{Object, TypeDesc};
 use dis_isa::Inst;
 use std::alloc::Global;
@@ -39,7 +37,8 @@ fn make(store: &mut Store, proc: &mut Proc, words: Vec<Word>)
     requires given { HasGiven (view_world store.old) (view_process proc.old) }
     requires room { vec_len proc.old.made < vec_capacity proc.old.made }
     ensures world { view_world store.new ≡ meaning.with_frame_made (view_world store.old) }
-    ensures process { view_process proc.new ≡ moved_on (meaning.new_frame store.old.frames (view_process proc.old) (view_words words.items)) }
+    ensures process { view_process proc.new
+        ≡ moved_on (meaning.new_frame store.old.frames (view_process proc.old) (view_words words.items)) }
 {
     let frame = Frame {
         serial: store.frames,

@@ -1,4 +1,4 @@
-use crate::word::Fault;
+use dis_data_ops::Fault;
 use inf_text::Text;
 use sys_print::Request;
 

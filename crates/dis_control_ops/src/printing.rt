@@ -8,24 +8,20 @@ ghost use Rattle.dis_meaning.specs.Process.{Frame};
 ghost use Rattle.dis_meaning.specs.Step as meaning;
 ghost use Rattle.sys_print.specs.Worlds as outside;
 ghost use Rattle.sys_print.specs.Sent.{Sent};
-ghost use Rattle.dis_control_ops.specs.Words.{view_place, view_words, Gives, GivesFault};
-ghost use Rattle.dis_control_ops.specs.View.{view_process, view_world, view_asking};
-ghost use Rattle.dis_control_ops.specs.Spots.{view_spot};
+ghost use Rattle.dis_data_ops.specs.Words.{view_place, view_words, Gives, GivesFault};
+ghost use Rattle.dis_data_ops.specs.View.{view_process, view_world, view_asking};
+ghost use Rattle.dis_data_ops.specs.Spots.{view_spot};
 ghost use Rattle.dis_control_ops.specs.Made.{discarded, is_frame, waits};
-ghost use Rattle.dis_control_ops.specs.Frames.{view_frames, count};
-ghost use Rattle.dis_control_ops.specs.Storing.{moved_on};
+ghost use Rattle.dis_data_ops.specs.Frames.{view_frames, count};
+ghost use Rattle.dis_data_ops.specs.Storing.{moved_on};
 ghost use Rattle.dis_control_ops.specs.Plans.{view_plan, planned, carried_out, IsPrint};
 ghost use Rattle.dis_control_ops.specs.Outcomes.{effect_of, ends, Kept, DoesSend, Sends};
 
-use crate::frames::position;
-use crate::memory::word_at;
 use crate::outcome::Does;
-use crate::process::{Asking, Proc};
-use crate::spots::{Spot, behind};
-use crate::store::Store;
-use crate::storing::{advance, write};
 use crate::texts::printed;
-use crate::word::{Fault, Halt, Place, Word};
+use dis_data_ops::{
+    Asking, Fault, Halt, Place, Proc, Spot, Store, Word, advance, behind, position, word_at, write,
+};
 use std::alloc::Global;
 use std::mem;
 use sys_print::{Printing, World, print};
@@ -85,7 +81,8 @@ fn finish_print(
     requires place { proc.old.frame.pc + 1 < 2 ^ 64 }
     requires made { count serial (view_frames proc.old.made.items) ≡ 1 }
     ensures gives { GivesFault (λ _. Went (view_world store.new) (view_process proc.new)) result
-        (meaning.prints (view_world store.old) (discarded (view_process proc.old) serial) (view_place place) at (prints.Answers (outside.view_world world) (Num number))) }
+        (meaning.prints (view_world store.old) (discarded (view_process proc.old) serial) (view_place place) at
+        (prints.Answers (outside.view_world world) (Num number))) }
     ensures kept { OnErr result ((view_world store.new ≡ view_world store.old) × (proc.new ≡ proc.old)) }
 {
     if is_frame(place, serial) {
@@ -180,7 +177,8 @@ pub(crate) fn print_call(
     requires place { proc.old.frame.pc + 1 < 2 ^ 64 }
     requires made { made < vec_len proc.old.made }
     ensures gives { (f : Frame) → slice_get (view_process proc.old).made made ≡ Some f →
-        Gives (λ d. effect_of d (view_world store.new) (view_process proc.new)) result (meaning.print_call (view_world store.old) (view_process proc.old) f) }
+        Gives (λ d. effect_of d (view_world store.new) (view_process proc.new)) result
+        (meaning.print_call (view_world store.old) (view_process proc.old) f) }
     ensures kept { Kept result (view_world store.old) (view_process proc.old) (view_world store.new) (view_process proc.new) }
     ensures sent { Sends result proc.new.printing }
 {

@@ -6,16 +6,12 @@ ghost use Rattle.system_model.specs.Values.{Num};
 ghost use Rattle.dis_meaning.specs.Given.{HasGiven};
 ghost use Rattle.dis_meaning.specs.Step as meaning;
 ghost use Rattle.sys_print.specs.Worlds as outside;
-ghost use Rattle.dis_control_ops.specs.Words.{view_place};
-ghost use Rattle.dis_control_ops.specs.View.{view_world, view_process};
+ghost use Rattle.dis_data_ops.specs.Words.{view_place};
+ghost use Rattle.dis_data_ops.specs.View.{view_world, view_process};
 ghost use Rattle.dis_control_ops.specs.Outcomes.{Hears, stays_after_reply, Stays, SentAgain};
 
 use crate::outcome::Heard;
-use crate::process::{Asking, Proc};
-use crate::spots::Spot;
-use crate::store::Store;
-use crate::storing::write;
-use crate::word::{Place, Word};
+use dis_data_ops::{Asking, Place, Proc, Spot, Store, Word, write};
 use std::alloc::Global;
 use std::mem;
 use styx_msg::Rmsg;
@@ -31,7 +27,8 @@ fn take_answer(
     number: i32,
 ) -> Heard
     ensures effect { Hears result (view_process proc.old) (view_world store.new) (view_process proc.new)
-        (meaning.hears (view_world store.old) (view_process proc.old) (view_place place) at (prints.Answers (outside.view_world world) (Num number))) }
+        (meaning.hears (view_world store.old) (view_process proc.old) (view_place place) at
+        (prints.Answers (outside.view_world world) (Num number))) }
     ensures kept { Stays (stays_after_reply result) (view_world store.old) (view_process proc.old)
         (view_world store.new) (view_process proc.new) }
     ensures sent { SentAgain result proc.new.printing }

@@ -4,21 +4,20 @@ ghost use Rattle.std.specs.Prelude.{◌≡◌, ◌+◌, ◌<◌, ◌^◌, Option
 ghost use Rattle.dis_meaning.specs.Words as words;
 ghost use Rattle.dis_meaning.specs.Given.{HasGiven};
 ghost use Rattle.dis_meaning.specs.Step as meaning;
-ghost use Rattle.dis_control_ops.specs.declared.process.Asking.{Asking};
-ghost use Rattle.dis_control_ops.specs.Words.{Gives, GivesFault};
-ghost use Rattle.dis_control_ops.specs.View.{view_content, view_world, view_process, codes_of};
-ghost use Rattle.dis_control_ops.specs.Outcomes.{effect_of, went_of, does_told, halt_told, stepped_of, running, worked, Kept, Steps, stays_after, Stays, Sends, Sent};
+ghost use Rattle.dis_data_ops.specs.declared.process.Asking.{Asking};
+ghost use Rattle.dis_data_ops.specs.Words.{Gives, GivesFault};
+ghost use Rattle.dis_data_ops.specs.View.{view_content, view_world, view_process, codes_of};
+ghost use Rattle.dis_control_ops.specs.Outcomes.{effect_of, went_of, does_told, halt_told, stepped_of, running};
+ghost use Rattle.dis_control_ops.specs.Outcomes.{worked, Kept, Steps, stays_after, Stays, Sends, Sent};
 
-use crate::blocks::block;
 use crate::control::{branch_equal, branch_less, call, give_back, jump};
 use crate::making::make_frame;
-use crate::moves::{add, load_address, move_reference, move_word, multiply, subtract};
 use crate::outcome::{Does, Stepped};
-use crate::process::Proc;
-use crate::rows::move_words;
-use crate::store::{Content, Store};
 use crate::sys::{call_module, load};
-use crate::word::{Fault, Halt};
+use dis_data_ops::{
+    Content, Fault, Halt, Proc, Store, add, block, load_address, move_reference, move_word,
+    move_words, multiply, subtract,
+};
 use dis_file::Object;
 use dis_isa::{Inst, Op};
 use inf_text::Text;

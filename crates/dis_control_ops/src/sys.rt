@@ -7,22 +7,20 @@ ghost use Rattle.dis_isa.specs.declared.op.Op.TheVariants as op;
 ghost use Rattle.dis_file.specs.declared.object.Object.{Object as AnyObject};
 ghost use Rattle.dis_meaning.specs.Words as words;
 ghost use Rattle.dis_meaning.specs.Step as meaning;
-ghost use Rattle.dis_control_ops.specs.Words.{Gives, GivesFault};
-ghost use Rattle.dis_control_ops.specs.View.{view_content, view_process, view_world};
-ghost use Rattle.dis_control_ops.specs.Spots.{view_spot};
+ghost use Rattle.dis_data_ops.specs.Words.{Gives, GivesFault};
+ghost use Rattle.dis_data_ops.specs.View.{view_content, view_process, view_world};
+ghost use Rattle.dis_data_ops.specs.Spots.{view_spot};
 ghost use Rattle.dis_control_ops.specs.Loading.{imports_at, sys_loaded, loaded_if};
 ghost use Rattle.dis_control_ops.specs.Outcomes.{effect_of, Kept, Sends};
 
-use crate::blocks::block;
-use crate::control::{at_least_zero, made_at};
+use crate::control::made_at;
 use crate::outcome::Does;
 use crate::printing::print_call;
-use crate::process::Proc;
-use crate::spots::{Spot, reference, source_word, spot_of};
-use crate::store::{Content, Store};
-use crate::storing::finish;
 use crate::texts::text_at;
-use crate::word::{Fault, Halt, Word};
+use dis_data_ops::{
+    Content, Fault, Halt, Proc, Spot, Store, Word, at_least_zero, block, finish, reference,
+    source_word, spot_of,
+};
 use dis_file::{Import, Object};
 use dis_isa::{Inst, Middle};
 use inf_text::Text;

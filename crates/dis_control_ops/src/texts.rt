@@ -2,15 +2,11 @@
 
 ghost use Rattle.std.specs.Prelude.{◌≡◌, drop};
 ghost use Rattle.dis_meaning.specs.Step as meaning;
-ghost use Rattle.dis_control_ops.specs.Words.{view_words, Gives, GivesFault};
-ghost use Rattle.dis_control_ops.specs.View.{view_content, view_world};
+ghost use Rattle.dis_data_ops.specs.Words.{view_words, Gives, GivesFault};
+ghost use Rattle.dis_data_ops.specs.View.{view_content, view_world};
 
-use crate::blocks::block;
 use crate::formats::formatted;
-use crate::memory::word_at;
-use crate::spots::{number_in, reference};
-use crate::store::{Content, Store};
-use crate::word::{Fault, Halt, Word};
+use dis_data_ops::{Content, Fault, Halt, Store, Word, block, number_in, reference, word_at};
 use inf_text::Text;
 use std::alloc::Global;
 

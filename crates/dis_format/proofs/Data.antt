@@ -20,7 +20,8 @@ use Rattle.dis_format.specs.Parts.{Part, byte, item, raw, natural, AreParts, IsP
 use Rattle.dis_format.specs.Loading.{Loading, opening, kind_of, size_of, is_none, leaves_one, offset_stands}
 use Rattle.dis_format.specs.Loading.{index_stands, array_stands, content_stands, stands_as, item_stands}
 use Rattle.dis_format.specs.Loading.{entered, after, items_stand}
-use Rattle.dis_format.specs.Reading.{◌>>=◌, AreBytes, refused, byte_at, bytes_at, word_at, natural_at, kind_here}
+use Rattle.inf_text.specs.Steps.{◌>>=◌}
+use Rattle.dis_format.specs.Reading.{AreBytes, refused, byte_at, bytes_at, word_at, natural_at, kind_here}
 use Rattle.dis_format.specs.Reading.{item_kind_at, count_at, offset_at, string_at, array_kind_at, array_length_at}
 use Rattle.dis_format.specs.Reading.{new_array_at, index_at, content_at, item_at, end_at, items_at, data_at}
 use Rattle.dis_format.proofs.Fields.{bind_ok, guard_ok, guard_not, ok_is, Takes, Takes-then, parts_split}

@@ -22,7 +22,8 @@ use Rattle.dis_format.specs.Operands.{Form, one_byte, two_bytes, four_bytes, wid
 use Rattle.dis_format.specs.Operands.{low_bits, signed, form_bytes, Range, any, from_zero, within}
 use Rattle.dis_format.specs.Parts.{Part, byte, below, word, number, utf8, name, raw, natural, IsNumber, IsPart}
 use Rattle.dis_format.specs.Parts.{AreParts, no_zero}
-use Rattle.dis_format.specs.Reading.{◌>>=◌, Read, AreBytes, refused, byte_at, below_at, bytes_at, word_at, form_of, in_form}
+use Rattle.inf_text.specs.Steps.{◌>>=◌}
+use Rattle.dis_format.specs.Reading.{Read, AreBytes, refused, byte_at, below_at, bytes_at, word_at, form_of, in_form}
 use Rattle.dis_format.specs.Reading.{operand_at, number_at, size, natural_at, utf8_at, many, before_zero, name_before, name_at}
 
 -- ---- bytes

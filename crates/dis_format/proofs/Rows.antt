@@ -23,7 +23,8 @@ use Rattle.dis_format.specs.Parts.{Part, byte, below, utf8, raw, natural, ArePar
 use Rattle.dis_format.specs.Parts.{middle_mode, mode, address, middle_parts, operand_parts, inst_parts, type_parts}
 use Rattle.dis_format.specs.Parts.{types_parts, link_parts, import_parts, arm_parts, catch_parts}
 use Rattle.dis_format.specs.Objects.{map_stands, size_stands, types_stand, link_stands, links_stand}
-use Rattle.dis_format.specs.Reading.{◌>>=◌, Read, AreBytes, byte_at, bytes_at, natural_at, many, counted_at}
+use Rattle.inf_text.specs.Steps.{◌>>=◌}
+use Rattle.dis_format.specs.Reading.{Read, AreBytes, byte_at, bytes_at, natural_at, many, counted_at}
 use Rattle.dis_format.specs.Reading.{op_here, opcode_here, middle_at, operand_of, mode_stands, address_at, inst_at, place_at}
 use Rattle.dis_format.specs.Reading.{type_size_at, map_at, type_at, types_at, linked_at, link_at, import_at, arm_at, catch_at}
 use Rattle.dis_format.proofs.Fields.{bind_ok, ok_is, Takes, Takes-then, parts_split, Exact}

@@ -14,7 +14,8 @@ use Rattle.dis_format.specs.Parts.{Part, byte, below, word, number, item, utf8, 
 use Rattle.dis_format.specs.Parts.{AreParts, written, fits, object_parts}
 use Rattle.dis_format.specs.Objects.{Spells, IsValid, written_form}
 use Rattle.dis_format.specs.Reading.{object_at}
-use Rattle.dis_format.specs.Writing.{◌>>=◌, put_all, write_of, AllFit, IsFirstMisfit}
+use Rattle.inf_text.specs.Steps.{◌>>=◌}
+use Rattle.dis_format.specs.Writing.{put_all, write_of, AllFit, IsFirstMisfit}
 use Rattle.dis_format.proofs.Rows.{both, and_so}
 use Rattle.dis_format.proofs.Whole.{only}
 

@@ -1,10 +1,12 @@
 -- The fields of an object file in the order of the bytes. Each is read from the front, to a value and the bytes after
 -- it, or is refused: the first faulty field decides.
-use Rattle.std.specs.Prelude.{◌≡◌, ⊤, ℕ, zero, suc, ◌-◌, ◌*◌, ◌/◌, ◌%◌, ℤ, pos, negsuc, Bool, false, ◌&&◌, ◌||◌, ◌==◌}
+use Rattle.std.specs.Prelude.{◌≡◌, ℕ, zero, suc, ◌-◌, ◌*◌, ◌/◌, ◌%◌, ℤ, pos, negsuc, Bool, false, ◌&&◌, ◌||◌, ◌==◌}
 use Rattle.std.specs.Prelude.{List, [], ◌∷◌, length, take, drop, Option, Some, None, Result, Ok, Err, nat_lt, nat_le}
 use Rattle.std.specs.Prelude.{if◌then◌else◌, slice_index, ◌<◌}
 use Rattle.std.specs.Str.{chars, is_utf8}
 use Rattle.byteorder.specs.Endian.{big_number}
+use Rattle.inf_text.specs.Steps as steps
+use Rattle.inf_text.specs.Steps.{◌>>=◌}
 use Rattle.dis_isa.specs.declared.inst.Inst.{Inst}
 use Rattle.dis_isa.specs.declared.inst.Operand.{Operand}
 use Rattle.dis_isa.specs.declared.inst.Operand.TheVariants as operand
@@ -36,11 +38,6 @@ use Rattle.dis_format.specs.Parts.{magic, signed_magic, has_imports, has_catches
 use Rattle.dis_format.specs.Loading.{Loading, opening, kind_of, content_size, size_of, is_none}
 use Rattle.dis_format.specs.Loading.{leaves_one, offset_stands, index_stands, entered, after}
 use Rattle.dis_format.specs.Objects.{flags_stand, map_stands, size_stands}
-
-infixl 10 ◌>>=◌
-abbrev pub ◌>>=◌ : {A B : Type 0} → Result A Refusal → (A → Result B Refusal) → Result B Refusal
-(Ok x) >>= f = f x
-(Err r) >>= f = Err r
 
 -- What a reader of a field gives.
 abbrev pub Read : Type 0 → Type 0
@@ -466,11 +463,14 @@ AreBytes bytes = (i : ℕ) → slice_index bytes i < 256
 abbrev pub IsFirstFault : List ℕ → FileFault → Type 0
 IsFirstFault bytes e = (r : Refusal) × ((object_at bytes ≡ Err r) × (e ≡ placed bytes r))
 
+-- The refusal that a fault tells, if it isn't want of memory.
+abbrev pub refusal_of : ReadFault → Option Refusal
+refusal_of read.NoMemory = None
+refusal_of (read.Refused r) = Some r
+
 -- What a reader answered, seen by view, is what is stated, unless memory ran out.
 abbrev pub FailsAs : {Y : Type 0} → ReadFault → Result Y Refusal → Type 0
-FailsAs read.NoMemory stated = ⊤
-FailsAs (read.Refused r) stated = stated ≡ Err r
+FailsAs fault stated = steps.Refuses (refusal_of fault) stated
 
 abbrev pub Gives : {X Y : Type 0} → (X → Y) → Result X ReadFault → Result Y Refusal → Type 0
-Gives view (Ok x) stated = stated ≡ Ok (view x)
-Gives view (Err e) stated = FailsAs e stated
+Gives view result stated = steps.Gives refusal_of view result stated

@@ -1,6 +1,7 @@
 -- Writing parts behind what is written already, or the place of the first one that has a number that doesn't fit.
 use Rattle.std.specs.Prelude.{◌≡◌, ⊤, ℕ, true, false, List, [], ◌∷◌, ◌++◌, length, Result, Ok, Err, if◌then◌else◌}
 use Rattle.std.specs.List.{flat_map, AllByRecursion}
+use Rattle.inf_text.specs.Steps.{◌>>=◌}
 use Rattle.dis_file.specs.declared.object.Object.{Object}
 use Rattle.dis_format.specs.declared.fault.FileFault.{FileFault}
 use Rattle.dis_format.specs.declared.fault.FileFault.TheVariants as fault
@@ -8,11 +9,6 @@ use Rattle.dis_format.specs.Parts.{Part, written, fits, object_parts}
 
 abbrev pub put : List ℕ → Part → Result (List ℕ) ℕ
 put out part = if fits part then Ok (out ++ written part) else Err (length out)
-
-infixl 10 ◌>>=◌
-abbrev pub ◌>>=◌ : {A B : Type 0} → Result A ℕ → (A → Result B ℕ) → Result B ℕ
-(Ok x) >>= f = f x
-(Err at) >>= f = Err at
 
 abbrev pub put_all : List ℕ → List Part → Result (List ℕ) ℕ
 put_all out [] = Ok out

@@ -6,7 +6,8 @@ use Rattle.system_model.specs.World.{opening_world}
 use Rattle.dis_meaning.specs.Words.{blank}
 use Rattle.dis_meaning.specs.World.{World}
 use Rattle.dis_meaning.specs.Process.{Process}
-use Rattle.dis_meaning.specs.Opening.{Opened, opened, opening_blocks, entered, with_items, ◌>>=◌}
+use Rattle.inf_text.specs.Options.{◌>>=◌}
+use Rattle.dis_meaning.specs.Opening.{Opened, opened, opening_blocks, entered, with_items}
 use Rattle.dis_meaning.specs.Given.{HasGiven}
 
 abbrev Begins : Opened → Type 0

@@ -3,18 +3,13 @@
 use Rattle.std.specs.Prelude.{◌≡◌, ℕ, suc, pos, ◌+◌, List, [], ◌∷◌, ◌++◌, length, Option, Some, None, slice_get, ◌==◌, if◌then◌else◌}
 use Rattle.std.specs.Int.{w32, cast_signed, from_be_bytes}
 use Rattle.std.specs.Str.{chars, is_utf8, IsUtf8}
+use Rattle.inf_text.specs.Options.{◌>>=◌}
 use Rattle.dis_file.specs.declared.object.Item.{Item}
 use Rattle.dis_file.specs.declared.object.Object.{Object}
 use Rattle.system_model.specs.World.{opening_world}
 use Rattle.dis_meaning.specs.Words.{Word, Plain, Refer, Access, Found, Wrong, stored, blank}
 use Rattle.dis_meaning.specs.World.{Content, Text, Instance, World}
 use Rattle.dis_meaning.specs.Process.{Process}
-
-infixl 10 ◌>>=◌
--- Goes on with what is there.
-abbrev pub ◌>>=◌ : {S T : Type 0} → Option S → (S → Option T) → Option T
-None >>= f = None
-(Some s) >>= f = f s
 
 abbrev pub if_found : {T : Type 0} → Access T → Option T
 if_found (Found t) = Some t
@@ -48,7 +43,8 @@ with_numbers words offset _ = None
 abbrev pub with_item : Data → Item → Option Data
 with_item d item =
     if item.kind == 3 then characters item.content >>= with_text d item.offset
-    else (if item.kind == 2 then with_numbers d.words item.offset item.content >>= (λ words. Some (record { words = words; texts = d.texts }))
+    else (if item.kind == 2
+    then with_numbers d.words item.offset item.content >>= (λ words. Some (record { words = words; texts = d.texts }))
     else None)
 
 abbrev pub with_items : Data → List Item → Option Data
@@ -81,7 +77,10 @@ opened o =
     slice_get o.types 0 >>= λ data_type.
     with_items (record { words = blank data_type; texts = [] }) o.items >>= λ d.
     slice_get o.types o.entry_type >>= λ frame_type.
-    Some (record { world = record { blocks = opening_blocks d; frames = 1; outside = opening_world }; first = entered o (blank frame_type) })
+    Some (record {
+      world = record { blocks = opening_blocks d; frames = 1; outside = opening_world };
+      first = entered o (blank frame_type);
+    })
 
 -- The strings of an object are well-formed UTF-8.
 abbrev pub StringsSpell : Object → Type 0

@@ -4,7 +4,8 @@ use Rattle.dis_isa.specs.declared.inst.Middle.{Middle}
 use Rattle.dis_isa.specs.declared.inst.Middle.TheVariants as middle
 use Rattle.dis_isa.specs.declared.inst.Operand.{Operand}
 use Rattle.dis_isa.specs.declared.inst.Operand.TheVariants as operand
-use Rattle.dis_meaning.specs.Words.{Place, InBlock, InFrame, Word, Plain, Refer, Address, Access, Found, Wrong, ◌>>=◌, type_check, dead_address, word_at, stored, number_in, plain}
+use Rattle.dis_meaning.specs.Words.{Place, InBlock, InFrame, Word, Plain, Refer, Address, Access, Found, Wrong}
+use Rattle.dis_meaning.specs.Words.{◌>>=◌, type_check, dead_address, word_at, stored, number_in, plain}
 use Rattle.dis_meaning.specs.World.{Content, Text, Instance, Sys, World, block, with_content}
 use Rattle.dis_meaning.specs.Process.{Frame, Process, with_words, with_frames}
 

@@ -7,8 +7,9 @@ use Rattle.system_model.specs.Ending.{Ending, Faulted}
 use Rattle.dis_meaning.specs.Words.{Place, Word, Access, Found, Wrong}
 use Rattle.dis_meaning.specs.World.{World}
 
--- A frame: its serial, which no other frame of the machine has, the instance whose code it runs, by the serial of its block, the place in that code, and its words. The first
--- eight are linkage: of these the word at 16 has the address that the function's answer goes to.
+-- A frame: its serial, which no other frame of the machine has, the instance whose code it runs, by the serial of its block, the
+-- place in that code, and its words. The first eight are linkage: of these the word at 16 has the address that the function's answer
+-- goes to.
 pub record Frame : Type 0 where
   pub serial : ℕ
   pub instance : ℕ

@@ -1,6 +1,7 @@
 -- One instruction of a process (Dis Virtual Machine Specification, the instructions by name). A source is looked at first, then the
 -- middle, then the destination; the first of them that is wrong decides.
-use Rattle.std.specs.Prelude.{ℕ, zero, suc, ℤ, pos, negsuc, ◌+ℤ◌, ◌-ℤ◌, ◌*ℤ◌, Bool, true, false, List, [], ◌∷◌, ◌++◌, length, map, drop, Option, Some, None, slice_get, nat_eq, nat_lt, int_lt, codes, if◌then◌else◌}
+use Rattle.std.specs.Prelude.{ℕ, zero, suc, ℤ, pos, negsuc, ◌+ℤ◌, ◌-ℤ◌, ◌*ℤ◌, Bool, true, false, List, [], ◌∷◌, ◌++◌, length}
+use Rattle.std.specs.Prelude.{map, drop, Option, Some, None, slice_get, nat_eq, nat_lt, int_lt, codes, if◌then◌else◌}
 use Rattle.std.specs.Int.{int_wrap, w32}
 use Rattle.std.specs.Ordering.{int_eq}
 use Rattle.std.specs.Str.{bytes_eq}
@@ -19,11 +20,13 @@ use Rattle.system_model.specs.Values.{Value, Num}
 use Rattle.system_model.specs.World as outside
 use Rattle.system_model.specs.Prints.{Printing, Answers, Requests, NoReply, print, hear}
 use Rattle.system_model.specs.Ending.{Ended, Broken}
-use Rattle.dis_meaning.specs.Words.{Place, InBlock, InFrame, Word, Plain, Refer, Address, Access, Found, Wrong, ◌>>=◌, type_check, bad_jump, dead_address, or_wrong, word_at, number_in, plain, reference, word_number, replaced, blank}
+use Rattle.dis_meaning.specs.Words.{Place, InBlock, InFrame, Word, Plain, Refer, Address, Access, Found, Wrong, ◌>>=◌, type_check}
+use Rattle.dis_meaning.specs.Words.{bad_jump, dead_address, or_wrong, word_at, number_in, plain, reference, word_number, replaced, blank}
 use Rattle.dis_meaning.specs.World.{Content, Text, Instance, Sys, World, block, with_block}
 use Rattle.dis_meaning.specs.Process as process
 use Rattle.dis_meaning.specs.Process.{Frame, Process, Does, height, at_pc, with_words, with_frames, stands_still, or_fault}
-use Rattle.dis_meaning.specs.Places.{Spot, Far, Memory, read, store, spot, source_number, source_plain, source_word, given_number, middle_number, words_in, all_frames, words_at, with_words_at, place_in, address, behind}
+use Rattle.dis_meaning.specs.Places.{Spot, Far, Memory, read, store, spot, source_number, source_plain, source_word, given_number}
+use Rattle.dis_meaning.specs.Places.{middle_number, words_in, all_frames, words_at, with_words_at, place_in, address, behind}
 use Rattle.dis_meaning.specs.Formats.{formatted}
 
 -- The process goes on with the next instruction.
@@ -67,7 +70,11 @@ without s (f ∷ fs) = if nat_eq f.serial s then without s fs else f ∷ without
 -- So many words of a list, from one on, all plain.
 abbrev pub plains : List Word → (from count : ℕ) → Access (List Word)
 plains words from zero = Found []
-plains words from (suc n) = or_wrong type_check (slice_get words from) >>= λ w. plain w >>= λ v. plains words (suc from) n >>= λ vs. Found (v ∷ vs)
+plains words from (suc n) =
+    or_wrong type_check (slice_get words from) >>= λ w.
+    plain w >>= λ v.
+    plains words (suc from) n >>= λ vs.
+    Found (v ∷ vs)
 
 -- These words in place of those from one on.
 abbrev pub all_replaced : List Word → (from : ℕ) → List Word → Access (List Word)
@@ -283,7 +290,10 @@ module _ (limit : ℕ) (objects : List Object) where
 
 -- A reply to a print.
 abbrev pub hears : World → Process → Place → ℤ → Printing → Does
-hears x p place at (Answers w v) = or_fault x p (answered (outside_is x w) p place at v >>= λ m. Found (Went m.world (with_frames m.process m.process.frame m.process.below m.process.made)))
+hears x p place at (Answers w v) =
+    or_fault x p (
+    answered (outside_is x w) p place at v >>= λ m.
+    Found (Went m.world (with_frames m.process m.process.frame m.process.below m.process.made)))
 hears x p place at (Requests w m k) =
     Asks (outside_is x w) m (record {
       number = p.number;

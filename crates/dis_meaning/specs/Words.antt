@@ -1,5 +1,6 @@
 -- Words of memory (Dis Virtual Machine Specification, "Data representations").
-use Rattle.std.specs.Prelude.{ℕ, zero, suc, ℤ, pos, negsuc, ◌/◌, ◌%◌, ◌==◌, Bool, true, false, List, [], ◌∷◌, Option, Some, None, slice_get, slice_set, if◌then◌else◌}
+use Rattle.std.specs.Prelude.{ℕ, zero, suc, ℤ, pos, negsuc, ◌/◌, ◌%◌, ◌==◌, Bool, true, false, List}
+use Rattle.std.specs.Prelude.{[], ◌∷◌, Option, Some, None, slice_get, slice_set, if◌then◌else◌}
 use Rattle.dis_file.specs.declared.types.TypeDesc.{TypeDesc}
 use Rattle.dis_file.specs.References.{marks}
 
@@ -76,7 +77,9 @@ fits _ _ = true
 
 -- Words with the one of this number replaced.
 abbrev pub replaced : List Word → ℕ → Word → Access (List Word)
-replaced words k new = or_wrong type_check (slice_get words k) >>= λ old. if fits old new then Found (slice_set words k new) else Wrong type_check
+replaced words k new =
+    or_wrong type_check (slice_get words k) >>= λ old.
+    if fits old new then Found (slice_set words k new) else Wrong type_check
 
 -- Words with the one at a byte replaced.
 abbrev pub stored : List Word → ℤ → Word → Access (List Word)

@@ -1,5 +1,4 @@
 pub mod Texts
 pub mod Loop
-pub mod Stands
 pub mod Long
 pub mod Whole

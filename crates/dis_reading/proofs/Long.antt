@@ -12,10 +12,12 @@ use Rattle.dis_format.specs.declared.fault.ReadFault.TheVariants.{NoMemory, Refu
 use Rattle.dis_format.specs.declared.kind.ItemKind.{ItemKind}
 use Rattle.dis_format.specs.declared.kind.ItemKind.TheVariants.{Array, Enter}
 use Rattle.dis_format.specs.Loading.{Loading, kind_of, leaves_one, size_of, index_stands, entered, after}
-use Rattle.dis_format.specs.Reading.{◌>>=◌, Read, FailsAs, refused, byte_at, word_at, array_kind_at, array_length_at, new_array_at}
+use Rattle.inf_text.specs.Steps.{◌>>=◌}
+use Rattle.dis_format.specs.Reading.{Read, FailsAs, refused, byte_at, word_at, array_kind_at, array_length_at, new_array_at}
 use Rattle.dis_format.specs.Reading.{index_at, content_at, item_at, end_at, items_at, item_kind_at, kind_here}
 use Rattle.dis_format.proofs.Fields.{bind_ok, guard_ok, guard_not, ok_is}
-use Rattle.dis_reading.specs.Filling.{IsLongEnough, IsReadableAs, with_front}
+use Rattle.dis_filling.specs.Filling.{IsLongEnough, IsReadableAs}
+use Rattle.dis_reading.specs.Body.{with_front}
 use Rattle.dis_reading.proofs.Loop.{regroup}
 
 word_long : (bytes : List ℕ) (x : ℕ × List ℕ) → word_at bytes ≡ Ok x → (4 ≤ length bytes) × (x.1 ≡ drop 4 bytes)

@@ -5,8 +5,9 @@ use Rattle.std.proofs.lemmas.List.{append-nil}
 use Rattle.dis_file.specs.declared.types.TypeDesc.{TypeDesc}
 use Rattle.dis_format.specs.declared.fault.ReadFault.{ReadFault}
 use Rattle.dis_format.specs.declared.fault.ReadFault.TheVariants.{NoMemory, Refused}
-use Rattle.dis_format.specs.Reading.{◌>>=◌, Read, FailsAs, many, type_at, types_at}
-use Rattle.dis_reading.specs.Filling.{with_front}
+use Rattle.inf_text.specs.Steps.{◌>>=◌}
+use Rattle.dis_format.specs.Reading.{Read, FailsAs, many, type_at, types_at}
+use Rattle.dis_reading.specs.Body.{with_front}
 
 pub regroup : {A : Type 0} (front : List A) (a : A) (read : Read (List A))
     → with_front front (read >>= λ x. Ok (a ∷ x.0, x.1)) ≡ with_front (front ++ a ∷ []) read

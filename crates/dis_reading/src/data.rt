@@ -3,11 +3,12 @@
 ghost use Rattle.std.specs.Prelude.{length, IfOk};
 ghost use Rattle.dis_format.specs.Reading.{Gives, item_kind_at, count_at, offset_at, string_at, array_kind_at, array_length_at};
 ghost use Rattle.dis_format.specs.Reading.{new_array_at, index_at, content_at, item_at, end_at, data_at};
-ghost use Rattle.dis_reading.specs.Filling.{loading_of, IsReadable, with_front};
+ghost use Rattle.dis_filling.specs.Filling.{loading_of, IsReadable};
+ghost use Rattle.dis_reading.specs.Body.{with_front};
 
 use crate::fields::{byte_at, bytes_at, front, natural_at, refused, word_at};
-use crate::filled::{Filled, content_size, size_of};
 use dis_file::{Item, TypeDesc};
+use dis_filling::{Filled, content_size, size_of};
 use dis_format::{Cause, ItemKind, ReadFault, item_kind};
 use inf_text::Seq;
 use std::alloc::Global;

@@ -1,6 +1,6 @@
 //! Object files of the Dis machine read from bytes (dis(6)).
 //!
-//! `dis_format` has the definitions that the contract cites.
+//! `dis_format` has the definitions that the contract cites, `dis_filling` where items of the data may stand.
 #![tactic(auto)]
 
 ghost use Rattle.std.specs.Prelude.{◌≡◌, ◌⊎◌, IfOk, IfErr, Ok, Err};
@@ -13,7 +13,6 @@ ghost use Rattle.dis_format.specs.Answers.{OrNoMemory, placed};
 
 mod data;
 mod fields;
-mod filled;
 mod instructions;
 mod object;
 mod sections;

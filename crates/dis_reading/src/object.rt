@@ -3,7 +3,7 @@
 ghost use Rattle.std.specs.Prelude.{◌≡◌};
 ghost use Rattle.dis_format.specs.Reading.{Gives, magic_at, flags_at, data_size_at, type_count_at, header_at, Body as Parts};
 ghost use Rattle.dis_format.specs.Reading.{body_at, fields_at, object_at};
-ghost use Rattle.dis_reading.specs.Filling.{body_of};
+ghost use Rattle.dis_reading.specs.Body.{body_of};
 
 use crate::data::data_at;
 use crate::fields::{name_at, natural_at, operand_at, refused};

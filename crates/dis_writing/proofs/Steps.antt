@@ -7,7 +7,8 @@ use Rattle.dis_file.specs.declared.types.TypeDesc.{TypeDesc}
 use Rattle.dis_format.specs.declared.fault.FileFault.{FileFault}
 use Rattle.dis_format.specs.declared.fault.FileFault.TheVariants.{NoMemory, BadOperand}
 use Rattle.dis_format.specs.Parts.{Part, fits, written, types_parts, type_parts}
-use Rattle.dis_format.specs.Writing.{◌>>=◌, put_all, FailsAt}
+use Rattle.inf_text.specs.Steps.{◌>>=◌}
+use Rattle.dis_format.specs.Writing.{put_all, FailsAt}
 
 -- Steps group either way.
 pub bind_assoc : {A B C : Type 0} (s : Result A ℕ) (f : A → Result B ℕ) (g : B → Result C ℕ)

@@ -8,7 +8,8 @@ use Rattle.std.specs.Str.{StartsWithNoChar, all_scalars}
 pub data ReadsLossy : List ℕ → List ℕ → Type 0 where
   Nothing : ReadsLossy [] []
   Character : (c : ℕ) (rest text : List ℕ) → IsScalar c → ReadsLossy rest text → ReadsLossy (encode_utf8 c ++ rest) (c ∷ text)
-  BadByte : (byte : ℕ) (rest text : List ℕ) → StartsWithNoChar (byte ∷ rest) → ReadsLossy rest text → ReadsLossy (byte ∷ rest) (65533 ∷ text)
+  BadByte : (byte : ℕ) (rest text : List ℕ) → StartsWithNoChar (byte ∷ rest) → ReadsLossy rest text
+      → ReadsLossy (byte ∷ rest) (65533 ∷ text)
 
 -- A text has grown by the characters that the bytes spell.
 pub record AddsSpelled (old new bytes : List ℕ) : Type 0 where

@@ -11,7 +11,7 @@ use Rattle.limbo_meaning.specs.Program.{routine_of}
 use Rattle.limbo_lower.specs.Code.{function_code}
 use Rattle.dis_file.specs.declared.object.Object.{Object}
 use Rattle.dis_meaning.specs.Opening.{StringsSpell}
-use Rattle.dis_codegen.specs.Objects.{find}
+use Rattle.dis_tables.specs.Objects.{find}
 use Rattle.code_sim.specs.Keeps.{object_for}
 use Rattle.limbo_check_stmt.specs.Checking.{HasFunctionNamed}
 use Rattle.limbo_compiler.specs.Limits.{IsWithin}

@@ -12,7 +12,8 @@ use Rattle.limbo_small.specs.Typed.{Module}
 use Rattle.limbo_small.specs.Proper.{IsProper}
 use Rattle.limbo_meaning.specs.Program.{Routine}
 use Rattle.limbo_lower.specs.Sizes.{FrameTooLarge}
-use Rattle.dis_meaning.specs.Opening.{Opened, opened, ◌>>=◌}
+use Rattle.inf_text.specs.Options.{◌>>=◌}
+use Rattle.dis_meaning.specs.Opening.{Opened, opened}
 use Rattle.machine_core.specs.declared.event.Event.{Event}
 use Rattle.machine_core.specs.declared.event.Event.TheVariants as event
 use Rattle.machine_core.specs.Journal.{State, Tagged, longest, machine_rules, fault_in, reply_in, asker, meant, happens, replay, begins, cut_short, state_of, cut_events, place_of}

@@ -7,7 +7,8 @@ use Rattle.dis_file.specs.declared.object.Item.{Item}
 use Rattle.dis_file.specs.declared.object.Object.{Object}
 use Rattle.dis_file.specs.declared.types.TypeDesc.{TypeDesc}
 use Rattle.dis_meaning.specs.Words.{blank}
-use Rattle.dis_meaning.specs.Opening.{◌>>=◌, Data, with_text, with_item, with_items, opening_blocks, entered, Opened, opened, StringsSpell}
+use Rattle.inf_text.specs.Options.{◌>>=◌}
+use Rattle.dis_meaning.specs.Opening.{Data, with_text, with_item, with_items, opening_blocks, entered, Opened, opened, StringsSpell}
 
 read_utf8 : {T : Type 0} (bytes : List ℕ) (b : Bool) (f : List ℕ → Option T) (t : T) → is_utf8 bytes ≡ b → ((if b then Some (chars bytes) else None) >>= f) ≡ Some t → IsUtf8 bytes
 read_utf8 bytes true f t is e = IsUtf8-from_is_utf8 bytes is

@@ -13,7 +13,7 @@ use Rattle.limbo_reading.specs.Reading.{kinds, Gives}
 use Rattle.limbo_parser.specs.declared.tree.ParseFault.TheVariants as refusal
 use Rattle.limbo_parser.specs.Sources.{tree_at}
 use Rattle.limbo_parser.specs.Parsing.{told}
-use Rattle.limbo_parser.proofs.Keep.{KeepsAll, tree_keeps}
+use Rattle.limbo_parser.proofs.Keeps.{KeepsAll, tree_keeps}
 use Rattle.limbo_parser.proofs.Trees.{tree_took, tree_again, none_at_all}
 
 abbrev Read : Bool → List Kind → Result code_source.Source ReadError → Type 0

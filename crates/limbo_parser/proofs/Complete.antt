@@ -22,11 +22,11 @@ use Rattle.limbo_stmt_parts.specs.declared.start.Region.TheVariants as region
 use Rattle.limbo_stmt_parts.specs.Start.{start, may_head}
 use Rattle.limbo_stmt_parts.specs.Heads.{front_at, is_read, ends, closing}
 use Rattle.limbo_stmt_parts.specs.Jumps.{label_at, option_before, expr_before, for_head_at, spawned_at, jump_above}
-use Rattle.limbo_parser.specs.Stmts.{stmts_at, arm_at, arms_at, block_above, if_above, branch_above, stmt_at, block_at}
+use Rattle.limbo_stmt_parser.specs.Stmts.{stmts_at, arm_at, arms_at, block_above, if_above, branch_above, stmt_at, block_at}
 use Rattle.limbo_expr_parts.specs.Strength.{begins_expr}
 use Rattle.limbo_expr_parser.proofs.Laws.{spell_begins, expr_again, unary_again}
 use Rattle.limbo_decl_parser.proofs.Laws.{decl_again}
-use Rattle.limbo_parser.proofs.Keep.{Kept, front_keeps, stmt_keeps}
+use Rattle.limbo_stmt_parser.proofs.Keep.{Kept, front_keeps, stmt_keeps}
 use Rattle.limbo_parser.proofs.Shapes.{place, spell_front, GoodHead, GoodStmt, stmts_spelled, stmt_list, stmts_back, stmts_each, spell_arm, GoodArm, arms_spelled, arm_list, arms_back, arms_each}
 use Rattle.limbo_parser.proofs.Begins.{opens, expr_opens, eval_starts, decl_starts, decl_begins}
 use Rattle.limbo_parser.proofs.HeadsAgain.{HasHeads, front_again, head_begins, unread, name_unread, decl_unread}

@@ -23,7 +23,7 @@ use Rattle.limbo_stmt_parts.specs.declared.start.Region.TheVariants as region
 use Rattle.limbo_stmt_parts.specs.Start.{Start, AtEmpty, AtBlock, AtIf, AtBranch, AtLabelled, AtJump, AtDeclare, AtOther, start, may_head}
 use Rattle.limbo_stmt_parts.specs.Heads.{star_alone, case_pattern_at, head_at, front_at, is_read, ends, closing}
 use Rattle.limbo_stmt_parts.specs.Jumps.{label_at, option_before, expr_before, for_head_at, spawned_at, jump_above}
-use Rattle.limbo_parser.specs.Stmts.{stmts_at, arm_at, arms_at, handler_at, block_above, if_above, branch_above, begun, stmt_at, block_at}
+use Rattle.limbo_stmt_parser.specs.Stmts.{stmts_at, arm_at, arms_at, handler_at, block_above, if_above, branch_above, begun, stmt_at, block_at}
 use Rattle.limbo_parser.specs.Sources.{defines, part_at, defined_at, top_at, tops_at, implements_at, tree_at}
 use Rattle.limbo_expr_parser.proofs.Laws.{expr_deepens, unary_deepens}
 use Rattle.limbo_decl_parser.proofs.Laws.{fn_deepens, decl_deepens}

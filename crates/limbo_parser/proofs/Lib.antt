@@ -1,12 +1,10 @@
 pub mod Deep
-pub mod Keep
+pub mod Keeps
 pub mod Shapes
 pub mod Sound
 pub mod Begins
 pub mod HeadsAgain
 pub mod Complete
 pub mod Trees
-pub mod Going
 pub mod Tops
 pub mod Clauses
-pub mod Budget

@@ -30,7 +30,7 @@ use Rattle.limbo_stmt_parts.specs.declared.start.Region.TheVariants as region
 use Rattle.limbo_stmt_parts.specs.Start.{Start, AtEmpty, AtBlock, AtIf, AtBranch, AtLabelled, AtJump, AtDeclare, AtOther, start}
 use Rattle.limbo_stmt_parts.specs.Heads.{star_alone, case_pattern_at, handler_pattern_at, head_at, front_at, ends, closing}
 use Rattle.limbo_stmt_parts.specs.Jumps.{ForHead, label_at, option_before, expr_before, for_head_at, spawned_at, jump_above}
-use Rattle.limbo_parser.specs.Stmts.{stmts_at, arm_at, arms_at, block_above, if_above, branch_above, begun, stmt_at, block_at}
+use Rattle.limbo_stmt_parser.specs.Stmts.{stmts_at, arm_at, arms_at, block_above, if_above, branch_above, begun, stmt_at, block_at}
 use Rattle.limbo_expr_parser.proofs.Laws.{expr_took, unary_took}
 use Rattle.limbo_decl_parser.proofs.Laws.{decl_took}
 use Rattle.limbo_stmt_parts.proofs.Fronts.{star_is, branch_key, jump_key, StartIs, start_is}

@@ -10,7 +10,7 @@ use Rattle.limbo_reading.specs.Lists.{until}
 use Rattle.limbo_reading.proofs.Steps.{kept_shorter}
 use Rattle.limbo_reading.proofs.Loops.{Going, until_start, going_more, going_end, going_fails}
 use Rattle.limbo_parser.specs.Sources.{at_end, top_at, tops_at}
-use Rattle.limbo_parser.proofs.Keep.{top_kept}
+use Rattle.limbo_parser.proofs.Keeps.{top_kept}
 
 abbrev pub Tops : ℕ → List Kind → List code_top.Top → List Kind → Type 0
 Tops b ts front rest = Going view_top (top_at b) (λ us. Ok (at_end us)) (until (top_at b) (λ us. Ok (at_end us)) (suc (length ts)) ts) front rest

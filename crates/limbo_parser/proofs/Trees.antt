@@ -17,11 +17,11 @@ use Rattle.limbo_reading.specs.Lists.{until}
 use Rattle.limbo_reading.proofs.Steps.{took_bind, took_choose, took_if, took_mark, took_key, took_name, after_mark_is, after_key_is, kept_shorter, Deepens}
 use Rattle.limbo_reading.proofs.Lists.{spell_all, Took, until_took, until_again}
 use Rattle.limbo_decl_parser.specs.Decls.{decl_at, fn_at}
-use Rattle.limbo_parser.specs.Stmts.{block_at}
+use Rattle.limbo_stmt_parser.specs.Stmts.{block_at}
 use Rattle.limbo_parser.specs.Sources.{defines, part_at, defined_at, expect_chars, top_at, is_last, at_end, tops_at, rest_at, implements_at, tree_at}
 use Rattle.limbo_expr_parts.specs.Strength.{begins_expr}
 use Rattle.limbo_decl_parser.proofs.Laws.{fn_again, fn_took, decl_again, decl_took}
-use Rattle.limbo_parser.proofs.Keep.{top_keeps}
+use Rattle.limbo_parser.proofs.Keeps.{top_keeps}
 use Rattle.limbo_parser.proofs.Deep.{tree_deepens}
 use Rattle.limbo_parser.proofs.Shapes.{GoodTop, tops_spelled, tops_are, tops_each}
 use Rattle.limbo_parser.proofs.Sound.{block_at_took}

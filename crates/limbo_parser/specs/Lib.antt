@@ -1,4 +1,3 @@
-pub mod Stmts
 pub mod Sources
 pub mod Parsing
 pub mod Refusals

@@ -10,7 +10,7 @@ use Rattle.limbo_reading.specs.declared.fault.Fault.TheVariants.{Syntax}
 use Rattle.limbo_reading.specs.Reading.{◌>>=◌, Reader, choose, after_mark, after_key, expect_mark, expect_key, expect_name}
 use Rattle.limbo_reading.specs.Lists.{until}
 use Rattle.limbo_decl_parser.specs.Decls.{decl_at, fn_at}
-use Rattle.limbo_parser.specs.Stmts.{block_at}
+use Rattle.limbo_stmt_parser.specs.Stmts.{block_at}
 
 -- whether a name begins a function's definition, and no declaration
 abbrev pub defines : List Kind → Bool

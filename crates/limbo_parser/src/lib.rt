@@ -2,14 +2,12 @@
 //!
 //! `parse` is the one call. Its clauses cite `IsTree` of `limbo_tree`, which is the grammar: a tree is answered exactly
 //! where the tokens have one of nesting up to 256, a fault of syntax only where they have none at all. `one_tree` says that
-//! they never have two. `specs/Stmts.antt` and `Sources.antt` have the readers as functions on lists of tokens, and each
-//! function of the code gives what its reader gives. What of statements holds no statements is `limbo_stmt_parts`. The
-//! checker of types stands on it.
+//! they never have two. `specs/Sources.antt` has the readers as functions on lists of tokens, and each function of the code
+//! gives what its reader gives. Statements are read by `limbo_stmt_parser`. The checker of types stands on it.
 #![tactic(auto)]
 
 mod laws;
 mod source;
-mod stmt;
 mod tree;
 
 pub use laws::one_tree;

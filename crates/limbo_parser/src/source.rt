@@ -6,13 +6,13 @@ ghost use Rattle.limbo_tree.specs.View.{view_fn, view_block, view_top, view_sour
 ghost use Rattle.limbo_reading.specs.Reading.{kinds, Gives};
 ghost use Rattle.limbo_parser.specs.Sources as sources;
 
-use crate::stmt::block_at;
 use inf_text::Text;
 use limbo_decl_parser::{decl_at, fn_at};
 use limbo_lexer::{Key, Kind, Mark, Token};
 use limbo_reading::{
     ReadError, after_key, after_mark, expect_key, expect_mark, expect_name, place, syntax,
 };
+use limbo_stmt_parser::block_at;
 use limbo_tree::{Function, Name, Source, Top};
 use std::alloc::Global;
 
@@ -52,7 +52,11 @@ fn defined_at(
     tokens: &[Token],
 ) -> Result<(Box<Function>, &[Token]), ReadError>
     requires { budget < 1000 }
-    ensures { Gives (λ x. (Defined x.0.value.name.text (name_of x.0.value.part) (view_fn x.0.value.of) (view_block x.0.value.body), kinds x.1.now)) result (sources.defined_at budget (kinds tokens.now)) }
+    ensures { Gives (λ x. (
+      Defined x.0.value.name.text (name_of x.0.value.part) (view_fn x.0.value.of) (view_block x.0.value.body),
+      kinds x.1.now,
+    )) result
+        (sources.defined_at budget (kinds tokens.now)) }
 {
     let (name, rest) = expect_name(tokens)?;
     let (part, rest) = part_at(rest)?;

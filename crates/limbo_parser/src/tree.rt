@@ -69,11 +69,14 @@ pub fn parse(alloc: Global, tokens: &[Token], included: bool) -> Result<Source, 
     // What is answered is the tree of the tokens.
     ensures found { IfOk result (λ s. IsTree included (kinds tokens.now) (view_source s) × (source_nesting (view_source s) ≤ 256)) }
     // A tree within the limit is answered, unless memory runs out.
-    ensures only { (s : sources.Source) → IsTree included (kinds tokens.now) s → source_nesting s ≤ 256 → MatchResult result (λ x. view_source x ≡ s) (λ e. e ≡ ParseFault.NoMemory) }
+    ensures only { (s : sources.Source) → IsTree included (kinds tokens.now) s → source_nesting s ≤ 256
+        → MatchResult result (λ x. view_source x ≡ s) (λ e. e ≡ ParseFault.NoMemory) }
     // Where tokens are refused, no tree within the limit has them.
-    ensures refused { IfErr result (λ e. e ≢ ParseFault.NoMemory → (s : sources.Source) → IsTree included (kinds tokens.now) s → source_nesting s ≤ 256 → ⊥) }
+    ensures refused { IfErr result (λ e. e ≢ ParseFault.NoMemory
+        → (s : sources.Source) → IsTree included (kinds tokens.now) s → source_nesting s ≤ 256 → ⊥) }
     // A fault of syntax says that no tree has them, however deep.
-    ensures syntax { (token : ℕ) → result ≡ Err (ParseFault.Syntax token) → (s : sources.Source) → IsTree included (kinds tokens.now) s → ⊥ }
+    ensures syntax { (token : ℕ) → result ≡ Err (ParseFault.Syntax token)
+        → (s : sources.Source) → IsTree included (kinds tokens.now) s → ⊥ }
     // More than 256 tokens stand before a fault of depth.
     ensures too_deep { (token : ℕ) → result ≡ Err (ParseFault.TooDeep token) → 256 < token }
     // The token of a fault is one of these, or the place behind the last.

@@ -1,3 +1,2 @@
-pub mod Postfixes
 pub mod Fronts
 pub mod Patterns

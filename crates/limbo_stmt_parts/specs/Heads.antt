@@ -4,7 +4,8 @@ use Rattle.limbo_lexer.specs.declared.token.Kind.{Kind}
 use Rattle.limbo_lexer.specs.declared.token.Kind.TheVariants as kind
 use Rattle.limbo_lexer.specs.declared.token.Mark.TheVariants as mark
 use Rattle.limbo_lexer.specs.declared.token.Key.TheVariants as key
-use Rattle.limbo_tree.specs.Stmts.{Head, CaseHead, AltHead, PickHead, HandlerHead, Pattern, AnyValue, Value, Range, HandlerPattern, Text, Declared, AnyException}
+use Rattle.limbo_tree.specs.Stmts.{Head, CaseHead, AltHead, PickHead, HandlerHead, Pattern, AnyValue}
+use Rattle.limbo_tree.specs.Stmts.{Value, Range, HandlerPattern, Text, Declared, AnyException}
 use Rattle.limbo_reading.specs.declared.fault.Fault.{Fault}
 use Rattle.limbo_reading.specs.declared.fault.Fault.TheVariants.{Syntax, TooDeep}
 use Rattle.limbo_reading.specs.declared.fault.ReadError.{ReadError}

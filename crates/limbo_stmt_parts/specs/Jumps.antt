@@ -10,7 +10,7 @@ use Rattle.limbo_reading.specs.Reading.{◌>>=◌, Reader, choose, after_mark, a
 use Rattle.limbo_expr_parser.specs.Exprs.{readers}
 use Rattle.limbo_stmt_parts.specs.declared.start.Jump.{Jump}
 use Rattle.limbo_stmt_parts.specs.declared.start.Jump.TheVariants as jump
-use Rattle.limbo_stmt_parts.specs.declared.jump.ForHead as code_head
+use Rattle.limbo_stmt_parts.specs.declared.parts.ForHead as code_head
 
 -- [ID]
 unfoldable pub label_at : Reader (Option (List ℕ))

@@ -162,7 +162,8 @@ pub fn case_front_at(
     tokens: &[Token],
 ) -> Result<(Vec<Pattern>, &[Token]), ReadError>
     requires { budget < 1000 }
-    ensures { Gives (λ x. (CaseHead (map view_pattern x.0.items), kinds x.1.now)) result (heads.front_at budget region.Case (kinds tokens.now)) }
+    ensures { Gives (λ x. (CaseHead (map view_pattern x.0.items), kinds x.1.now)) result
+        (heads.front_at budget region.Case (kinds tokens.now)) }
 {
     let (patterns, rest) = case_patterns_at(alloc, budget, tokens)?;
     let rest = expect_mark(Mark::FatArrow, rest)?;
@@ -213,7 +214,8 @@ pub fn handler_front_at(
     budget: u32,
     tokens: &[Token],
 ) -> Result<(Vec<HandlerPattern>, &[Token]), ReadError>
-    ensures { Gives (λ x. (HandlerHead (map view_handler_pattern x.0.items), kinds x.1.now)) result (heads.front_at budget region.Handler (kinds tokens.now)) }
+    ensures { Gives (λ x. (HandlerHead (map view_handler_pattern x.0.items), kinds x.1.now)) result
+        (heads.front_at budget region.Handler (kinds tokens.now)) }
 {
     let (patterns, rest) = handler_patterns_at(alloc, tokens)?;
     let rest = expect_mark(Mark::FatArrow, rest)?;

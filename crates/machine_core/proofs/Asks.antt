@@ -3,7 +3,7 @@ use Rattle.std.proofs.Common.{◌≡◌, ◌≢◌, ℕ, true, List, [], ◌∷�
 use Rattle.std.specs.Prelude.{◌==◌}
 use Rattle.sys_print.specs.declared.writing.Request.{Request}
 use Rattle.sys_print.specs.Printing.{view_request}
-use Rattle.dis_control_ops.specs.declared.process.Asking.{Asking}
+use Rattle.dis_data_ops.specs.declared.process.Asking.{Asking}
 use Rattle.dis_control_ops.specs.Outcomes.{IsAsked}
 use Rattle.machine_core.specs.declared.running.Doing.TheVariants as doing
 use Rattle.machine_core.specs.declared.running.Turn.{Turn}

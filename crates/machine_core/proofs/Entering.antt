@@ -7,8 +7,8 @@ use Rattle.process_model.specs.Plain.{no_names}
 use Rattle.dis_file.specs.declared.object.Object.{Object}
 use Rattle.system_model.specs.Trace.{Trace}
 use Rattle.dis_meaning.specs.Process.{Process}
-use Rattle.dis_meaning.specs.Opening.{◌>>=◌}
-use Rattle.dis_control_ops.specs.View.{view_process}
+use Rattle.inf_text.specs.Options.{◌>>=◌}
+use Rattle.dis_data_ops.specs.View.{view_process}
 use Rattle.machine_core.specs.declared.event.Event.{Event}
 use Rattle.machine_core.specs.declared.event.Event.TheVariants as event
 use Rattle.machine_core.specs.declared.state.Running.{Running}

@@ -17,7 +17,7 @@ use Rattle.machine_core.specs.Journal.{State, Fault, fault_in, or_else, unless_f
 use Rattle.process_model.specs.Machine as machine
 use Rattle.process_model.specs.Plain.{no_names}
 use Rattle.styx_msg.specs.declared.message.Rmsg.{Rmsg}
-use Rattle.dis_meaning.specs.Opening.{◌>>=◌}
+use Rattle.inf_text.specs.Options.{◌>>=◌}
 use Rattle.machine_core.specs.Running.{state_with, told_by, stands_after, HadTurns, stands_heard, told_heard, hears, IsHeard, MeansReply}
 use Rattle.machine_core.specs.Frames.{requests}
 use Rattle.machine_core.specs.Ends.{breaches}

@@ -8,7 +8,8 @@ use Rattle.std.proofs.lemmas.List.{drop_all, length-drop}
 use Rattle.std.proofs.lemmas.Str.{is_utf8-from_IsUtf8, chars_from_encodes}
 use Rattle.styx_decoding.proofs.Texts.{is_utf8-bad}
 use Rattle.dis_meaning.specs.Words.{Word, Plain, stored}
-use Rattle.dis_meaning.specs.Opening.{◌>>=◌, if_found, characters, with_numbers}
+use Rattle.inf_text.specs.Options.{◌>>=◌}
+use Rattle.dis_meaning.specs.Opening.{if_found, characters, with_numbers}
 
 pub characters_spelled : (bytes text : List ℕ) → encode_utf8_all text ≡ bytes → all_scalars text ≡ true → characters bytes ≡ Some text
 characters_spelled bytes text e s =

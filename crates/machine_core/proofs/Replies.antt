@@ -17,7 +17,7 @@ use Rattle.styx_decoding.proofs.Fields.{IsBytes}
 use Rattle.styx_decoding.proofs.Rows.{r_kind_is, r_direction}
 use Rattle.styx_decoding.proofs.Frames.{framed, determined}
 use Rattle.styx_decoding.proofs.Frames as frames
-use Rattle.dis_meaning.specs.Opening.{◌>>=◌}
+use Rattle.inf_text.specs.Options.{◌>>=◌}
 use Rattle.machine_core.specs.Journal.{Tagged, has_size, whole, reply_in}
 
 module _ (bytes : List ℕ) (tag : ℕ) (m : Rmsg) (b : Begins r_row bytes tag m (length bytes)) where

@@ -15,7 +15,7 @@ use Rattle.system_model.specs.World as outside
 use Rattle.system_model.specs.Prints.{Writing, Answers, NoReply, hear, took, go_on, refused}
 use Rattle.dis_meaning.specs.Process.{Process, Printing, Does}
 use Rattle.dis_meaning.specs.Step.{heard}
-use Rattle.dis_meaning.specs.Opening.{◌>>=◌}
+use Rattle.inf_text.specs.Options.{◌>>=◌}
 use Rattle.machine_core.specs.declared.event.Event.TheVariants as event
 use Rattle.machine_core.specs.Journal.{State, longest, machine_rules, fault_in, unless_faulted, reply_in, has_tag, asker_from, meant, happens}
 use Rattle.machine_core.specs.Taken.{IsReplyTo}

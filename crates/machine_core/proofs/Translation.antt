@@ -4,7 +4,8 @@ use Rattle.styx_msg.specs.declared.message.Rmsg.{Rmsg}
 use Rattle.process_model.specs.Machine as model
 use Rattle.process_model.specs.Plain.{no_names}
 use Rattle.dis_file.specs.declared.object.Object.{Object}
-use Rattle.dis_meaning.specs.Opening.{Opened, ◌>>=◌}
+use Rattle.inf_text.specs.Options.{◌>>=◌}
+use Rattle.dis_meaning.specs.Opening.{Opened}
 use Rattle.machine_core.specs.declared.event.Event.{Event}
 use Rattle.machine_core.specs.Journal.{State, Fault, fault_in, unless_faulted, longest, machine_rules, meant, happens, replay, begins, start_of, state_after}
 use Rattle.machine_core.specs.Translated.{translated, Translates}

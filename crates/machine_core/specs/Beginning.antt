@@ -3,9 +3,9 @@ use Rattle.std.specs.Prelude.{◌≡◌, ℕ, List, map, Option, Some, None, Res
 use Rattle.dis_file.specs.declared.object.Object.{Object}
 use Rattle.dis_meaning.specs.Words.{Word, blank}
 use Rattle.dis_meaning.specs.Opening as opening
-use Rattle.dis_meaning.specs.Opening.{◌>>=◌}
-use Rattle.dis_control_ops.specs.Words.{view_words}
-use Rattle.dis_control_ops.specs.View.{view_content, view_process, view_world}
+use Rattle.inf_text.specs.Options.{◌>>=◌}
+use Rattle.dis_data_ops.specs.Words.{view_words}
+use Rattle.dis_data_ops.specs.View.{view_content, view_process, view_world}
 use Rattle.machine_core.specs.declared.opening.Data.{Data}
 use Rattle.machine_core.specs.declared.opening.Opened.{Opened}
 use Rattle.machine_core.specs.declared.opening.StartFault.{StartFault}

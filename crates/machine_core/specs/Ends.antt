@@ -61,7 +61,8 @@ at_limit limit n live = if nat_le limit n && live then Some end.Limit else None
 -- stuck, and no block or reference is refused.
 abbrev pub ended_in : (limit quanta : ℕ) → State → Option End
 ended_in limit n s =
-    or_else (at_limit limit n (any_live s.processes)) (or_else (faulted (fault_in s.trace)) (over (any_live s.processes) (breaches s.trace)))
+    or_else (at_limit limit n (any_live s.processes))
+    (or_else (faulted (fault_in s.trace)) (over (any_live s.processes) (breaches s.trace)))
 
 -- Want of memory comes before all.
 abbrev pub end_of : (lacks : Bool) → (limit quanta : ℕ) → State → Option End

@@ -1,5 +1,6 @@
 -- What happens to a machine: quanta of instructions, and replies. A journal is the list of what happened, and determines the state.
-use Rattle.std.specs.Prelude.{◌≡◌, ◌≤◌, ℕ, zero, suc, Bool, false, List, [], ◌∷◌, length, drop, Option, Some, None, nat_le, ◌==◌, ◌&&◌, if◌then◌else◌}
+use Rattle.std.specs.Prelude.{◌≡◌, ◌≤◌, ℕ, zero, suc, Bool, false, List, [], ◌∷◌, length}
+use Rattle.std.specs.Prelude.{drop, Option, Some, None, nat_le, ◌==◌, ◌&&◌, if◌then◌else◌}
 use Rattle.styx_msg.specs.declared.message.Rmsg.{Rmsg}
 use Rattle.byteorder.specs.Endian.{little_number}
 use Rattle.styx_msg.specs.Styx.{stated_size, stated_type}
@@ -18,7 +19,8 @@ use Rattle.system_model.specs.Limits.{frames_limit}
 use Rattle.dis_meaning.specs.World.{World}
 use Rattle.dis_meaning.specs.Process.{Process, Printing}
 use Rattle.dis_meaning.specs.Rules.{rules}
-use Rattle.dis_meaning.specs.Opening.{Opened, opened, ◌>>=◌}
+use Rattle.inf_text.specs.Options.{◌>>=◌}
+use Rattle.dis_meaning.specs.Opening.{Opened, opened}
 use Rattle.machine_core.specs.declared.event.Event.{Event}
 use Rattle.machine_core.specs.declared.event.Event.TheVariants as event
 
@@ -61,7 +63,9 @@ whole tag body = if length body.1 == 0 then Some (record { tag = tag; reply = bo
 -- The reply that bytes are, all of them (Styx manual, section 5, intro): their size, a type, a tag and a body.
 unfoldable pub reply_in : List ℕ → Option Tagged
 reply_in bytes =
-    if has_size bytes then r_kind_of (stated_type bytes) >>= (λ kind. r_body_at kind (drop 7 bytes) >>= whole (little_number 2 (drop 5 bytes))) else None
+    if has_size bytes
+    then r_kind_of (stated_type bytes) >>= (λ kind. r_body_at kind (drop 7 bytes) >>= whole (little_number 2 (drop 5 bytes)))
+    else None
 
 -- Whether a process waits for the reply under this tag.
 abbrev pub has_tag : ℕ → Option Printing → Bool

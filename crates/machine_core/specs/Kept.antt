@@ -1,5 +1,6 @@
 -- What a machine keeps beside its process: the requests to be handed over, and how processes ended.
-use Rattle.std.specs.Prelude.{◌≡◌, ◌≢◌, ℕ, zero, suc, ◌-◌, ◌<◌, ◌≤◌, Bool, false, List, [], ◌∷◌, length, take, drop, map, slice_get, Option, Some, None}
+use Rattle.std.specs.Prelude.{◌≡◌, ◌≢◌, ℕ, zero, suc, ◌-◌, ◌<◌, ◌≤◌, Bool, false, List, []}
+use Rattle.std.specs.Prelude.{◌∷◌, length, take, drop, map, slice_get, Option, Some, None}
 use Rattle.std.specs.Option.{option_map}
 use Rattle.std.specs.Vec.{vec_len, vec_capacity}
 use Rattle.dis_file.specs.declared.object.Object.{Object}
@@ -59,7 +60,8 @@ pub record Keeps (told : Trace) (o : Outcome) : Type 0 where
 
 -- What a machine keeps at every moment. Its journal is sound, and leads to the state in which its process runs, perhaps after a quantum
 -- that want of memory cut short; what was told is kept. A process goes on only where none came to a wrong instruction.
-pub record IsKept (objects : List Object) (limit : ℕ) (journal : List Event) (entered : ℕ) (cut : Option ℕ) (lacks : Bool) (r : Running) (o : Outcome) : Type 0 where
+pub record IsKept (objects : List Object) (limit : ℕ) (journal : List Event) (entered : ℕ) (cut : Option ℕ) (lacks : Bool)
+    (r : Running) (o : Outcome) : Type 0 where
   pub leads : LeadsTo objects journal cut r
   pub keeps : Keeps (told_after objects journal cut) o
   pub counted : entered ≡ quanta journal

@@ -12,9 +12,9 @@ use Rattle.system_model.specs.Ending.{Ended, Broken, Faulted}
 use Rattle.system_model.specs.Trace.{Trace}
 use Rattle.sys_print.specs.Printing.{view_request}
 use Rattle.dis_meaning.specs.Process.{Process}
-use Rattle.dis_control_ops.specs.declared.process.Asking.{Asking}
+use Rattle.dis_data_ops.specs.declared.process.Asking.{Asking}
 use Rattle.dis_control_ops.specs.Outcomes.{IsAsked}
-use Rattle.dis_control_ops.specs.View.{view_process, view_world}
+use Rattle.dis_data_ops.specs.View.{view_process, view_world}
 use Rattle.machine_core.specs.declared.event.Event.TheVariants as code
 use Rattle.machine_core.specs.declared.running.Doing.{Doing}
 use Rattle.machine_core.specs.declared.running.Doing.TheVariants as doing
@@ -67,7 +67,8 @@ module _ (objects : List Object) where
 
   -- So many instructions were obeyed.
   abbrev pub HadTurns : Running → Running → (count : ℕ) → Turn → Type 0
-  HadTurns old new count t = (told : Trace) → turns (machine_rules objects) no_names 0 count (state_with old told) ≡ Some (state_with new (told ++ told_by t))
+  HadTurns old new count t =
+      (told : Trace) → turns (machine_rules objects) no_names 0 count (state_with old told) ≡ Some (state_with new (told ++ told_by t))
 
 -- ---- replies
 

@@ -7,5 +7,6 @@ use Rattle.machine_core.specs.declared.state.Running.{Running}
 use Rattle.machine_core.specs.declared.outcome.Outcome.{Outcome}
 use Rattle.machine_core.specs.Kept.{IsKept}
 
-pub kept_once : (objects : List Object) (limit : ℕ) (journal : List Event) (entered : ℕ) (cut : Option ℕ) (lacks : Bool) (r : Running) (o : Outcome) → IsProp (IsKept objects limit journal entered cut lacks r o)
+pub kept_once : (objects : List Object) (limit : ℕ) (journal : List Event) (entered : ℕ) (cut : Option ℕ) (lacks : Bool)
+    (r : Running) (o : Outcome) → IsProp (IsKept objects limit journal entered cut lacks r o)
 kept_once objects limit journal entered cut lacks r o = hlevel props

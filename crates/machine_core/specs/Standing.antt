@@ -4,8 +4,8 @@ use Rattle.std.specs.Global.{Vec}
 use Rattle.system_model.specs.Trace.{Trace}
 use Rattle.dis_file.specs.declared.object.Object.{Object}
 use Rattle.sys_print.specs.Sent.{IsSent}
-use Rattle.dis_control_ops.specs.declared.process.Asking.{Asking}
-use Rattle.dis_control_ops.specs.View.{codes_of}
+use Rattle.dis_data_ops.specs.declared.process.Asking.{Asking}
+use Rattle.dis_data_ops.specs.View.{codes_of}
 use Rattle.machine_core.specs.declared.event.Event.{Event}
 use Rattle.machine_core.specs.declared.event.Event.TheVariants as event
 use Rattle.machine_core.specs.declared.machine.Machine.{Machine}

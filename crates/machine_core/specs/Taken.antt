@@ -19,5 +19,6 @@ IsReplyTo k _ = ⊥
 -- A reply to the request that the one process waits for, spelled under its tag on the console's link, can happen: it is never refused.
 abbrev pub RepliesHappen : Type 0
 RepliesHappen =
-    (objects : List Object) (s : State) (p : Process) (k : Printing) (a : Rmsg) → s.processes ≡ Asking p ∷ [] → p.printing ≡ Some k → fault_in s.trace ≡ None →
+    (objects : List Object) (s : State) (p : Process) (k : Printing) (a : Rmsg)
+    → s.processes ≡ Asking p ∷ [] → p.printing ≡ Some k → fault_in s.trace ≡ None →
     IsReplyTo k.writing a → Fits k.writing.tag (r_row a) → IsSome (happens objects s (event.Reply 1 (spelling k.writing.tag (r_row a))))

@@ -22,7 +22,9 @@ module _ (objects : List Object) where
 pub record Translates (objects : List Object) (journal : List Event) (t : State) : Type 0 where
   pub opened : Opened
   pub opens : start_of objects ≡ Some opened
-  pub replays : model.replay (machine_rules objects) no_names longest (begins_code opened.world opened.first) (translated objects (begins opened) journal) ≡ Some t
+  pub replays : model.replay (machine_rules objects) no_names longest (begins_code opened.world opened.first)
+      (translated objects (begins opened) journal) ≡ Some t
 
 abbrev pub JournalsTranslate : Type 0
-JournalsTranslate = (objects : List Object) (journal : List Event) (t : State) → state_after objects journal ≡ Some t → Translates objects journal t
+JournalsTranslate =
+    (objects : List Object) (journal : List Event) (t : State) → state_after objects journal ≡ Some t → Translates objects journal t

@@ -2,16 +2,16 @@
 //!
 //! `Machine::start` begins with an object. `quantum` runs a process that is ready, `take_reply` enters a reply, `next_frame` hands over
 //! the oldest request of a link; `ready` and `is_ready` say which process can go on, `ended` how the run has ended, and `broken` which
-//! processes broke; `into_parts` gives the journal, the objects and the processes that broke. A machine keeps by its type, in the field `kept`, that its journal
-//! is sound and leads to the state that it is in: what a run did is told by its journal alone.
+//! processes broke; `into_parts` gives the journal, the objects and the processes that broke. A machine keeps by its type, in the field
+//! `kept`, that its journal is sound and leads to the state that it is in: what a run did is told by its journal alone.
 //!
 //! `specs/` in the order of reading: `Journal` (what happens, and the state that a journal leads to), `Frames` (the requests), `Ends` (how
 //! a run has ended), `Translated` (a replay here is one of process_model), `Beginning` and `Running` (the data of the program as the
 //! definitions have it, and what an instruction and a reply tell), `Kept` (what a machine keeps), `Sets` (it has one proof), `Standing`
 //! (what calls do to a machine), `Taken` (which replies are taken).
 //!
-//! `opening` makes the world that an object opens with, `state` is the process that runs, `running` runs instructions and hears replies, `outcome` keeps what was told,
-//! `machine` enters quanta and replies, `reply` reads replies, `standing` answers questions.
+//! `opening` makes the world that an object opens with, `state` is the process that runs, `running` runs instructions and hears replies,
+//! `outcome` keeps what was told, `machine` enters quanta and replies, `reply` reads replies, `standing` answers questions.
 #![tactic(auto)]
 
 mod end;

@@ -2,7 +2,7 @@
 
 ghost use Rattle.std.specs.Prelude.{◌≡◌, ◌+◌, ◌-◌, ◌<◌, ◌≤◌, ℕ, false, None, OnOk, OnErr, IfOk, IfErr, is_err, length};
 ghost use Rattle.std.specs.Vec.{vec_len, vec_capacity};
-ghost use Rattle.dis_control_ops.specs.View.{codes_of};
+ghost use Rattle.dis_data_ops.specs.View.{codes_of};
 ghost use Rattle.machine_core.specs.Kept as kept;
 ghost use Rattle.machine_core.specs.Kept.{IsKept};
 ghost use Rattle.machine_core.specs.Sets.{kept_once};

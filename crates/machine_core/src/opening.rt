@@ -3,11 +3,11 @@
 ghost use Rattle.std.specs.Prelude.{◌≡◌, ◌≤◌, ℕ, Some, None, length, pos, slice_get, IfOk, IfErr, MatchOption, MatchResult, drop};
 ghost use Rattle.dis_meaning.specs.Opening as meaning;
 ghost use Rattle.dis_meaning.specs.Words.{stored};
-ghost use Rattle.dis_control_ops.specs.Words.{view_word, view_words};
-ghost use Rattle.dis_control_ops.specs.View.{view_process, view_world};
+ghost use Rattle.dis_data_ops.specs.Words.{view_word, view_words};
+ghost use Rattle.dis_data_ops.specs.View.{view_process, view_world};
 ghost use Rattle.machine_core.specs.Beginning.{view_data, view_opened, blank_type, Puts, Gives};
 
-use dis_control_ops::{Content, Proc, Store, Word, blank, first_process, put};
+use dis_data_ops::{Content, Proc, Store, Word, blank, first_process, put};
 use dis_file::{Item, Object};
 use inf_text::{Text, TextFault};
 use std::alloc::{AllocError, AllocFailed, Global};
@@ -66,7 +66,8 @@ pub(crate) struct Opened {
 
 /// Stores a word, where one of its kind stands.
 fn put_word(words: &mut Vec<Word>, offset: u64, new: Word) -> Result<(), StartFault>
-    ensures { Puts result (meaning.if_found (stored (view_words words.old.items) (pos offset) (view_word new))) (view_words words.new.items) }
+    ensures { Puts result (meaning.if_found (stored (view_words words.old.items) (pos offset) (view_word new)))
+        (view_words words.new.items) }
 {
     let Ok(at) = i64::try_from(offset) else {
         return Err(StartFault::NoMemory);

@@ -55,7 +55,8 @@ impl Outcome {
     pub(crate) fn tell(&mut self, last: Turn)
         requires room { HasRoom self.old }
         requires sound { self.old.fault ≡ None }
-        ensures asked { (link : ℕ) → frames_on link self.new.outbox.items ≡ frames_on link self.old.outbox.items ++ requests link (told_by last) }
+        ensures asked { (link : ℕ)
+            → frames_on link self.new.outbox.items ≡ frames_on link self.old.outbox.items ++ requests link (told_by last) }
         ensures broke { map view_broken self.new.broken.items ≡ map view_broken self.old.broken.items ++ breaches (told_by last) }
         ensures faulted { option_map view_fault self.new.fault ≡ fault_in (told_by last) }
     {

@@ -2,7 +2,7 @@
 
 ghost use Rattle.std.specs.Prelude.{◌≡◌, ◌<◌, ◌≤◌, List, IfSome, MatchOption};
 ghost use Rattle.dis_file.specs.declared.object.Object.{Object as Code};
-ghost use Rattle.dis_control_ops.specs.View.{codes_of};
+ghost use Rattle.dis_data_ops.specs.View.{codes_of};
 ghost use Rattle.machine_core.specs.Running.{stands_after, stands_heard, IsTurn, HadTurns, IsHeard, NotHeard, Sent};
 
 use crate::state::Running;
@@ -121,7 +121,8 @@ impl Running {
     /// What a reply does to a process that waits for one, or `None` where it is none to the process's request.
     pub(crate) fn hear(&mut self, alloc: Global, reply: &Rmsg) -> Option<Turn>
         requires { self.old.doing ≡ Doing.Asking }
-        ensures heard { (objects : List Code) → MatchOption result (NotHeard objects reply.now self.old self.new) (IsHeard objects reply.now self.old self.new) }
+        ensures heard { (objects : List Code)
+            → MatchOption result (NotHeard objects reply.now self.old self.new) (IsHeard objects reply.now self.old self.new) }
         ensures stands { IfSome result (λ t. self.new.doing ≡ stands_heard t) }
         ensures sent { IfSome result (λ t. Sent t self.new.process.printing) }
     {

@@ -108,7 +108,8 @@ impl Machine {
 
     /// The oldest request of a link that wasn't handed over yet, or `None` where there is none.
     pub fn next_frame(&mut self, link: u32) -> Option<Vec<u8>>
-        ensures frame { MatchOption result ((waiting self.old link ≡ []) × (waiting self.new link ≡ [])) (λ f. waiting self.old link ≡ f.items ∷ waiting self.new link) }
+        ensures frame { MatchOption result ((waiting self.old link ≡ []) × (waiting self.new link ≡ []))
+            (λ f. waiting self.old link ≡ f.items ∷ waiting self.new link) }
         ensures others { (other : ℕ) → other ≢ link → waiting self.new other ≡ waiting self.old other }
         ensures kept { OnlyOutbox self.old self.new }
     {

@@ -1,10 +1,10 @@
 //! The process that runs.
 
 ghost use Rattle.dis_meaning.specs.Given.{HasGiven, given_once};
-ghost use Rattle.dis_control_ops.specs.View.{view_process, view_world};
+ghost use Rattle.dis_data_ops.specs.View.{view_process, view_world};
 
 use crate::running::Doing;
-use dis_control_ops::{Proc, Store};
+use dis_data_ops::{Proc, Store};
 
 /// The process that runs, and what processes share.
 #[derive(Drop)]

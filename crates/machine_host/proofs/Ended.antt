@@ -9,8 +9,9 @@ use Rattle.machine_core.specs.declared.end.End.TheVariants as end
 use Rattle.machine_core.specs.declared.machine.Machine.{Machine}
 use Rattle.std.proofs.KnownBytes.{Appends-nil}
 use Rattle.dis_file.specs.declared.object.Object.{Object}
-use Rattle.dis_control_ops.specs.View.{codes_of}
-use Rattle.dis_meaning.specs.Opening.{Opened, ◌>>=◌}
+use Rattle.dis_data_ops.specs.View.{codes_of}
+use Rattle.inf_text.specs.Options.{◌>>=◌}
+use Rattle.dis_meaning.specs.Opening.{Opened}
 use Rattle.machine_core.specs.declared.running.Doing.TheVariants as doing
 use Rattle.machine_core.specs.Kept.{frames_on, told_after, trace_in, view_broken}
 use Rattle.machine_core.specs.Journal.{quanta, cut_events, cut_short, start_of, replay, begins}

@@ -14,8 +14,8 @@ use Rattle.styx_msg.specs.Styx.{spelling, t_row, r_row, Fits}
 use Rattle.process_model.specs.Process as model
 use Rattle.dis_meaning.specs.Process.{Process, Printing}
 use Rattle.sys_print.specs.Sent.{IsSent}
-use Rattle.dis_control_ops.specs.declared.process.Asking.{Asking}
-use Rattle.dis_control_ops.specs.View.{view_process, view_asking, codes_of}
+use Rattle.dis_data_ops.specs.declared.process.Asking.{Asking}
+use Rattle.dis_data_ops.specs.View.{view_process, view_asking, codes_of}
 use Rattle.machine_core.specs.declared.event.Event.TheVariants as event
 use Rattle.machine_core.specs.declared.machine.Machine.{Machine}
 use Rattle.machine_core.specs.declared.running.Doing.{Doing}

@@ -21,7 +21,7 @@ use Rattle.dis_meaning.specs.Words as words
 use Rattle.dis_meaning.specs.World.{World}
 use Rattle.dis_meaning.specs.Process.{Process, Printing, Does, or_fault, stands_still}
 use Rattle.dis_meaning.specs.Step.{answer, heard, hears}
-use Rattle.dis_meaning.specs.Opening.{◌>>=◌}
+use Rattle.inf_text.specs.Options.{◌>>=◌}
 use Rattle.machine_core.specs.declared.event.Event.TheVariants as event
 use Rattle.machine_core.specs.Journal.{State, Fault, Tagged, fault_in, unless_faulted, longest, machine_rules, reply_in, asker, meant, happens}
 use Rattle.machine_core.proofs.Replies.{reads}

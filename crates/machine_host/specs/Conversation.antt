@@ -26,7 +26,8 @@ pub record Reached (objects : List Object) (limit : ℕ) (events : List Event) (
 -- first of the requests that its replay makes: the journal's replies are its answers to them, but perhaps for the last, and the output
 -- took what it wrote for these. It answers `i/o error` only where the output's count of faults rose. The end is that of the
 -- definition, or want of memory; where it isn't that, no quantum was cut short, all requests were served, and all answers entered.
-pub record Conversation (objects : List Object) (limit : ℕ) (events : List Event) (t : State) (old new : Option (List ℕ)) (faults_before faults_after : ℕ) (how : End) : Type 0 where
+pub record Conversation (objects : List Object) (limit : ℕ) (events : List Event) (t : State) (old new : Option (List ℕ))
+    (faults_before faults_after : ℕ) (how : End) : Type 0 where
   pub reached : Reached objects limit events t
   pub ended : (how ≡ end.NoMemory) ⊎ (ended_in limit (quanta events) t ≡ Some how)
   pub uncut : how ≢ end.NoMemory → reached.cut ≡ None

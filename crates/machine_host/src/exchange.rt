@@ -2,7 +2,7 @@
 
 ghost use Rattle.std.specs.Prelude.{◌≡◌, ◌≤◌, ◌<◌, ◌⊎◌, ℕ, List, [], ◌∷◌, Option, Some, None, true, false, OnOk, OnErr};
 ghost use Rattle.inf_ports.specs.Outside.{Rose};
-ghost use Rattle.dis_control_ops.specs.declared.process.Asking.{Asking};
+ghost use Rattle.dis_data_ops.specs.declared.process.Asking.{Asking};
 ghost use Rattle.sys_print.specs.Sent.{IsSent};
 ghost use Rattle.machine_core.specs.declared.running.Doing.TheVariants as doing;
 ghost use Rattle.machine_core.specs.declared.reply.ReplyFault.TheVariants.{NoMemory};

@@ -27,14 +27,16 @@ fn serve_one<K: Sink>(
 ) -> Result<bool, AllocError>
     requires able { machine.old.lacks ≡ false }
     requires pends { Pends machine.old }
-    ensures went { OnOk result ((start : Option (List ℕ)) → Talk machine.old (waiting machine.old 1) start (K.held out.old) console.old.failed
+    ensures went { OnOk result ((start : Option (List ℕ))
+        → Talk machine.old (waiting machine.old 1) start (K.held out.old) console.old.failed
         → Talk machine.new (waiting machine.new 1) start (K.held out.new) console.new.failed) }
     ensures pends { OnOk result (Pends machine.new) }
     ensures able { OnOk result (machine.new.lacks ≡ false) }
     ensures less { IfOk result (λ more. more ≡ true → left machine.new < left machine.old) }
     ensures calm { IfOk result (λ more. more ≡ false → Calm machine.new) }
     ensures quanta { OnOk result (SameQuanta machine.old machine.new) }
-    ensures stopped { OnErr result ((start : Option (List ℕ)) → Talk machine.old (waiting machine.old 1) start (K.held out.old) console.old.failed
+    ensures stopped { OnErr result ((start : Option (List ℕ))
+        → Talk machine.old (waiting machine.old 1) start (K.held out.old) console.old.failed
         → Heard machine.new start (K.held out.new) console.new.failed) }
     ensures same { SameProgram machine.old machine.new }
     ensures failed { console.new.failed ≡ true → (console.old.failed ≡ true) ⊎ Rose (K.faults out.old) (K.faults out.new) }
@@ -59,12 +61,14 @@ fn serve<K: Sink>(
 ) -> Result<(), AllocError>
     requires able { machine.old.lacks ≡ false }
     requires pends { Pends machine.old }
-    ensures went { OnOk result ((start : Option (List ℕ)) → Talk machine.old (waiting machine.old 1) start (K.held out.old) console.old.failed
+    ensures went { OnOk result ((start : Option (List ℕ))
+        → Talk machine.old (waiting machine.old 1) start (K.held out.old) console.old.failed
         → Talk machine.new (waiting machine.new 1) start (K.held out.new) console.new.failed) }
     ensures able { OnOk result (machine.new.lacks ≡ false) }
     ensures calm { OnOk result (Calm machine.new) }
     ensures quanta { OnOk result (SameQuanta machine.old machine.new) }
-    ensures stopped { OnErr result ((start : Option (List ℕ)) → Talk machine.old (waiting machine.old 1) start (K.held out.old) console.old.failed
+    ensures stopped { OnErr result ((start : Option (List ℕ))
+        → Talk machine.old (waiting machine.old 1) start (K.held out.old) console.old.failed
         → Heard machine.new start (K.held out.new) console.new.failed) }
     ensures same { SameProgram machine.old machine.new }
     ensures failed { console.new.failed ≡ true → (console.old.failed ≡ true) ⊎ Rose (K.faults out.old) (K.faults out.new) }
@@ -89,12 +93,14 @@ fn go_on<K: Sink>(
     requires calm { Calm machine.old }
     requires ready { CanGo machine.old pid }
     requires left { machine.old.entered < machine.old.limit }
-    ensures went { OnOk result ((start : Option (List ℕ)) → Talk machine.old (waiting machine.old 1) start (K.held out.old) console.old.failed
+    ensures went { OnOk result ((start : Option (List ℕ))
+        → Talk machine.old (waiting machine.old 1) start (K.held out.old) console.old.failed
         → Talk machine.new (waiting machine.new 1) start (K.held out.new) console.new.failed) }
     ensures able { OnOk result (machine.new.lacks ≡ false) }
     ensures calm { OnOk result (Calm machine.new) }
     ensures quanta { OnOk result (quanta machine.new.journal.items ≡ quanta machine.old.journal.items + 1) }
-    ensures stopped { OnErr result ((start : Option (List ℕ)) → Talk machine.old (waiting machine.old 1) start (K.held out.old) console.old.failed
+    ensures stopped { OnErr result ((start : Option (List ℕ))
+        → Talk machine.old (waiting machine.old 1) start (K.held out.old) console.old.failed
         → Heard machine.new start (K.held out.new) console.new.failed) }
     ensures same { SameProgram machine.old machine.new }
     ensures failed { console.new.failed ≡ true → (console.old.failed ≡ true) ⊎ Rose (K.faults out.old) (K.faults out.new) }
@@ -116,11 +122,13 @@ fn converse<K: Sink>(
 ) -> Result<(), AllocError>
     requires able { machine.old.lacks ≡ false }
     requires calm { Calm machine.old }
-    ensures went { OnOk result ((start : Option (List ℕ)) → Talk machine.old (waiting machine.old 1) start (K.held out.old) console.old.failed
+    ensures went { OnOk result ((start : Option (List ℕ))
+        → Talk machine.old (waiting machine.old 1) start (K.held out.old) console.old.failed
         → Talk machine.new (waiting machine.new 1) start (K.held out.new) console.new.failed) }
     ensures calm { OnOk result (Calm machine.new) }
     ensures ended { OnOk result (HasEnded machine.new) }
-    ensures stopped { OnErr result ((start : Option (List ℕ)) → Talk machine.old (waiting machine.old 1) start (K.held out.old) console.old.failed
+    ensures stopped { OnErr result ((start : Option (List ℕ))
+        → Talk machine.old (waiting machine.old 1) start (K.held out.old) console.old.failed
         → Heard machine.new start (K.held out.new) console.new.failed) }
     ensures same { SameProgram machine.old machine.new }
     ensures failed { console.new.failed ≡ true → (console.old.failed ≡ true) ⊎ Rose (K.faults out.old) (K.faults out.new) }
@@ -151,7 +159,8 @@ pub struct Ran {
 /// doesn't end the run: the console refuses each later write.
 pub fn run_machine<K: Sink>(alloc: Global, machine: Machine, out: &mut K) -> Ran
     requires begun { HasBegun machine.objects machine.limit machine }
-    ensures conversation { Leads (codes machine) machine.limit result (K.held out.old) (K.held out.new) (K.faults out.old) (K.faults out.new) }
+    ensures conversation { Leads (codes machine) machine.limit result
+        (K.held out.old) (K.held out.new) (K.faults out.old) (K.faults out.new) }
     ensures objects { result.objects ≡ machine.objects }
     ensures later { K.faults out.old ≤ K.faults out.new }
 {

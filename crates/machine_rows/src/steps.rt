@@ -3,9 +3,8 @@
 ghost use Rattle.std.specs.Prelude.{◌≡◌, IfOk};
 
 use crate::objects::{inst, seq};
-use dis_control_ops::{
-    Content, Fault, Heard, Stepped, Store, Word, answer, blank, first_process, put, step,
-};
+use dis_control_ops::{Heard, Stepped, answer, step};
+use dis_data_ops::{Content, Fault, Store, Word, blank, first_process, put};
 use dis_file::{Import, Object, TypeDesc};
 use dis_isa::{Inst, Middle, Op, Operand};
 use inf_text::{Seq, Text};
@@ -114,7 +113,7 @@ fn calls_and_prints(rt: HostRuntime) -> Result<(), Fail> {
     let heard = answer(rt.alloc(), &Rmsg::Write { count: 5 }, &mut store, &mut proc);
     assert!(rt; matches!(&heard, Heard::Went));
     assert!(rt; proc.made.is_empty() && proc.frame.pc == 12);
-    assert!(rt; proc.frame.words.as_slice().get(8) == Some(&Word::Plain(5)));
+    assert!(rt; matches!(proc.frame.words.as_slice().get(8), Some(Word::Plain(5))));
     let stepped = step(rt.alloc(), 2, &objects, &mut store, &mut proc);
     assert!(rt; matches!(&stepped, Stepped::Fault(Fault::DeadAddress)));
     Ok(())

@@ -18,7 +18,7 @@ use Rattle.styx_msg.specs.declared.message.Qid.{Qid}
 use Rattle.styx_msg.specs.Styx.{Field, number, text_bytes, qid_bytes}
 use Rattle.styx_msg.specs.Styx.{field_bytes, fields_bytes, Row, row, IsText}
 use Rattle.styx_msg.specs.Styx.{IsQid, IsField}
-use Rattle.styx_msg.specs.Steps.{◌>>=◌}
+use Rattle.inf_text.specs.Options.{◌>>=◌}
 use Rattle.styx_decoding.specs.Reading.{Read, number_at, characters, text_at, qid_at, items_at, walk_at}
 use Rattle.styx_decoding.specs.Reading.{counted_at}
 

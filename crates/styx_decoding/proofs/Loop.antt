@@ -5,7 +5,7 @@ use Rattle.std.proofs.lemmas.List.{append-nil}
 use Rattle.styx_msg.specs.declared.fault.StyxFault.{StyxFault}
 use Rattle.styx_msg.specs.declared.fault.StyxFault.TheVariants.{NoMemory, BadSize, BadType, BadBody, TooLong}
 use Rattle.styx_msg.specs.Answers.{FailsAs}
-use Rattle.styx_msg.specs.Steps.{◌>>=◌}
+use Rattle.inf_text.specs.Options.{◌>>=◌}
 use Rattle.styx_decoding.specs.Reading.{Read, items_at}
 
 -- what was read before, and what is still read

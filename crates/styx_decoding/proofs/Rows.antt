@@ -19,7 +19,7 @@ use Rattle.styx_decoding.specs.declared.kind.RKind.TheVariants as rk
 use Rattle.styx_msg.specs.Styx.{Field, number, text, qid, names, qids, counted, text_bytes, qid_bytes}
 use Rattle.styx_msg.specs.Styx.{field_bytes, fields_bytes, entry, entry_bytes, entry_fields, Row, row, t_row}
 use Rattle.styx_msg.specs.Styx.{r_row, IsText, IsQid, IsField}
-use Rattle.styx_msg.specs.Steps.{◌>>=◌}
+use Rattle.inf_text.specs.Options.{◌>>=◌}
 use Rattle.styx_decoding.specs.Reading.{Read, number_at, text_at, qid_at, walk_at, entry_fields_at, entry_at}
 use Rattle.styx_decoding.specs.Reading.{t_number, t_kinds, t_kind_of, t_body_at, r_number, r_kinds, r_kind_of}
 use Rattle.styx_decoding.specs.Reading.{r_body_at}

@@ -3,7 +3,7 @@ use Rattle.std.specs.Prelude.{ℕ, zero, suc, ◌+◌, List, [], ◌∷◌, leng
 use Rattle.std.specs.Prelude.{◌==◌, if◌then◌else◌, find}
 use Rattle.std.specs.Str.{chars, is_utf8}
 use Rattle.byteorder.specs.Endian.{little_number}
-use Rattle.styx_msg.specs.Steps.{◌>>=◌}
+use Rattle.inf_text.specs.Options.{◌>>=◌}
 use Rattle.styx_msg.specs.declared.message.Qid.{Qid}
 use Rattle.styx_msg.specs.declared.message.Stat.{Stat}
 use Rattle.styx_msg.specs.declared.message.Tmsg.{Tmsg}

@@ -19,7 +19,7 @@ use Rattle.styx_msg.specs.declared.message.Rmsg.TheVariants as r
 use Rattle.styx_msg.specs.Styx.{Field, number, size, text, qid, names, qids, counted, text_bytes, qid_bytes}
 use Rattle.styx_msg.specs.Styx.{field_bytes, fields_bytes, entry, entry_bytes, entry_fields, Row, t_row, r_row}
 use Rattle.styx_msg.specs.Styx.{IsShortField, IsShortEnough, IsField, Fits}
-use Rattle.styx_msg.specs.Steps.{◌>>=◌}
+use Rattle.inf_text.specs.Options.{◌>>=◌}
 use Rattle.styx_encoding.specs.Writing.{put_text, put_each, put_names, put_qids, put_counted, put, put_all}
 use Rattle.styx_msg.specs.Answers.{FailsAs, Gives, IsEncoding}
 use Rattle.styx_msg.specs.Answers.{OrNoMemory}

@@ -14,7 +14,7 @@ use Rattle.styx_msg.specs.declared.fault.StyxFault.{StyxFault}
 use Rattle.styx_msg.specs.declared.fault.StyxFault.TheVariants.{NoMemory, BadSize, BadType, BadBody, TooLong}
 use Rattle.styx_msg.specs.declared.message.Stat.{Stat}
 use Rattle.styx_msg.specs.Answers.{FailsAs}
-use Rattle.styx_msg.specs.Steps.{◌>>=◌}
+use Rattle.inf_text.specs.Options.{◌>>=◌}
 use Rattle.styx_msg.specs.Styx.{size, entry, entry_bytes, entry_fields}
 use Rattle.styx_encoding.specs.Writing.{text_size, put_text, put_each, put, put_all, entry_size, put_entry}
 

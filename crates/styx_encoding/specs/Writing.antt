@@ -5,7 +5,7 @@ use Rattle.std.specs.List.{flat_map}
 use Rattle.byteorder.specs.Endian.{little_bytes}
 use Rattle.styx_msg.specs.declared.message.Qid.{Qid}
 use Rattle.styx_msg.specs.declared.message.Stat.{Stat}
-use Rattle.styx_msg.specs.Steps.{◌>>=◌}
+use Rattle.inf_text.specs.Options.{◌>>=◌}
 use Rattle.styx_msg.specs.Styx.{Field, number, size, text, qid, names, qids, counted, qid_bytes, entry_fields}
 
 -- How many bytes the UTF-8 of a text takes, of at most 65,535.

@@ -1,3 +1,2 @@
 pub mod Styx
-pub mod Steps
 pub mod Answers

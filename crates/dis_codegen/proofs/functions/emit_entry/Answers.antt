@@ -1,7 +1,8 @@
 use Rattle.std.proofs.Common.{◌<◌, ◌++◌, length, ap, arith}
 use Rattle.std.proofs.lemmas.List.{length-map}
 use Rattle.core_code.specs.View.{view_function}
-use Rattle.dis_codegen.proofs.Ready.{seen, ready_length, ready_entry, ready_small, entry_some}
+use Rattle.dis_codegen.proofs.Ready.{ready_length, ready_entry, ready_small, entry_some}
+use Rattle.dis_tables.proofs.Seen.{seen}
 use Rattle.dis_codegen.proofs.functions.emit_entry.Goals as goal
 
 pub bounds-entries-number : goal.bounds-entries-number

@@ -1,6 +1,6 @@
 use Rattle.std.proofs.Common.{◌≡◌, ◌++◌, ◌+◌, length, map, drop}
 use Rattle.core_code.specs.View.{view_inst}
-use Rattle.dis_codegen.specs.Code.{all_data, insts_code}
+use Rattle.dis_tables.specs.Code.{all_data, insts_code}
 use Rattle.dis_codegen.specs.Site.{context_of, function_of}
 use Rattle.dis_codegen.proofs.functions.emit_function.Given as goal
 

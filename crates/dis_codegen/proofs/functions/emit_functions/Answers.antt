@@ -1,10 +1,11 @@
 use Rattle.std.proofs.Common.{◌≡◌, ◌+◌, ◌++◌, map, drop, length, get_or, sym, ap, ◌∙◌, arith, length-append}
 use Rattle.std.proofs.lemmas.List.{at_drop_more, length-map}
 use Rattle.core_code.specs.View.{view_inst, view_function}
-use Rattle.dis_codegen.specs.Code.{sizes, all_data}
-use Rattle.dis_codegen.specs.Objects.{module_data}
-use Rattle.dis_codegen.specs.Sites.{places_from}
-use Rattle.dis_codegen.proofs.Ready.{seen, ready_stands, ready_length, ready_entry, ready_end, ready_data}
+use Rattle.dis_tables.specs.Code.{sizes, all_data}
+use Rattle.dis_tables.specs.Objects.{module_data}
+use Rattle.dis_tables.specs.Sites.{places_from}
+use Rattle.dis_codegen.proofs.Ready.{ready_stands, ready_length, ready_entry, ready_end, ready_data}
+use Rattle.dis_tables.proofs.Seen.{seen}
 use Rattle.dis_codegen.proofs.functions.emit_functions.Goals as goal
 
 pub bounds-entries-number : goal.bounds-entries-number

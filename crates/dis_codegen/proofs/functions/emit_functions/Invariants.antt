@@ -1,6 +1,6 @@
 use Rattle.std.proofs.Common.{◌≡◌, ◌++◌, ◌+◌, length, map, drop}
 use Rattle.core_code.specs.View.{view_function}
-use Rattle.dis_codegen.specs.Objects.{functions_code, module_data}
+use Rattle.dis_tables.specs.Objects.{functions_code, module_data}
 use Rattle.dis_codegen.proofs.functions.emit_functions.Given as goal
 
 -- The code so far and that of the functions that are left are the whole; so are the data.

@@ -3,8 +3,8 @@ use Rattle.std.proofs.lemmas.List.{length-map}
 use Rattle.core_code.specs.declared.code.CoreFn.{CoreFn}
 use Rattle.core_code.specs.View.{view_function, view_module}
 use Rattle.dis_codegen.specs.declared.fault.GenFault.TheVariants.{CodeTooLarge}
-use Rattle.dis_codegen.specs.Objects.{find, entry, entry_length, functions_code, all_code}
-use Rattle.dis_codegen.specs.Sites.{functions_size}
+use Rattle.dis_tables.specs.Objects.{find, entry, entry_length, functions_code, all_code}
+use Rattle.dis_tables.specs.Sites.{functions_size}
 use Rattle.dis_codegen.proofs.CodeSize.{code_long}
 use Rattle.dis_codegen.proofs.Kept.{is_few}
 use Rattle.dis_codegen.proofs.object.generate.Goals as goal

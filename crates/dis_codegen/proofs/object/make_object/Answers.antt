@@ -2,10 +2,10 @@ use Rattle.std.proofs.Common.{◌+◌, ◌*◌, length, map, sym, ap, ◌∙◌,
 use Rattle.std.proofs.lemmas.List.{length-map}
 use Rattle.core_code.specs.Code.{Module}
 use Rattle.core_code.specs.View.{view_function}
-use Rattle.dis_codegen.specs.Objects.{find, module_data, object_of}
-use Rattle.dis_codegen.specs.Sites.{IsReady}
+use Rattle.dis_tables.specs.Objects.{find, module_data, object_of}
+use Rattle.dis_tables.specs.Sites.{IsReady}
 use Rattle.dis_codegen.proofs.Ready.{ready_few, ready_data}
-use Rattle.dis_codegen.proofs.Words.{items_length}
+use Rattle.dis_tables.proofs.Words.{items_length}
 use Rattle.dis_codegen.proofs.CodeSize.{ready_datum, ready_arguments}
 use Rattle.dis_codegen.proofs.Assembly.{object_is}
 use Rattle.dis_codegen.proofs.object.make_object.Goals as goal

@@ -1,7 +1,7 @@
 use Rattle.std.proofs.Common.{◌≡◌, ◌≤◌, ◌+◌, map, drop}
 use Rattle.core_code.specs.View.{view_inst}
-use Rattle.dis_codegen.specs.Code.{sizes}
-use Rattle.dis_codegen.specs.Objects.{most_instructions}
+use Rattle.dis_tables.specs.Code.{sizes}
+use Rattle.dis_tables.specs.Objects.{most_instructions}
 use Rattle.dis_codegen.proofs.sizes.end_of.Given as goal
 
 abbrev pub invariant-loop-inst : goal.invariant-loop-inst

@@ -1,7 +1,7 @@
 use Rattle.std.proofs.Common.{◌≡◌, ◌≤◌, ◌++◌, ◌+◌, map, drop}
 use Rattle.core_code.specs.View.{view_function}
-use Rattle.dis_codegen.specs.Objects.{most_instructions}
-use Rattle.dis_codegen.specs.Sites.{functions_size, entries_from}
+use Rattle.dis_tables.specs.Objects.{most_instructions}
+use Rattle.dis_tables.specs.Sites.{functions_size, entries_from}
 use Rattle.dis_codegen.proofs.sizes.entries_of.Given as goal
 
 -- The entries so far and those that are left are the whole.

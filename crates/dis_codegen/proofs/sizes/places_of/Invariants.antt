@@ -1,7 +1,7 @@
 use Rattle.std.proofs.Common.{◌≡◌, ◌++◌, ◌+◌, map, drop}
 use Rattle.core_code.specs.View.{view_inst}
-use Rattle.dis_codegen.specs.Code.{sizes}
-use Rattle.dis_codegen.specs.Sites.{places_from}
+use Rattle.dis_tables.specs.Code.{sizes}
+use Rattle.dis_tables.specs.Sites.{places_from}
 use Rattle.dis_codegen.proofs.sizes.places_of.Given as goal
 
 -- The places so far and those that are left are the whole.

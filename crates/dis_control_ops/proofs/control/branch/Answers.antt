@@ -1,6 +1,6 @@
 use Rattle.std.proofs.Common.{ap, ◌∙◌}
 use Rattle.dis_meaning.specs.Step as meaning
-use Rattle.dis_control_ops.specs.View.{view_process}
+use Rattle.dis_data_ops.specs.View.{view_process}
 use Rattle.dis_control_ops.proofs.control.branch.Goals as goal
 
 pub returns-then-taken : goal.returns-then-taken

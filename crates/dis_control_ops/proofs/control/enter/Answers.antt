@@ -1,7 +1,7 @@
 use Rattle.std.proofs.Common.{◌<◌, ◌+◌, length, ap, ◌∙◌, add-one, arith}
 use Rattle.dis_meaning.specs.Process.{at_pc}
-use Rattle.dis_control_ops.specs.declared.frame.Frame as code_frame
-use Rattle.dis_control_ops.specs.Frames.{view_frame}
+use Rattle.dis_data_ops.specs.declared.frame.Frame as code_frame
+use Rattle.dis_data_ops.specs.Frames.{view_frame}
 use Rattle.dis_control_ops.proofs.Calling.{entered_once, entered_is}
 use Rattle.dis_control_ops.proofs.control.enter.Goals as goal
 

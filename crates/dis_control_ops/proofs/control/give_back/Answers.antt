@@ -1,5 +1,5 @@
 use Rattle.std.proofs.Common.{ap, arith}
-use Rattle.dis_control_ops.specs.Frames.{view_frames, count}
+use Rattle.dis_data_ops.specs.Frames.{view_frames, count}
 use Rattle.dis_control_ops.proofs.Calling.{count_pushed}
 use Rattle.dis_control_ops.proofs.control.give_back.Goals as goal
 

@@ -1,7 +1,7 @@
 use Rattle.std.proofs.Common.{ap, ◌∙◌}
 use Rattle.dis_meaning.specs.Words.{Found, ◌>>=◌}
 use Rattle.dis_meaning.specs.Step as meaning
-use Rattle.dis_control_ops.specs.View.{view_process}
+use Rattle.dis_data_ops.specs.View.{view_process}
 use Rattle.dis_control_ops.proofs.control.jump.Goals as goal
 
 pub returns-clause-gives : goal.returns-clause-gives

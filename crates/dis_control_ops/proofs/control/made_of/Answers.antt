@@ -5,10 +5,10 @@ use Rattle.dis_meaning.specs.Words.{Found, Wrong, ◌>>=◌, type_check}
 use Rattle.dis_meaning.specs.Places.{words_in, all_frames}
 use Rattle.dis_meaning.specs.Step.{made_frame, frame_of}
 use Rattle.dis_meaning.specs.Process.{Frame, Process}
-use Rattle.dis_control_ops.specs.Frames.{view_frames, count, IsAt}
-use Rattle.dis_control_ops.specs.View.{view_process}
-use Rattle.dis_control_ops.proofs.Serials.{made_at_place, none_made}
-use Rattle.dis_control_ops.proofs.Written.{once}
+use Rattle.dis_data_ops.specs.Frames.{view_frames, count, IsAt}
+use Rattle.dis_data_ops.specs.View.{view_process}
+use Rattle.dis_control_ops.proofs.Made.{made_at_place, none_made}
+use Rattle.dis_data_ops.proofs.Written.{once}
 use Rattle.dis_control_ops.proofs.control.made_of.Goals as goal
 
 -- An address of 64 bits that is the number zero.

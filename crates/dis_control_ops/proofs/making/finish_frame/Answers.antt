@@ -1,9 +1,9 @@
 use Rattle.std.proofs.Common.{List, [], ◌∷◌}
 use Rattle.std.specs.Prelude.{pos}
 use Rattle.dis_meaning.specs.Words.{InFrame, Word, Address}
-use Rattle.dis_control_ops.specs.View.{view_process, view_world}
-use Rattle.dis_control_ops.specs.Spots.{view_spot}
-use Rattle.dis_control_ops.specs.Storing.{memory, resting}
+use Rattle.dis_data_ops.specs.View.{view_process, view_world}
+use Rattle.dis_data_ops.specs.Spots.{view_spot}
+use Rattle.dis_data_ops.specs.Storing.{memory, resting}
 use Rattle.dis_control_ops.proofs.Calling.{written_given}
 use Rattle.dis_control_ops.proofs.making.finish_frame.Goals as goal
 

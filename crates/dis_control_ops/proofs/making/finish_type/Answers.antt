@@ -1,9 +1,9 @@
 use Rattle.std.proofs.Common.{ap, sym, ◌∙◌}
-use Rattle.dis_control_ops.specs.Words.{view_words}
-use Rattle.dis_control_ops.specs.Frames.{view_frames}
-use Rattle.dis_control_ops.specs.View.{view_process, view_world}
-use Rattle.dis_control_ops.specs.Spots.{view_spot}
-use Rattle.dis_control_ops.specs.Storing.{frame_stored}
+use Rattle.dis_data_ops.specs.Words.{view_words}
+use Rattle.dis_data_ops.specs.Frames.{view_frames}
+use Rattle.dis_data_ops.specs.View.{view_process, view_world}
+use Rattle.dis_data_ops.specs.Spots.{view_spot}
+use Rattle.dis_control_ops.specs.Made.{frame_stored}
 use Rattle.dis_control_ops.proofs.making.finish_type.Goals as goal
 
 pub returns-in-Err-clause-gives : goal.returns-in-Err-clause-gives

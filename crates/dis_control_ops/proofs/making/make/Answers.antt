@@ -1,5 +1,5 @@
-use Rattle.dis_control_ops.specs.declared.frame.Frame as code_frame
-use Rattle.dis_control_ops.specs.View.{view_world}
+use Rattle.dis_data_ops.specs.declared.frame.Frame as code_frame
+use Rattle.dis_data_ops.specs.View.{view_world}
 use Rattle.dis_control_ops.proofs.Calling.{made_once}
 use Rattle.dis_control_ops.proofs.making.make.Goals as goal
 

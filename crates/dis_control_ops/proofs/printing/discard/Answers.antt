@@ -1,10 +1,10 @@
 use Rattle.std.proofs.Common.{ap, sym, ◌∙◌, subst, arith}
 use Rattle.dis_meaning.specs.Process.{with_frames}
 use Rattle.dis_meaning.specs.Step.{without}
-use Rattle.dis_control_ops.specs.Frames.{view_frames, count, IsAt}
-use Rattle.dis_control_ops.specs.View.{view_process}
-use Rattle.dis_control_ops.proofs.Serials.{without_none}
-use Rattle.dis_control_ops.proofs.Written.{within}
+use Rattle.dis_data_ops.specs.Frames.{view_frames, count, IsAt}
+use Rattle.dis_data_ops.specs.View.{view_process}
+use Rattle.dis_control_ops.proofs.Made.{without_none}
+use Rattle.dis_data_ops.proofs.Written.{within}
 use Rattle.dis_control_ops.proofs.Calling.{count_without, made_without}
 use Rattle.dis_control_ops.proofs.printing.discard.Goals as goal
 

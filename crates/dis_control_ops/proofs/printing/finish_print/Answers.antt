@@ -5,10 +5,10 @@ use Rattle.dis_meaning.specs.Words.{Plain, Found, ◌>>=◌}
 use Rattle.dis_meaning.specs.Places.{Far}
 use Rattle.dis_meaning.specs.Step.{outside_is}
 use Rattle.sys_print.specs.Worlds as outside
-use Rattle.dis_control_ops.specs.Words.{view_place}
-use Rattle.dis_control_ops.specs.View.{view_process, view_world}
-use Rattle.dis_control_ops.specs.Storing.{written, moved_on}
-use Rattle.dis_control_ops.proofs.Going.{stored_then}
+use Rattle.dis_data_ops.specs.Words.{view_place}
+use Rattle.dis_data_ops.specs.View.{view_process, view_world}
+use Rattle.dis_data_ops.specs.Storing.{written, moved_on}
+use Rattle.dis_data_ops.proofs.Going.{stored_then}
 use Rattle.dis_control_ops.proofs.Discarding.{goes_without, store_left, store_gone}
 use Rattle.dis_control_ops.proofs.printing.finish_print.Goals as goal
 

@@ -1,8 +1,8 @@
 use Rattle.std.proofs.Common.{◌<◌, length, ap, sym, ◌∙◌, subst, arith}
 use Rattle.std.proofs.lemmas.Result.{err_from_is_err_and}
 use Rattle.dis_meaning.specs.Words.{◌>>=◌}
-use Rattle.dis_control_ops.specs.Words.{view_words, Halts}
-use Rattle.dis_control_ops.specs.View.{view_process, view_world}
+use Rattle.dis_data_ops.specs.Words.{view_words, Halts}
+use Rattle.dis_data_ops.specs.View.{view_process, view_world}
 use Rattle.dis_control_ops.specs.Made.{discarded}
 use Rattle.dis_control_ops.specs.Plans.{planned, carried_out}
 use Rattle.dis_control_ops.proofs.Discarding.{as_plan, halts_then, alone}

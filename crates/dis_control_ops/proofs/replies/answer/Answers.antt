@@ -1,5 +1,5 @@
 use Rattle.dis_meaning.proofs.Given.{answer_given}
-use Rattle.dis_control_ops.specs.View.{view_process, view_world}
+use Rattle.dis_data_ops.specs.View.{view_process, view_world}
 use Rattle.dis_control_ops.proofs.Telling.{given_heard}
 use Rattle.dis_control_ops.proofs.replies.answer.Goals as goal
 

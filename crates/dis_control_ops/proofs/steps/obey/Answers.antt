@@ -1,5 +1,5 @@
 use Rattle.dis_isa.specs.declared.op.Op.TheVariants as op
-use Rattle.dis_control_ops.specs.View.{view_process, view_world}
+use Rattle.dis_data_ops.specs.View.{view_process, view_world}
 use Rattle.dis_control_ops.proofs.Telling.{gives_at, gives_op}
 use Rattle.dis_control_ops.proofs.steps.obey.Goals as goal
 

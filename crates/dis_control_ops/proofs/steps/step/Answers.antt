@@ -1,5 +1,5 @@
 use Rattle.dis_meaning.proofs.Given.{step_given}
-use Rattle.dis_control_ops.specs.View.{view_process, view_world, codes_of}
+use Rattle.dis_data_ops.specs.View.{view_process, view_world, codes_of}
 use Rattle.dis_control_ops.proofs.Telling.{given_after}
 use Rattle.dis_control_ops.proofs.steps.step.Goals as goal
 

@@ -1,6 +1,6 @@
 use Rattle.std.proofs.Common.{◌-◌, ◌≤◌, ◌∙◌, ap, sym, drop, length, arith}
 use Rattle.std.proofs.lemmas.List.{drop_min, drop-map, take_all, length-drop}
-use Rattle.dis_control_ops.specs.Words.{view_word, view_words}
+use Rattle.dis_data_ops.specs.Words.{view_word, view_words}
 use Rattle.dis_control_ops.proofs.texts.arguments.Goals as goal
 
 pub returns : goal.returns

@@ -1,6 +1,6 @@
 use Rattle.std.proofs.Common.{◌≡◌, drop}
 use Rattle.dis_meaning.specs.Step.{numbers}
-use Rattle.dis_control_ops.specs.Words.{view_words}
+use Rattle.dis_data_ops.specs.Words.{view_words}
 use Rattle.dis_control_ops.proofs.Numbers.{joined}
 use Rattle.dis_control_ops.proofs.texts.numbers.Given as goal
 

@@ -3,7 +3,7 @@ use Rattle.std.proofs.lemmas.Bool.{eq-eqb, ne_eqb}
 use Rattle.std.proofs.lemmas.Result.{err_from_is_err_and}
 use Rattle.dis_format.specs.Loading.{opening}
 use Rattle.dis_format.specs.Reading.{items_at, data_at}
-use Rattle.dis_reading.specs.Filling.{loading_of}
+use Rattle.dis_filling.specs.Filling.{loading_of}
 use Rattle.dis_reading.proofs.Long.{items_go_on, items_end, items_fail_byte, items_fail, items_short}
 use Rattle.dis_reading.proofs.data.data_at.Goals as goal
 

@@ -1,7 +1,8 @@
 use Rattle.std.proofs.Common.{◌≡◌, ◌-◌, length}
 use Rattle.dis_format.specs.Loading.{opening}
 use Rattle.dis_format.specs.Reading.{items_at}
-use Rattle.dis_reading.specs.Filling.{loading_of, with_front}
+use Rattle.dis_filling.specs.Filling.{loading_of}
+use Rattle.dis_reading.specs.Body.{with_front}
 use Rattle.dis_reading.proofs.data.data_at.Given as goal
 
 abbrev pub invariant-loop : goal.invariant-loop

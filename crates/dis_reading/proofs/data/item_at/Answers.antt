@@ -1,4 +1,4 @@
-use Rattle.dis_reading.specs.Filling.{loading_of}
+use Rattle.dis_filling.specs.Filling.{loading_of}
 use Rattle.dis_reading.proofs.Long.{readable}
 use Rattle.dis_reading.proofs.data.item_at.Goals as goal
 

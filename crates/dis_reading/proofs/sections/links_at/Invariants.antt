@@ -1,6 +1,6 @@
 use Rattle.std.proofs.Common.{◌≡◌, ◌-◌}
 use Rattle.dis_format.specs.Reading.{many, link_at}
-use Rattle.dis_reading.specs.Filling.{with_front}
+use Rattle.dis_reading.specs.Body.{with_front}
 use Rattle.dis_reading.proofs.sections.links_at.Given as goal
 
 abbrev pub invariant-loop : goal.invariant-loop

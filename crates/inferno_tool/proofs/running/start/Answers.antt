@@ -1,5 +1,5 @@
 use Rattle.std.proofs.Common.{[], ◌∷◌, ◌++◌, Err, sym, ap, ◌∙◌}
-use Rattle.dis_control_ops.specs.View.{codes_of}
+use Rattle.dis_data_ops.specs.View.{codes_of}
 use Rattle.machine_core.specs.Journal.{start_of}
 use Rattle.machine_core.specs.declared.opening.StartFault.{StartFault}
 use Rattle.inferno_tool.proofs.Starts.{opens}

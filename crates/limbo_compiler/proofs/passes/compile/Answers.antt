@@ -2,8 +2,8 @@ use Rattle.std.proofs.Common.{sym, subst}
 use Rattle.core_code.specs.Code.{Module}
 use Rattle.limbo_small.specs.View.{view_module}
 use Rattle.limbo_lower.specs.Code.{module_code}
-use Rattle.dis_codegen.specs.Sites.{AllSmall}
-use Rattle.dis_codegen.proofs.Spelled.{spelled_at}
+use Rattle.dis_tables.specs.Sites.{AllSmall}
+use Rattle.dis_tables.proofs.Spelled.{spelled_at}
 use Rattle.code_sim.proofs.Small.{all_small}
 use Rattle.limbo_compiler.proofs.passes.compile.Goals as goal
 

@@ -1,7 +1,7 @@
 use Rattle.std.proofs.Common.{◌+◌, get_or, Some, pos, to_z, of_z, w32, sym, ap, ◌∙◌, arith}
 use Rattle.dis_meaning.specs.Words.{Plain, stored}
 use Rattle.dis_meaning.specs.Opening.{if_found}
-use Rattle.dis_control_ops.specs.Words.{view_words}
+use Rattle.dis_data_ops.specs.Words.{view_words}
 use Rattle.machine_core.proofs.Numbers.{four, number_is, number_put, rest_bad}
 use Rattle.machine_core.proofs.opening.put_numbers.Goals as goal
 

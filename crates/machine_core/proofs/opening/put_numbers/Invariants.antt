@@ -1,6 +1,6 @@
 use Rattle.std.proofs.Common.{length, ◌+◌, ◌-◌, ◌≡◌, ◌≤◌, drop}
 use Rattle.dis_meaning.specs.Opening.{with_numbers}
-use Rattle.dis_control_ops.specs.Words.{view_words}
+use Rattle.dis_data_ops.specs.Words.{view_words}
 use Rattle.machine_core.proofs.opening.put_numbers.Given as goal
 
 -- What is left to be put in comes to the same.

@@ -1,5 +1,5 @@
 use Rattle.dis_meaning.specs.Given.{HasGiven}
-use Rattle.dis_control_ops.specs.View.{view_process, view_world}
+use Rattle.dis_data_ops.specs.View.{view_process, view_world}
 use Rattle.machine_rows.proofs.steps.calls_and_prints.Given as goal
 
 -- Each frame has a serial that the machine gave.

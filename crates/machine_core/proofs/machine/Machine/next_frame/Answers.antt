@@ -1,7 +1,7 @@
 use Rattle.std.proofs.Common.{◌∷◌, sym, ap, ◌∙◌, subst}
 use Rattle.std.specs.List.{remove}
 use Rattle.std.proofs.lemmas.Option.{get_or_from_slice_get}
-use Rattle.dis_control_ops.specs.View.{codes_of}
+use Rattle.dis_data_ops.specs.View.{codes_of}
 use Rattle.machine_core.specs.Frames.{requests}
 use Rattle.machine_core.specs.Kept.{told_after, frames_on, IsOldest, EndsWith, Keeps}
 use Rattle.machine_core.proofs.Outbox.{handed, others_stay, left_over}

@@ -1,5 +1,5 @@
 use Rattle.std.proofs.Common.{◌++◌, true, refl, sym, ap, ◌∙◌, subst, arith, map}
-use Rattle.dis_control_ops.specs.View.{codes_of}
+use Rattle.dis_data_ops.specs.View.{codes_of}
 use Rattle.machine_core.specs.declared.running.Turn.TheVariants as turn
 use Rattle.machine_core.specs.Running.{told_by, stands_after, HadTurns}
 use Rattle.machine_core.specs.Frames.{requests}

@@ -1,5 +1,5 @@
 use Rattle.std.proofs.Common.{arith, inl, inr, sym, subst}
-use Rattle.dis_control_ops.specs.View.{codes_of}
+use Rattle.dis_data_ops.specs.View.{codes_of}
 use Rattle.machine_core.specs.Running.{HadTurns}
 use Rattle.machine_core.proofs.Stopping.{went_on, lacked, full, stopped}
 use Rattle.machine_core.proofs.state.Running.run.Goals as goal

@@ -2,7 +2,7 @@ use Rattle.std.proofs.Common.{◌-◌, ◌≡◌, ◌≤◌, Some}
 use Rattle.process_model.specs.Machine.{turns}
 use Rattle.process_model.specs.Plain.{no_names}
 use Rattle.system_model.specs.Trace.{Trace}
-use Rattle.dis_control_ops.specs.View.{codes_of}
+use Rattle.dis_data_ops.specs.View.{codes_of}
 use Rattle.machine_core.specs.declared.running.Doing.TheVariants.{Ready}
 use Rattle.machine_core.specs.Journal.{machine_rules}
 use Rattle.machine_core.specs.Running.{state_with}

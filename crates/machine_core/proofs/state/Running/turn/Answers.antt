@@ -2,8 +2,8 @@ use Rattle.std.proofs.Common.{[], ◌∷◌, ◌++◌, Some, sym, ap, ◌∙◌}
 use Rattle.process_model.specs.Process.{Gone, Over}
 use Rattle.system_model.specs.Ending.{Ended, Broken, Faulted}
 use Rattle.sys_print.specs.Printing.{view_request}
-use Rattle.dis_control_ops.specs.View.{codes_of, view_process, view_world}
-use Rattle.dis_control_ops.specs.Words.{number_of}
+use Rattle.dis_data_ops.specs.View.{codes_of, view_process, view_world}
+use Rattle.dis_data_ops.specs.Words.{number_of}
 use Rattle.machine_core.specs.Running.{view_doing, obeyed}
 use Rattle.machine_core.proofs.Turning.{one, went, asked, ended}
 use Rattle.machine_core.proofs.state.Running.turn.Goals as goal

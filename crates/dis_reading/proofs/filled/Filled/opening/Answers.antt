@@ -1,5 +1,0 @@
-use Rattle.std.proofs.Common.{refl}
-use Rattle.dis_reading.proofs.filled.Filled.opening.Goals as goal
-
-pub returns : goal.returns
-returns c = rw (c.new.ensures.items, c.new-2.ensures.items) refl

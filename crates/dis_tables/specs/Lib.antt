@@ -1,0 +1,5 @@
+pub mod Words
+pub mod Code
+pub mod Objects
+pub mod Sites
+pub mod Spelled

@@ -1,0 +1,4 @@
+pub mod Postfixes
+pub mod Keep
+pub mod Going
+pub mod Budget
