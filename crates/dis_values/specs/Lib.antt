@@ -1,4 +1,5 @@
 pub mod Making
 pub mod Texts
 pub mod Arrays
+pub mod Bytes
 pub mod Lists
