@@ -91,24 +91,24 @@ get_within [] i v e = absurd cc
 get_within (n ∷ ns) zero v e = omega arith
 get_within (n ∷ ns) (suc i) v e = (let l = get_within ns i v e in omega arith)
 
-set_get : (ns : List ℕ) (i v : ℕ) → i < length ns → slice_get (map plain (slice_set ns i v)) i ≡ Some (plain v)
+pub set_get : (ns : List ℕ) (i v : ℕ) → i < length ns → slice_get (map plain (slice_set ns i v)) i ≡ Some (plain v)
 set_get [] i v h = absurd (omega arith)
 set_get (n ∷ ns) zero v h = refl
 set_get (n ∷ ns) (suc i) v h = set_get ns i v (omega arith)
 
-set_apart : (ns : List ℕ) (i j v : ℕ) → j ≢ i → slice_get (map plain (slice_set ns i v)) j ≡ slice_get (map plain ns) j
+pub set_apart : (ns : List ℕ) (i j v : ℕ) → j ≢ i → slice_get (map plain (slice_set ns i v)) j ≡ slice_get (map plain ns) j
 set_apart [] i j v a = refl
 set_apart (n ∷ ns) zero zero v a = absurd (a refl)
 set_apart (n ∷ ns) zero (suc j) v a = refl
 set_apart (n ∷ ns) (suc i) zero v a = refl
 set_apart (n ∷ ns) (suc i) (suc j) v a = set_apart ns i j v (λ e. a (ap suc e))
 
-set_length : (ns : List ℕ) (i v : ℕ) → length (slice_set ns i v) ≡ length ns
+pub set_length : (ns : List ℕ) (i v : ℕ) → length (slice_set ns i v) ≡ length ns
 set_length [] i v = refl
 set_length (n ∷ ns) zero v = refl
 set_length (n ∷ ns) (suc i) v = omega (arith, set_length ns i v)
 
-map_length : (ns : List ℕ) → length (map plain ns) ≡ length ns
+pub map_length : (ns : List ℕ) → length (map plain ns) ≡ length ns
 map_length [] = refl
 map_length (n ∷ ns) = omega (arith, map_length ns)
 
@@ -296,7 +296,7 @@ pub made_plain : (h new : Store) (made size len : ℕ) (marks : List Bool) → a
     → Makes h new made (fresh (Array size len) (zeroed size marks len)) → IsPlain new made size
 made_plain h new made size len marks none bytes small m =
     let b = fresh (Array size len) (zeroed size marks len) in
-    let ns = replicate (words_for size len) 0 in
+    let ns : List ℕ = replicate (words_for size len) 0 in
     let here : at new made ≡ Some b = ap (λ (v : Store). at v made) m.makes ∙ ap (at (with_new h b)) m.serial ∙ new_there h b in
     let same : part_of new made ≡ record { array = made; from = 0; length = len } = ap (part_in made) here in
     let live : at new (part_of new made).array ≡ Some b = ap (λ (q : Part). at new q.array) same ∙ here in
@@ -311,7 +311,7 @@ made_plain h new made size len marks none bytes small m =
         live = live;
         numbers = ns;
         content = ap (λ (v : Bool). if v then wide (zeroed_words size marks 0 (words_for size len)) else compact ns) none;
-        enough = (let e : length (replicate (words_for size len) 0) ≡ words_for size len = length-replicate (words_for size len) 0 in omega arith);
+        enough = (let e : length ns ≡ words_for size len = length-replicate (words_for size len) 0 in omega arith);
       };
     }
 

@@ -2,4 +2,5 @@ pub mod Making
 pub mod Texts
 pub mod Arrays
 pub mod Bytes
+pub mod Copies
 pub mod Lists

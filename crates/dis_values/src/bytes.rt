@@ -56,7 +56,7 @@ fn byte_of_word(word: &Word, k: u32) -> u8
 }
 
 // Byte i of a block.
-fn byte_in_block(heap: &Heap, block: Ref, i: u32) -> u8
+pub(crate) fn byte_in_block(heap: &Heap, block: Ref, i: u32) -> u8
     ensures { (b : Block) → at heap.now block.serial ≡ Some b → result ≡ byte_of (words_of b) i }
 {
     match heap.get(block, i / 4) {
@@ -77,7 +77,7 @@ fn number_in_block(heap: &Heap, block: Ref, i: u32) -> u32
 }
 
 // Sets byte i of a block.
-fn put_byte(heap: &mut Heap, block: Ref, i: u32, value: u8)
+pub(crate) fn put_byte(heap: &mut Heap, block: Ref, i: u32, value: u8)
     requires { (bytes : ℕ) × HasBytes heap.old block.serial bytes × (i < bytes) }
     ensures set { SetsByte heap.old heap.new block.serial i value }
     ensures outside { (n : ℕ) → outside heap.new n ≡ outside heap.old n }

@@ -12,6 +12,7 @@
 mod arrays;
 mod bytes;
 mod conversions;
+mod copies;
 pub mod laws;
 mod lists;
 mod texts;
@@ -19,6 +20,7 @@ mod texts;
 pub use arrays::{Span, array_len, element, new_array, part, slice};
 pub use bytes::{byte_at, set_byte};
 pub use conversions::{number_in_text, text_of_number};
+pub use copies::{CopyFault, copy_plain};
 pub use lists::{cons, head, list_len, tail};
 pub use texts::{
     append, character, code_at, codes, compare_texts, join, new_text, set_code, sub_text, text_len,
