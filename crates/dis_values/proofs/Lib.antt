@@ -8,3 +8,4 @@ pub mod Consed
 pub mod Counted
 pub mod Replaced
 pub mod Taken
+pub mod Stays

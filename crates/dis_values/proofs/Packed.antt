@@ -175,7 +175,7 @@ part_kept h s k size length b b' is kind same = elim (eqb_tells s k) [
   | inr y ↦ ap (part_in s) (other_block h k b' s y.1)
 ]
 
-found_some : (o : Option Cell) (c : Cell) → Ok c ≡ found o → o ≡ Some c
+pub found_some : (o : Option Cell) (c : Cell) → Ok c ≡ found o → o ≡ Some c
 found_some None c e = absurd cc
 found_some (Some d) c e = (let f : c ≡ d = cc in ap (λ (x : Cell). Some x) (sym f))
 

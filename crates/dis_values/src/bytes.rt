@@ -109,7 +109,7 @@ pub fn set_byte(heap: &mut Heap, array: Ref, i: u32, value: u8) -> bool
     ensures bytes { result ≡ true → bytes_of heap.new array.serial ≡ slice_set (bytes_of heap.old array.serial) i value }
     ensures set { result ≡ true → SetsByte heap.old heap.new (part_of heap.old array.serial).array
         ((part_of heap.old array.serial).from + i) value }
-    ensures plain { IsPlain heap.new array.serial 1 }
+    ensures plain { (s size : ℕ) → IsPlain heap.old s size → IsPlain heap.new s size }
     ensures outside { (n : ℕ) → outside heap.new n ≡ outside heap.old n }
     ensures unchanged { result ≡ false → heap.new ≡ heap.old }
 {

@@ -151,7 +151,7 @@ fn copy_numbers(
 }
 
 // How many bytes an element of an array takes.
-fn element_size(heap: &Heap, array: Ref) -> u32
+pub(crate) fn element_size(heap: &Heap, array: Ref) -> u32
     ensures { (size len : ℕ) → IsWhole heap.now array.serial size len → result ≡ size }
 {
     match heap.kind_of(array) {

@@ -1,7 +1,8 @@
-ghost use Rattle.std.specs.Prelude.{◌≡◌, ◌≤◌, ◌∷◌, [], ℕ, List, Option, length, map};
+ghost use Rattle.std.specs.Prelude.{◌≡◌, ◌≤◌, ◌∷◌, [], ℕ, List, Option, Some, length, map};
 ghost use Rattle.ref_heap.specs.Words.{Cell, plain};
-ghost use Rattle.ref_heap.specs.Store.{Store, IsHeap};
-ghost use Rattle.dis_values.specs.Arrays.{elements};
+ghost use Rattle.ref_heap.specs.Store.{Store, Block, IsHeap, at, with_block, with_new, one_more};
+ghost use Rattle.ref_heap.specs.Drops.{IsPart};
+ghost use Rattle.dis_values.specs.Arrays.{IsArray, elements};
 ghost use Rattle.dis_values.specs.Bytes.{IsPlain, bytes_of};
 ghost use Rattle.dis_values.specs.Lists.{IsList};
 
@@ -13,4 +14,17 @@ pub fn bytes_are_elements()
 /// A list has no more elements than blocks were made: no two of its cells are one block.
 pub fn lists_are_short()
     ensures { (h : Store) (list : Option ℕ) (xs : List (List Cell)) → IsHeap h → IsList h list xs → length xs ≤ h.made }
+{}
+
+/// Where each block of a heap stays in another, which may have more and other counts, its arrays stay.
+pub fn arrays_stay()
+    ensures array { (old new : Store) (s : ℕ) → IsPart (at old) (at new) → IsArray old s → IsArray new s }
+    ensures elements { (old new : Store) (s : ℕ) → IsPart (at old) (at new) → IsArray old s → elements new s ≡ elements old s }
+    ensures plain { (old new : Store) (s size : ℕ) → IsPart (at old) (at new) → IsPlain old s size → IsPlain new s size }
+{}
+
+/// Each block stays where another is made, and where one has a reference more.
+pub fn blocks_stay()
+    ensures made { (h : Store) (b : Block) → IsHeap h → IsPart (at h) (at (with_new h b)) }
+    ensures held { (h : Store) (k : ℕ) (b : Block) → at h k ≡ Some b → IsPart (at h) (at (with_block h k (one_more b))) }
 {}
