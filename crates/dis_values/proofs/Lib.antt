@@ -1,5 +1,11 @@
 pub mod Made
 pub mod Parts
 pub mod Sliced
+pub mod Packed
+pub mod Written
+pub mod Copied
 pub mod Consed
+pub mod Counted
 pub mod Replaced
+pub mod Taken
+pub mod Stays

@@ -8,7 +8,8 @@ use Rattle.ref_heap.specs.Words.{Cell, cell_of, plain, refer, wide, compact, cel
 use Rattle.dis_values.proofs.Made.{naming_cons, plain_names}
 use Rattle.dis_values.specs.Arrays.{element, elements_in, zeroed_word, zeroed_words, zeroed, words_for, any_marked, is_marked}
 
-drop_elements : (size : ℕ) (words : List Cell) (f l a : ℕ) → a ≤ l → drop a (elements_in size words f l) ≡ elements_in size words (f + a) (l - a)
+pub drop_elements : (size : ℕ) (words : List Cell) (f l a : ℕ) → a ≤ l → drop a (elements_in size words f l) ≡ elements_in size words
+    (f + a) (l - a)
 drop_elements size words f l zero h = (let e : f + 0 ≡ f = omega arith in let g : l - 0 ≡ l = omega arith in sym (ap (λ i. elements_in size words i (l - 0)) e ∙ ap (elements_in size words f) g))
 drop_elements size words f zero (suc a) h = absurd (omega arith)
 drop_elements size words f (suc l) (suc a) h =
@@ -16,7 +17,7 @@ drop_elements size words f (suc l) (suc a) h =
     ∙ (let e : suc f + a ≡ f + suc a = omega arith in ap (λ i. elements_in size words i (l - a)) e)
     ∙ (let g : l - a ≡ suc l - suc a = omega arith in ap (elements_in size words (f + suc a)) g)
 
-take_elements : (size : ℕ) (words : List Cell) (f l k : ℕ) → k ≤ l → take k (elements_in size words f l) ≡ elements_in size words f k
+pub take_elements : (size : ℕ) (words : List Cell) (f l k : ℕ) → k ≤ l → take k (elements_in size words f l) ≡ elements_in size words f k
 take_elements size words f l zero h = refl
 take_elements size words f zero (suc k) h = absurd (omega arith)
 take_elements size words f (suc l) (suc k) h = ap (λ xs. element size words f ∷ xs) (take_elements size words (suc f) l k (omega arith))

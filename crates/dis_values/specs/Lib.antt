@@ -1,4 +1,6 @@
 pub mod Making
 pub mod Texts
 pub mod Arrays
+pub mod Bytes
+pub mod Copies
 pub mod Lists

@@ -1,4 +1,4 @@
-ghost use Rattle.std.specs.Prelude.{◌≡◌, ◌+◌, ◌<◌, ◌∷◌, [], ℕ, List, map, slice_get, Some, IfOk, IfErr, IsErr, OnOk, OnErr};
+ghost use Rattle.std.specs.Prelude.{◌≡◌, ◌+◌, ◌<◌, ◌∷◌, [], ℕ, List, length, map, slice_get, Some, IfOk, IfErr, IsErr, OnOk, OnErr};
 ghost use Rattle.ref_heap.specs.Words.{Cell as Word32, cell_of, naming, refer, wide};
 ghost use Rattle.ref_heap.specs.Store.{AreHeld, fresh, one, outside, with_new};
 ghost use Rattle.ref_heap.specs.Answers.{most, as_cell, found};
@@ -59,4 +59,20 @@ pub fn tail(heap: &Heap, list: Ref) -> Option<Ref>
         Ok(word) => word.reference(),
         Err(_) => None,
     }
+}
+
+/// How many elements a list has, and nil has none.
+pub fn list_len(heap: &Heap, list: Option<Ref>) -> u64
+    ensures { (xs : List (List Word32)) → IsList heap.now (serial_of list) xs → result ≡ length xs }
+{
+    heap.stands();
+    let made = heap.made();
+    let mut rest = list;
+    for i in 0..made {
+        match rest {
+            Some(cell) => rest = tail(heap, cell),
+            None => return i,
+        }
+    }
+    made
 }

@@ -69,6 +69,13 @@ impl Heap {
         let _ = &self.made;
     }
 
+    /// How many blocks were made; the serial of the last one.
+    pub fn made(&self) -> u64
+        ensures { result ≡ self.now.made }
+    {
+        self.made
+    }
+
     /// The numbers of open files whose blocks the last drop freed, rising.
     pub fn lost(&self) -> &[u32]
         ensures { result.now ≡ self.now.lost }
