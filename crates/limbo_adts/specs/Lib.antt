@@ -1,0 +1,5 @@
+pub mod Reaches
+pub mod Closed
+pub mod Reading
+pub mod Table
+pub mod Seen
