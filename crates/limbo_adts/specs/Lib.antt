@@ -3,3 +3,4 @@ pub mod Closed
 pub mod Reading
 pub mod Table
 pub mod Seen
+pub mod Searching

@@ -4,7 +4,7 @@ ghost use Rattle.std.specs.Prelude.{◌≡◌, ◌↔◌, ℕ, ◌<◌, ◌≤�
 ghost use Rattle.limbo_types.specs.Types.{Adt};
 ghost use Rattle.limbo_types.specs.View.{view_ty};
 ghost use Rattle.limbo_layout.specs.Adts.{AreNamed, Names};
-ghost use Rattle.limbo_layout.specs.Layout.{Fits, Laid, limit, map_of, Room as Taken};
+ghost use Rattle.limbo_layout.specs.Layout.{Fits, IsLayout, IsTooLarge, limit};
 ghost use Rattle.limbo_layout.specs.View.{view_defs};
 ghost use Rattle.limbo_layout.specs.declared.def.AdtsFault.TheVariants.{TooLarge};
 ghost use Rattle.limbo_layout.specs.declared.def.LayoutFault.TheVariants as layout_fault;
@@ -99,9 +99,9 @@ impl Adts {
     /// Want of memory. `TooLarge` exactly where it takes more than 65,536 bytes.
     pub fn layout(&self, alloc: Global, t: &Ty) -> Result<Layout, LayoutFault>
         requires { Names (defs_of self.now) (length self.now.modules) (view_ty t.now) }
-        ensures laid { IfOk result (λ l. (r : Taken) × Laid (defs_of self.now) (view_ty t.now) r × (l.size ≡ r.size) × (l.map.items ≡ map_of r)) }
+        ensures laid { IfOk result (λ l. IsLayout (defs_of self.now) (view_ty t.now) l.size l.map.items) }
         ensures fits { IfOk result (λ l. l.size ≤ limit) }
-        ensures too_large { IfErr result (λ e. e ≡ layout_fault.TooLarge → (r : Taken) → Laid (defs_of self.now) (view_ty t.now) r → limit < r.size) }
+        ensures too_large { IfErr result (λ e. e ≡ layout_fault.TooLarge → IsTooLarge (defs_of self.now) (view_ty t.now)) }
     {
         layout_of(alloc, &self.rooms, t)
     }

@@ -4,7 +4,8 @@ ghost use Rattle.std.specs.Prelude.{◌≡◌, [], ◌∷◌, ◌<◌, ◌^◌, 
 ghost use Rattle.limbo_types.specs.View.{view_ty, view_tys};
 ghost use Rattle.limbo_layout.specs.Adts.{types_of, variant_types, field_types};
 ghost use Rattle.limbo_layout.specs.View.{view_def, view_defs, view_fields, view_variant};
-ghost use Rattle.limbo_adts.specs.Closed.{named, all_named, named_in, Visited, NamesOnly, IsClosed, AreClosed, rows};
+ghost use Rattle.limbo_adts.specs.Searching.{Finds};
+ghost use Rattle.limbo_adts.specs.Closed.{named, all_named, named_in, NamesOnly, IsClosed, AreClosed, rows};
 
 use limbo_layout::{AdtDef, Field, Variant};
 use limbo_types::Ty;
@@ -19,7 +20,7 @@ struct Search {
 
 // Finds an adt, where there is one of this number.
 fn visit(search: &mut Search, number: u32) -> Result<(), AllocError>
-    ensures { OnOk result (Visited (number ∷ []) search.old.marks.items search.old.found.items search.new.marks.items search.new.found.items) }
+    ensures { OnOk result (Finds (number ∷ []) search.old search.new) }
 {
     if search.marks.get(number as usize).copied().unwrap_or(true) {
         return Ok(());
@@ -33,7 +34,7 @@ fn visit(search: &mut Search, number: u32) -> Result<(), AllocError>
 #[tactic(auto, using(limbo_types::proofs::View::the_types))]
 #[cycle(visiting)]
 fn visit_type(search: &mut Search, t: &Ty) -> Result<(), AllocError>
-    ensures { OnOk result (Visited (named (view_ty t.now)) search.old.marks.items search.old.found.items search.new.marks.items search.new.found.items) }
+    ensures { OnOk result (Finds (named (view_ty t.now)) search.old search.new) }
 {
     match t {
         Ty::Array(item) => visit_type(search, item),
@@ -55,7 +56,7 @@ fn visit_type(search: &mut Search, t: &Ty) -> Result<(), AllocError>
 
 #[cycle(visiting)]
 fn visit_tuple(search: &mut Search, parts: &[Ty]) -> Result<(), AllocError>
-    ensures { OnOk result (Visited (all_named (view_tys parts.now)) search.old.marks.items search.old.found.items search.new.marks.items search.new.found.items) }
+    ensures { OnOk result (Finds (all_named (view_tys parts.now)) search.old search.new) }
 {
     for t in parts {
         visit_type(search, t)?;
@@ -64,7 +65,7 @@ fn visit_tuple(search: &mut Search, parts: &[Ty]) -> Result<(), AllocError>
 }
 
 fn visit_fields(search: &mut Search, fields: &[Field]) -> Result<(), AllocError>
-    ensures { OnOk result (Visited (named_in (types_of (view_fields fields.now))) search.old.marks.items search.old.found.items search.new.marks.items search.new.found.items) }
+    ensures { OnOk result (Finds (named_in (types_of (view_fields fields.now))) search.old search.new) }
 {
     for field in fields {
         visit_type(search, &field.ty)?;
@@ -73,7 +74,7 @@ fn visit_fields(search: &mut Search, fields: &[Field]) -> Result<(), AllocError>
 }
 
 fn visit_variants(search: &mut Search, picks: &[Variant]) -> Result<(), AllocError>
-    ensures { OnOk result (Visited (named_in (variant_types (map view_variant picks.now))) search.old.marks.items search.old.found.items search.new.marks.items search.new.found.items) }
+    ensures { OnOk result (Finds (named_in (variant_types (map view_variant picks.now))) search.old search.new) }
 {
     for variant in picks {
         visit_fields(search, &variant.fields)?;
@@ -83,7 +84,7 @@ fn visit_variants(search: &mut Search, picks: &[Variant]) -> Result<(), AllocErr
 
 // Finds the adts that an adt's fields name.
 fn visit_def(search: &mut Search, def: &AdtDef) -> Result<(), AllocError>
-    ensures { OnOk result (Visited (named_in (field_types (view_def def.now))) search.old.marks.items search.old.found.items search.new.marks.items search.new.found.items) }
+    ensures { OnOk result (Finds (named_in (field_types (view_def def.now))) search.old search.new) }
 {
     visit_fields(search, &def.fields)?;
     visit_variants(search, &def.picks)
