@@ -2,3 +2,4 @@ pub mod Likeness
 pub mod Reach
 pub mod Found
 pub mod Numbers
+pub mod Staying

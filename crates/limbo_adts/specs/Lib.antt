@@ -4,3 +4,4 @@ pub mod Reading
 pub mod Table
 pub mod Seen
 pub mod Searching
+pub mod Laws

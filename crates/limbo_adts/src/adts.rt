@@ -1,6 +1,6 @@
 //! The adts of a module, with what is read of them.
 
-ghost use Rattle.std.specs.Prelude.{◌≡◌, ◌↔◌, ℕ, ◌<◌, ◌≤◌, ◌^◌, length, IfOk, IfErr, IsTrue};
+ghost use Rattle.std.specs.Prelude.{◌≡◌, ◌↔◌, ℕ, ◌+◌, ◌<◌, ◌≤◌, ◌^◌, [], ◌∷◌, ◌++◌, length, IfOk, IfErr, IsTrue};
 ghost use Rattle.limbo_types.specs.Types.{Adt};
 ghost use Rattle.limbo_types.specs.View.{view_ty};
 ghost use Rattle.limbo_layout.specs.Adts.{AreNamed, Names};
@@ -69,6 +69,29 @@ impl Adts {
             rooms,
             closed,
         })
+    }
+
+    /// These adts and one more, whose number is how many there were. The numbers before it keep their meaning: `layouts_stay` and
+    /// `reaches_stay` say so.
+    ///
+    /// # Errors
+    /// Want of memory. `TooLarge` exactly where the new one holds itself as a value or takes more than 65,536 bytes.
+    pub fn with(self, alloc: Global, def: AdtDef) -> Result<Adts, AdtsFault>
+        requires few { length self.adts + 1 < 2 ^ 32 }
+        requires named { AreNamed (view_defs (self.adts ++ (def ∷ []))) (length self.modules) }
+        ensures adts { IfOk result (λ adts. adts.adts ≡ self.adts ++ (def ∷ [])) }
+        ensures modules { IfOk result (λ adts. adts.modules ≡ self.modules) }
+        ensures fits { IfOk result (λ _. (n : ℕ) → n < length self.adts + 1 → Fits (view_defs (self.adts ++ (def ∷ []))) (Adt n)) }
+        ensures too_large { IfErr result (λ e. (n : ℕ) → e ≡ TooLarge n → Fits (view_defs (self.adts ++ (def ∷ []))) (Adt n) → ⊥) }
+    {
+        let Adts {
+            mut defs,
+            modules,
+            rooms: _,
+            closed: _,
+        } = self;
+        defs.push(def)?;
+        Adts::new(alloc, defs, modules)
     }
 
     /// The definitions, each at its number.

@@ -9,6 +9,8 @@
 mod adts;
 mod alike;
 mod closing;
+mod laws;
 mod reaching;
 
 pub use adts::Adts;
+pub use laws::{layouts_stay, reaches_stay};
