@@ -9,3 +9,5 @@ pub mod Counted
 pub mod Replaced
 pub mod Taken
 pub mod Stays
+pub mod Referring
+pub mod Sharing

@@ -1,13 +1,12 @@
 -- Arrays in a heap in which all blocks of another stay.
-use Rattle.std.proofs.Common.{◌≡◌, ◌≢◌, ℕ, ◌+◌, ◌*◌, ◌≤◌, List, Option, Some, None, refl, sym, ap, subst, ◌∙◌, arith, inl, inr}
+use Rattle.std.proofs.Common.{◌≡◌, ℕ, ◌+◌, ◌*◌, ◌≤◌, Option, Some, None, refl, sym, ap, subst, ◌∙◌, inl, inr}
 use Rattle.std.proofs.lemmas.Bool.Decides.{eqb_tells}
 use Rattle.ref_heap.specs.declared.kind.Kind.{Kind}
-use Rattle.ref_heap.specs.declared.kind.Kind.TheVariants.{Array}
-use Rattle.ref_heap.specs.Words.{Cell, Content, cells}
+use Rattle.ref_heap.specs.Words.{Content, cells}
 use Rattle.ref_heap.specs.Store.{Store, Block, IsHeap, at, words_of, with_block, with_new, one_more}
 use Rattle.ref_heap.specs.Drops.{IsSameBut, IsPart}
 use Rattle.dis_values.specs.Arrays.{Part, part_of, part_in, part_by, elements, elements_by, elements_in, size_of, IsArray, IsWhole}
-use Rattle.dis_values.specs.Bytes.{HasBytes, IsPlain, as_array}
+use Rattle.dis_values.specs.Bytes.{HasBytes, IsPlain}
 use Rattle.dis_values.proofs.Made.{block_there, other_block, other_new, not_next}
 
 -- a block that stays
