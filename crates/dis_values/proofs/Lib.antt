@@ -11,3 +11,4 @@ pub mod Taken
 pub mod Stays
 pub mod Referring
 pub mod Sharing
+pub mod Marked

@@ -10,13 +10,13 @@ use Rattle.dis_values.specs.Bytes.{HasBytes, IsPlain}
 use Rattle.dis_values.proofs.Made.{block_there, other_block, other_new, not_next}
 
 -- a block that stays
-record Again (x : Block) (o : Option Block) : Type 0 where
+pub record Again (x : Block) (o : Option Block) : Type 0 where
   pub block : Block
   pub live : o ≡ Some block
   pub content : block.content ≡ x.content
   pub kind : block.kind ≡ x.kind
 
-again : (a b : Option Block) (x : Block) → IsSameBut a b → a ≡ Some x → Again x b
+pub again : (a b : Option Block) (x : Block) → IsSameBut a b → a ≡ Some x → Again x b
 again None b x p e = absurd cc
 again (Some a) None x p e = absurd p
 again (Some a) (Some b) x p e =
