@@ -9,3 +9,6 @@ pub mod Counted
 pub mod Replaced
 pub mod Taken
 pub mod Stays
+pub mod Referring
+pub mod Sharing
+pub mod Marked

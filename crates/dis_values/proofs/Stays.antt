@@ -1,23 +1,22 @@
 -- Arrays in a heap in which all blocks of another stay.
-use Rattle.std.proofs.Common.{◌≡◌, ◌≢◌, ℕ, ◌+◌, ◌*◌, ◌≤◌, List, Option, Some, None, refl, sym, ap, subst, ◌∙◌, arith, inl, inr}
+use Rattle.std.proofs.Common.{◌≡◌, ℕ, ◌+◌, ◌*◌, ◌≤◌, Option, Some, None, refl, sym, ap, subst, ◌∙◌, inl, inr}
 use Rattle.std.proofs.lemmas.Bool.Decides.{eqb_tells}
 use Rattle.ref_heap.specs.declared.kind.Kind.{Kind}
-use Rattle.ref_heap.specs.declared.kind.Kind.TheVariants.{Array}
-use Rattle.ref_heap.specs.Words.{Cell, Content, cells}
+use Rattle.ref_heap.specs.Words.{Content, cells}
 use Rattle.ref_heap.specs.Store.{Store, Block, IsHeap, at, words_of, with_block, with_new, one_more}
 use Rattle.ref_heap.specs.Drops.{IsSameBut, IsPart}
 use Rattle.dis_values.specs.Arrays.{Part, part_of, part_in, part_by, elements, elements_by, elements_in, size_of, IsArray, IsWhole}
-use Rattle.dis_values.specs.Bytes.{HasBytes, IsPlain, as_array}
+use Rattle.dis_values.specs.Bytes.{HasBytes, IsPlain}
 use Rattle.dis_values.proofs.Made.{block_there, other_block, other_new, not_next}
 
 -- a block that stays
-record Again (x : Block) (o : Option Block) : Type 0 where
+pub record Again (x : Block) (o : Option Block) : Type 0 where
   pub block : Block
   pub live : o ≡ Some block
   pub content : block.content ≡ x.content
   pub kind : block.kind ≡ x.kind
 
-again : (a b : Option Block) (x : Block) → IsSameBut a b → a ≡ Some x → Again x b
+pub again : (a b : Option Block) (x : Block) → IsSameBut a b → a ≡ Some x → Again x b
 again None b x p e = absurd cc
 again (Some a) None x p e = absurd p
 again (Some a) (Some b) x p e =

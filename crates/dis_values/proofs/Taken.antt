@@ -7,7 +7,7 @@ use Rattle.ref_heap.specs.declared.kind.Kind.{Kind}
 use Rattle.ref_heap.specs.declared.kind.Kind.TheVariants.{Array}
 use Rattle.ref_heap.specs.Words.{Cell, Content, cells, compact, plain}
 use Rattle.ref_heap.specs.Store.{Store, Block, at, words_of, with_block, with_content}
-use Rattle.dis_values.specs.Arrays.{Part, part_of, part_in, part_by, element, elements, elements_by, elements_in, size_of}
+use Rattle.dis_values.specs.Arrays.{Part, part_of, part_in, part_by, element, elements, elements_by, elements_in, size_of, IsWhole}
 use Rattle.dis_values.specs.Bytes.{IsPlain, byte_of}
 use Rattle.dis_values.specs.Copies.{Writes, ArrayTakes, overwritten}
 use Rattle.dis_values.proofs.Made.{block_there, other_block}
@@ -15,14 +15,14 @@ use Rattle.dis_values.proofs.Packed.{part_kept, map_length}
 use Rattle.dis_values.proofs.Written.{copied_elements, element_alike, put_same}
 
 -- the elements of a reference, in the words of its array
-elements_at : (h : Store) (s size len : ℕ) (b : Block) → at h (part_of h s).array ≡ Some b → b.kind ≡ Array size len
+pub elements_at : (h : Store) (s size len : ℕ) (b : Block) → at h (part_of h s).array ≡ Some b → b.kind ≡ Array size len
     → elements h s ≡ elements_in size (words_of b) (part_of h s).from (part_of h s).length
 elements_at h s size len b is kind =
     ap (λ (o : Option Block). elements_by o (part_of h s).from (part_of h s).length) is
     ∙ ap (λ (k : Kind). elements_in (size_of k) (words_of b) (part_of h s).from (part_of h s).length) kind
 
 -- and of the array itself
-whole_at : (h : Store) (k size len : ℕ) (b : Block) → at h k ≡ Some b → b.kind ≡ Array size len
+pub whole_at : (h : Store) (k size len : ℕ) (b : Block) → at h k ≡ Some b → b.kind ≡ Array size len
     → elements h k ≡ elements_in size (words_of b) 0 len
 whole_at h k size len b is kind =
     let same : part_of h k ≡ record { array = k; from = 0; length = len } = ap (part_in k) is
@@ -40,36 +40,36 @@ pub record Took (h new : Store) (t from : ℕ) (ys : List (List Cell)) : Type 0 
   pub array : ArrayTakes h new t from ys
   pub elements_are : elements new t ≡ overwritten (elements h t) from ys
 
-pub took : (h new : Store) (t from size sf n : ℕ) (src : List Cell) (c : Content) (a : IsPlain h t size) → from + n ≤ (part_of h t).length
-    → new ≡ with_block h (part_of h t).array (with_content a.whole.block c)
-    → Pieces size (words_of a.whole.block) (cells c) src ((part_of h t).from + from) sf n
+pub took : (h new : Store) (t from size sf n len : ℕ) (src : List Cell) (c : Content) (w : IsWhole h (part_of h t).array size len)
+    → (part_of h t).from + (part_of h t).length ≤ len → from + n ≤ (part_of h t).length
+    → new ≡ with_block h (part_of h t).array (with_content w.block c)
+    → Pieces size (words_of w.block) (cells c) src ((part_of h t).from + from) sf n
     → Took h new t from (elements_in size src sf n)
-took h new t from size sf n src c a fits made pieces =
+took h new t from size sf n len src c w inside fits made pieces =
     let p = part_of h t in
-    let b = a.whole.block in
+    let b = w.block in
     let b' = with_content b c in
     let same : part_of new t ≡ p = ap (λ (v : Store). part_of v t) made
-    ∙ part_kept h t p.array size a.length b b' a.whole.live a.whole.kind refl in
+    ∙ part_kept h t p.array size len b b' w.live w.kind refl in
     let there : at new p.array ≡ Some b' = ap (λ (v : Store). at v p.array) made ∙ block_there h p.array b' in
     let live : at new (part_of new t).array ≡ Some b' = ap (λ (q : Part). at new q.array) same ∙ there in
-    let w = a.within in
     record {
       array = record {
         block = b;
-        live = a.whole.live;
+        live = w.live;
         content = c;
         changed = made;
-        array = whole_at new p.array size a.length b' there a.whole.kind
-            ∙ copied_elements size (words_of b) (cells c) src 0 a.length (p.from + from) (p.from + from) sf n (omega arith)
+        array = whole_at new p.array size len b' there w.kind
+            ∙ copied_elements size (words_of b) (cells c) src 0 len (p.from + from) (p.from + from) sf n (omega arith)
             (omega arith) pieces.here pieces.apart
             ∙ sym (ap (λ (xs : List (List Cell)). overwritten xs (p.from + from) (elements_in size src sf n))
-            (whole_at h p.array size a.length b a.whole.live a.whole.kind));
+            (whole_at h p.array size len b w.live w.kind));
       };
-      elements_are = elements_at new t size a.length b' live a.whole.kind
+      elements_are = elements_at new t size len b' live w.kind
           ∙ ap (λ (q : Part). elements_in size (cells c) q.from q.length) same
           ∙ copied_elements size (words_of b) (cells c) src p.from p.length from (p.from + from) sf n refl fits pieces.here pieces.apart
           ∙ sym (ap (λ (xs : List (List Cell)). overwritten xs from (elements_in size src sf n))
-          (elements_at h t size a.length b a.whole.live a.whole.kind));
+          (elements_at h t size len b w.live w.kind));
     }
 
 -- the source's elements are those that were read
@@ -86,10 +86,10 @@ byte_pieces h new k base from n src w = record {
 }
 
 -- words
-place_within : (q r n k : ℕ) → q < n → r < k → q * k + r < n * k
+pub place_within : (q r n k : ℕ) → q < n → r < k → q * k + r < n * k
 place_within q r n k l m = (let d = n - (q + 1) in let e : n ≡ q + 1 + d = omega arith in let f = ap (λ (x : ℕ). x * k) e in omega arith)
 
-times_le : (a b k : ℕ) → a ≤ b → a * k ≤ b * k
+pub times_le : (a b k : ℕ) → a ≤ b → a * k ≤ b * k
 times_le a b k l = (let d = b - a in let e : b ≡ a + d = omega arith in let f = ap (λ (x : ℕ). x * k) e in omega arith)
 
 pub word_pieces : (h new : Store) (k base from n size : ℕ) (src : List Cell) → eqb size 1 ≡ false
@@ -196,7 +196,8 @@ copied h new t s from size a b fits block ns live made long pieces =
     ∙ ap (λ (x : Block). with_block h k (with_content x (compact ns))) same in
     let pieces' = subst (λ (x : Block). Pieces size (words_of x) (map plain ns) src ((part_of h t).from + from) (part_of h s).from
     (part_of h s).length) same pieces in
-    let all = took h new t from size (part_of h s).from (part_of h s).length src (compact ns) a fits made' pieces' in
+    let all = took h new t from size (part_of h s).from (part_of h s).length a.length src
+    (compact ns) a.whole a.within fits made' pieces' in
     record {
       took = subst (λ (ys : List (List Cell)). Took h new t from ys) (source_is h s size b) all;
       plain = λ u z p. plain_kept h new k block ns u z live made long size a.length (ap (λ (x : Block). x.kind) same ∙ a.whole.kind) p;

@@ -31,7 +31,7 @@ put_same h k b is = blocks_same (with_block h k b) h refl refl (λ q. elim (eqb_
 ])
 
 -- lists of elements
-elements_length : (size : ℕ) (ws : List Cell) (f n : ℕ) → length (elements_in size ws f n) ≡ n
+pub elements_length : (size : ℕ) (ws : List Cell) (f n : ℕ) → length (elements_in size ws f n) ≡ n
 elements_length size ws f zero = refl
 elements_length size ws f (suc n) = omega (arith, elements_length size ws (suc f) n)
 
@@ -113,7 +113,7 @@ pub words_alike : (ws vs : List Cell) (x y k : ℕ) → ((q : ℕ) → q < k →
 words_alike ws vs x y k e = take_alike (drop x ws) (drop y vs) k (λ q h. get_drop ws x q ∙ e q h ∙ sym (get_drop vs y q))
 
 -- the words of an element
-word_element : (size : ℕ) (ws : List Cell) (i : ℕ) → eqb size 1 ≡ false → element size ws i ≡ take (size / 4) (drop (i * (size / 4)) ws)
+pub word_element : (size : ℕ) (ws : List Cell) (i : ℕ) → eqb size 1 ≡ false → element size ws i ≡ take (size / 4) (drop (i * (size / 4)) ws)
 word_element size ws i wide = ap (λ (b : Bool). if b then plain (byte_in (i % 4) (slice_get ws (i / 4))) ∷ [] else take (size / 4)
     (drop (i * (size / 4)) ws)) wide
 

@@ -3,4 +3,5 @@ pub mod Texts
 pub mod Arrays
 pub mod Bytes
 pub mod Copies
+pub mod References
 pub mod Lists

@@ -6,6 +6,8 @@ ghost use Rattle.ref_heap.specs.Answers.{most, IsRefFault};
 ghost use Rattle.dis_values.specs.Making.{Makes, IsMakeFault, serial_of};
 ghost use Rattle.dis_values.specs.Arrays.{IsArray, IsElement, IsWithin, any_marked, words_for, zeroed, zeroed_word, zeroed_words, part_of, length_of, elements, first_name, Slices};
 ghost use Rattle.dis_values.specs.Bytes.{IsPlain};
+ghost use Rattle.dis_values.specs.References.{IsMarked};
+ghost use Rattle.std.specs.Prelude.{Bool, true, ◌%◌};
 
 use ref_heap::{Heap, HeapFault, Kind, Ref, Word, Words};
 use std::alloc::{AllocError, Global};
@@ -78,6 +80,7 @@ pub fn new_array(
     ensures ok { IfOk result (λ r. Makes heap.old heap.new r.serial (fresh (Kind.Array size length) (zeroed size marks.now length))) }
     ensures array { IfOk result (λ r. IsArray heap.new r.serial) }
     ensures plain { any_marked marks.now ≡ false → IfOk result (λ r. IsPlain heap.new r.serial size) }
+    ensures marked { any_marked marks.now ≡ true → size % 4 ≡ 0 → IfOk result (λ r. IsMarked heap.new r.serial size marks.now) }
     ensures fault { IfErr result (IsMakeFault heap.old) }
     ensures full { heap.old.made ≡ most → IsErr result }
     ensures err { OnErr result (heap.new ≡ heap.old) }
@@ -161,6 +164,8 @@ pub fn slice(heap: &mut Heap, array: Ref, from: u32, to: u32) -> Result<Ref, Hea
     ensures elements { IfOk result (λ r. elements heap.new r.serial ≡ slice_range (elements heap.old array.serial) from to) }
     ensures array { IfOk result (λ r. IsArray heap.new r.serial) }
     ensures plain { IfOk result (λ r. (size : ℕ) → IsPlain heap.old array.serial size → IsPlain heap.new r.serial size) }
+    ensures marked { IfOk result (λ r. (size : ℕ) (marks : List Bool) → IsMarked heap.old array.serial size marks
+        → IsMarked heap.new r.serial size marks) }
     ensures ok { IfOk result (λ r. Slices heap.old heap.new (part_of heap.old array.serial) from to r.serial) }
     ensures fault { IfErr result (IsRefFault heap.old (part_of heap.old array.serial).array) }
     ensures full { heap.old.made ≡ most → IsErr result }

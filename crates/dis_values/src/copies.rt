@@ -20,6 +20,8 @@ pub enum CopyFault {
     NoMemory,
     /// There are not so many elements to copy over: `array bounds error`.
     Bounds,
+    /// Refusal 94: a block would have more references than there may be.
+    Full,
 }
 
 // The bytes of a block from one on.
@@ -204,7 +206,7 @@ fn copy_elements(
 }
 
 // Whether there are as many elements from one on as are copied over them.
-fn fits(heap: &Heap, target: Option<Ref>, from: u32, source: Option<Ref>) -> bool
+pub(crate) fn fits(heap: &Heap, target: Option<Ref>, from: u32, source: Option<Ref>) -> bool
     ensures { IsTrue result ↔ from + length_of heap.now (serial_of source) ≤ length_of heap.now (serial_of target) }
 {
     let length = array_len(heap, target);
@@ -232,6 +234,7 @@ pub fn copy_plain(
     ensures bounds { IfErr result (λ e. e ≡ CopyFault.Bounds → length_of heap.old (serial_of target) < from + length_of heap.old
         (serial_of source)) }
     ensures past { length_of heap.old (serial_of target) < from + length_of heap.old (serial_of source) → result ≡ Err CopyFault.Bounds }
+    ensures held { IfErr result (λ e. e ≡ CopyFault.Full → ⊥) }
     ensures err { OnErr result (heap.new ≡ heap.old) }
 {
     if !fits(heap, target, from, source) {

@@ -5,6 +5,8 @@ ghost use Rattle.ref_heap.specs.Drops.{IsPart};
 ghost use Rattle.dis_values.specs.Arrays.{IsArray, elements};
 ghost use Rattle.dis_values.specs.Bytes.{IsPlain, bytes_of};
 ghost use Rattle.dis_values.specs.Lists.{IsList};
+ghost use Rattle.dis_values.specs.References.{IsMarked};
+ghost use Rattle.std.specs.Prelude.{Bool};
 
 /// The elements of an array of bytes are its bytes, one in each.
 pub fn bytes_are_elements()
@@ -21,6 +23,8 @@ pub fn arrays_stay()
     ensures array { (old new : Store) (s : ℕ) → IsPart (at old) (at new) → IsArray old s → IsArray new s }
     ensures elements { (old new : Store) (s : ℕ) → IsPart (at old) (at new) → IsArray old s → elements new s ≡ elements old s }
     ensures plain { (old new : Store) (s size : ℕ) → IsPart (at old) (at new) → IsPlain old s size → IsPlain new s size }
+    ensures marked { (old new : Store) (s size : ℕ) (marks : List Bool) → IsPart (at old) (at new) → IsMarked old s size marks
+        → IsMarked new s size marks }
 {}
 
 /// Each block stays where another is made, and where one has a reference more.

@@ -6,7 +6,8 @@
 //! its element (`specs/Lists.antt`). An array without references is kept as numbers, an array of bytes with four in each
 //! (`specs/Bytes.antt`). Each call is told as the operation on the lists that the blocks stand for.
 //!
-//! Read `texts`, `conversions` (numbers as strings and back, by the definitions of `limbo_values`), `arrays`, `bytes`, `lists`.
+//! Read `texts`, `conversions` (numbers as strings and back, by the definitions of `limbo_values`), `arrays`, `bytes`,
+//! `copies`, `references`, `lists`.
 #![tactic(auto)]
 
 mod arrays;
@@ -15,6 +16,7 @@ mod conversions;
 mod copies;
 pub mod laws;
 mod lists;
+mod references;
 mod texts;
 
 pub use arrays::{Span, array_len, element, new_array, part, slice};
@@ -22,6 +24,7 @@ pub use bytes::{byte_at, set_byte};
 pub use conversions::{number_in_text, text_of_number};
 pub use copies::{CopyFault, copy_plain};
 pub use lists::{cons, head, list_len, tail};
+pub use references::copy_references;
 pub use texts::{
     append, character, code_at, codes, compare_texts, join, new_text, set_code, sub_text, text_len,
     to_text,

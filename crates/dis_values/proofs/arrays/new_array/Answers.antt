@@ -10,6 +10,7 @@ use Rattle.dis_values.proofs.Made.{makes, bare_held}
 use Rattle.dis_values.proofs.Parts.{zeroed_bare}
 use Rattle.dis_values.proofs.Sliced.{if_map, made_array}
 use Rattle.dis_values.proofs.Packed.{made_plain}
+use Rattle.dis_values.proofs.Marked.{made_marked}
 use Rattle.dis_values.proofs.arrays.new_array.Goals as goal
 
 pub add-requires-clause-held : goal.add-requires-clause-held
@@ -35,5 +36,14 @@ returns-clause-plain c = λ none.
     if_map c.add.result _ _ (λ r (m : Makes c.args.heap.now c.add.new.self r.serial
     (fresh (Array c.args.size c.args.length) (zeroed c.args.size c.args.marks.now c.args.length))).
     made_plain c.args.heap.now c.add.new.self r.serial c.args.size c.args.length c.args.marks.now none c.requires.bytes
+    (omega (arith, c.ranges.length.fits)) m)
+    (returns-clause-ok c)
+
+pub returns-clause-marked : goal.returns-clause-marked
+returns-clause-marked c = λ some even.
+    if_map c.add.result _ _
+    (λ r (m : Makes c.args.heap.now c.add.new.self r.serial (fresh (Array c.args.size c.args.length)
+    (zeroed c.args.size c.args.marks.now c.args.length))).
+    made_marked c.args.heap.now c.add.new.self r.serial c.args.size c.args.length c.args.marks.now some even c.requires.bytes
     (omega (arith, c.ranges.length.fits)) m)
     (returns-clause-ok c)

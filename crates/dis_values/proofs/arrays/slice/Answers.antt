@@ -1,6 +1,7 @@
 use Rattle.ref_heap.specs.declared.word.Ref.{Ref}
 use Rattle.dis_values.specs.Arrays.{Slices, part_of}
 use Rattle.dis_values.proofs.Packed.{sliced_plain}
+use Rattle.dis_values.proofs.Marked.{sliced_marked}
 use Rattle.dis_values.proofs.Sliced.{Sliced, slices, sliced_ok, if_map}
 use Rattle.dis_values.proofs.arrays.slice.Goals as goal
 
@@ -25,4 +26,14 @@ returns-clause-plain c =
     (part_of c.args.heap.now c.args.array.serial) c.args.from c.args.to m.serial) size a.
     sliced_plain c.args.heap.now c.add_ref.new.self c.args.array.serial c.args.from c.args.to m.serial size c.stands.ensures a
     c.requires.rising c.requires.within s)
+    (returns-clause-ok c)
+
+pub returns-clause-marked : goal.returns-clause-marked
+returns-clause-marked c =
+    if_map c.add_ref.result _ _
+    (λ (m : Ref) (s : Slices c.args.heap.now c.add_ref.new.self (part_of c.args.heap.now c.args.array.serial) c.args.from c.args.to
+    m.serial) size marks a.
+    sliced_marked c.args.heap.now c.add_ref.new.self c.args.array.serial c.args.from c.args.to m.serial size marks c.stands.ensures a
+    c.requires.rising
+    c.requires.within s)
     (returns-clause-ok c)
