@@ -127,12 +127,13 @@ abbrev pub view_exprs : List code_expr.TExpr → tree.Exprs
 view_exprs es = exprs_of (map view_expr es)
 
 -- the expression in a box, if there is one: where a tree of expressions has it, and where a statement has it
-abbrev pub view_optional : Option (Box code_expr.TExpr Global) → tree.Optional
+unfoldable pub view_optional : Option (Box code_expr.TExpr Global) → tree.Optional
 view_optional None = tree.Absent
 view_optional (Some e) = tree.Present (view_expr e.value)
 
-abbrev pub view_boxed : Option (Box code_expr.TExpr Global) → Option tree.Expr
-view_boxed e = option_map (λ b. view_expr b.value) e
+unfoldable pub view_boxed : Option (Box code_expr.TExpr Global) → Option tree.Expr
+view_boxed None = None
+view_boxed (Some e) = Some (view_expr e.value)
 
 -- ---- statements
 
