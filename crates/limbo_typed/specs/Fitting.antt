@@ -1,10 +1,11 @@
 -- Which types operations take and give (Limbo Language Reference, expressions), and which values stand where a type is asked for.
-use Rattle.std.specs.Prelude.{ℕ, ℤ, ◌≡◌, ◌⊎◌, Bool, true, false, List, [], ◌∷◌, ◌++◌, Some, slice_get}
+use Rattle.std.specs.Prelude.{ℕ, ℤ, ◌≡◌, ◌⊎◌, Bool, true, false, List, [], ◌∷◌, ◌++◌, Option, Some, None, slice_get}
 use Rattle.limbo_values.specs.declared.number.Kind.{Kind}
 use Rattle.limbo_values.specs.declared.number.Kind.TheVariants as kind
 use Rattle.limbo_values.specs.Numbers.{InRange}
 use Rattle.limbo_types.specs.Types.{Ty, Tys, Byte, Int, Big, Chars, Nil, ArrayOf, ListOf, ChanOf, Tuple, Adt, RefAdt, RefPick, Module}
 use Rattle.limbo_types.specs.Types.{NoTys, MoreTys}
+use Rattle.limbo_layout.specs.Adts.{Def, Variant, types_of, parts, listed}
 use Rattle.limbo_typed.specs.declared.operation.Sequence.{Sequence}
 use Rattle.limbo_typed.specs.declared.operation.Sequence.TheVariants as sequence
 use Rattle.limbo_typed.specs.declared.operation.Operation.{Operation}
@@ -20,10 +21,6 @@ abbrev pub of_kind : Kind → Ty
 of_kind kind.Byte = Byte
 of_kind kind.Int = Int
 of_kind kind.Big = Big
-
-abbrev pub listed : Tys → List Ty
-listed NoTys = []
-listed (MoreTys t ts) = t ∷ listed ts
 
 -- The types whose values are references. `nil` is a value of each, and of strings.
 abbrev pub IsReference : Ty → Type 0
@@ -68,9 +65,9 @@ EachStands (t ∷ ts) u = Stands t u × EachStands ts u
 abbrev pub Row : (operands : List Ty) → (result : Ty) → List Ty → Ty → Type 0
 Row operands result ts t = (ts ≡ operands) × (t ≡ result)
 
--- two references, of which an int says how they compare
+-- two references of one type, or two `ref` of one adt, of which an int says how they compare
 abbrev pub ComparesTwo : List Ty → Ty → Type 0
-ComparesTwo (t ∷ u ∷ []) r = IsReference t × IsReference u × (r ≡ Int)
+ComparesTwo (t ∷ u ∷ []) r = IsReference t × ((t ≡ u) ⊎ ((n : ℕ) × IsRefOf n t × IsRefOf n u)) × (r ≡ Int)
 ComparesTwo _ r = ⊥
 
 -- a value and a list that it is put before
@@ -102,43 +99,66 @@ abbrev pub bound : Bool → List Ty
 bound true = Int ∷ []
 bound false = []
 
-abbrev pub TakesTag : List Ty → Ty → Type 0
-TakesTag (t ∷ []) r = (n : ℕ) × IsRefOf n t × (r ≡ Int)
-TakesTag _ r = ⊥
+-- an adt of this number, which has variants
+pub record IsPick (defs : List Def) (adt : ℕ) : Type 0 where
+  pub def : Def
+  pub there : slice_get defs adt ≡ Some def
+  pub variants : def.picks ≡ [] → ⊥
+
+abbrev pub TakesTag : List Def → List Ty → Ty → Type 0
+TakesTag defs (t ∷ []) r = (n : ℕ) × IsRefOf n t × IsPick defs n × (r ≡ Int)
+TakesTag defs _ r = ⊥
 
 abbrev pub MakesRef : List Ty → Ty → Type 0
 MakesRef (Adt n ∷ []) r = IsRefOf n r
 MakesRef _ r = ⊥
 
--- Operands of these types fit the operation, which gives a value of this type. Which references are compared with which, and the
--- fields of an adt's value, are said of its definition.
-abbrev pub Gives : Operation → List Ty → Ty → Type 0
-Gives (Arithmetic o k) = Row (of_kind k ∷ of_kind k ∷ []) (of_kind k)
-Gives (Shift s k) = Row (of_kind k ∷ Int ∷ []) (of_kind k)
-Gives (Alter u k) = Row (of_kind k ∷ []) (of_kind k)
-Gives (Compare c k) = Row (of_kind k ∷ of_kind k ∷ []) Int
-Gives (CompareChars c) = Row (Chars ∷ Chars ∷ []) Int
-Gives Identical = ComparesTwo
-Gives Distinct = ComparesTwo
-Gives Not = Row (Int ∷ []) Int
-Gives (Convert k l) = Row (of_kind k ∷ []) (of_kind l)
-Gives (ReadNumber k) = Row (Chars ∷ []) (of_kind k)
-Gives (NumberText k) = Row (of_kind k ∷ []) Chars
-Gives BytesText = Row (ArrayOf Byte ∷ []) Chars
-Gives TextBytes = Row (Chars ∷ []) (ArrayOf Byte)
-Gives Join = Row (Chars ∷ Chars ∷ []) Chars
-Gives Cons = PutsBefore
-Gives Head = λ ts t. ts ≡ ListOf t ∷ []
-Gives Tail = λ ts t. IsList t × (ts ≡ t ∷ [])
-Gives (Length s) = TakesLength s
-Gives Tag = TakesTag
-Gives Ref = MakesRef
-Gives op.Tuple = λ ts t. (parts : Tys) × (t ≡ Tuple parts) × AllStand ts (listed parts)
-Gives (op.Adt n v) = λ ts t. t ≡ Adt n
-Gives op.List = λ ts t. (item : Ty) × (t ≡ ListOf item) × EachStands ts item
-Gives NewArray = λ ts t. (item : Ty) × (t ≡ ArrayOf item) × (ts ≡ Int ∷ [])
-Gives (Slice s f g) = λ ts t. IsSliced s t × (ts ≡ t ∷ bound f ++ bound g)
-Gives Character = Row (Chars ∷ Int ∷ []) Int
+-- the fields of a value of an adt: the common ones, and then those of its variant, where it is a pick adt
+abbrev pub TakesFields : Def → (variant : Option ℕ) → List Ty → Type 0
+TakesFields d None ts = (d.picks ≡ []) × AllStand ts (types_of d.fields)
+TakesFields d (Some v) ts =
+    (w : Variant) × (slice_get d.picks v ≡ Some w) × AllStand ts (types_of d.fields ++ types_of w.fields)
+
+pub record MakesAdt (defs : List Def) (adt : ℕ) (variant : Option ℕ) (ts : List Ty) (t : Ty) : Type 0 where
+  pub def : Def
+  pub there : slice_get defs adt ≡ Some def
+  pub fields : TakesFields def variant ts
+  pub result : t ≡ Adt adt
+
+-- a part of a tuple or of an adt's value, by its number among the parts as they lie in memory
+abbrev pub HasPart : List Def → Ty → (part : ℕ) → Ty → Type 0
+HasPart defs (Tuple ts) n t = slice_get (listed ts) n ≡ Some t
+HasPart defs (Adt a) n t = (d : Def) × (slice_get defs a ≡ Some d) × (slice_get (parts d) n ≡ Some t)
+HasPart defs _ n t = ⊥
+
+-- Operands of these types fit the operation, which gives a value of this type.
+abbrev pub Gives : List Def → Operation → List Ty → Ty → Type 0
+Gives defs (Arithmetic o k) = Row (of_kind k ∷ of_kind k ∷ []) (of_kind k)
+Gives defs (Shift s k) = Row (of_kind k ∷ Int ∷ []) (of_kind k)
+Gives defs (Alter u k) = Row (of_kind k ∷ []) (of_kind k)
+Gives defs (Compare c k) = Row (of_kind k ∷ of_kind k ∷ []) Int
+Gives defs (CompareChars c) = Row (Chars ∷ Chars ∷ []) Int
+Gives defs Identical = ComparesTwo
+Gives defs Distinct = ComparesTwo
+Gives defs Not = Row (Int ∷ []) Int
+Gives defs (Convert k l) = Row (of_kind k ∷ []) (of_kind l)
+Gives defs (ReadNumber k) = Row (Chars ∷ []) (of_kind k)
+Gives defs (NumberText k) = Row (of_kind k ∷ []) Chars
+Gives defs BytesText = Row (ArrayOf Byte ∷ []) Chars
+Gives defs TextBytes = Row (Chars ∷ []) (ArrayOf Byte)
+Gives defs Join = Row (Chars ∷ Chars ∷ []) Chars
+Gives defs Cons = PutsBefore
+Gives defs Head = λ ts t. ts ≡ ListOf t ∷ []
+Gives defs Tail = λ ts t. IsList t × (ts ≡ t ∷ [])
+Gives defs (Length s) = TakesLength s
+Gives defs Tag = TakesTag defs
+Gives defs Ref = MakesRef
+Gives defs op.Tuple = λ ts t. (parts : Tys) × (t ≡ Tuple parts) × AllStand ts (listed parts)
+Gives defs (op.Adt n v) = MakesAdt defs n v
+Gives defs op.List = λ ts t. (item : Ty) × (t ≡ ListOf item) × EachStands ts item
+Gives defs NewArray = λ ts t. (item : Ty) × (t ≡ ArrayOf item) × (ts ≡ Int ∷ [])
+Gives defs (Slice s f g) = λ ts t. IsSliced s t × (ts ≡ t ∷ bound f ++ bound g)
+Gives defs Character = Row (Chars ∷ Int ∷ []) Int
 
 -- ---- numbers and constants
 

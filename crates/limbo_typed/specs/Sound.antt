@@ -1,10 +1,11 @@
 -- What the checker promises of a module: that each number in it names something, that no `nil` is left open, and that the types fit.
 -- Not said here, but by the checker's own rules: that stores make no cycle, that values of module types and of `FD` stay where they
--- may, that types have a layout, that the ranges of a `case` don't overlap, that a function with an answer ends each path, and
--- which references are compared with which.
+-- may, that types have a layout, that the ranges of a `case` don't overlap, that arrays, lists and modules are compared with `nil`
+-- alone, that a function with an answer ends each path, and that what is raised again was caught.
 use Rattle.std.specs.Prelude.{ℕ, ◌≡◌, ◌<◌, ◌+◌, ◌⊎◌, Bool, true, false, List, [], ◌∷◌, ◌++◌, map, take, length, Option, Some, None, slice_get}
 use Rattle.limbo_types.specs.Types as ty
 use Rattle.limbo_types.specs.Types.{Ty, Tys, FnTy}
+use Rattle.limbo_layout.specs.Adts.{Def, Names, AreNamed, listed}
 use Rattle.limbo_typed.specs.declared.print.Printed.{Printed}
 use Rattle.limbo_typed.specs.declared.print.Printed.TheVariants as printed
 use Rattle.limbo_typed.specs.declared.print.Hole.{Hole}
@@ -26,7 +27,7 @@ use Rattle.limbo_typed.specs.Typed.{Bodies, NoBodies, MoreBodies, Empty, Block, 
 use Rattle.limbo_typed.specs.Typed.{Break, Continue, Return, Exit, Spawn, Raise, RaiseDeclared, RaiseAgain, Handle}
 use Rattle.limbo_typed.specs.Typed.{Var, Function, Signature, Interface, Declared, Exception, Module}
 use Rattle.limbo_typed.specs.Fitting as fits
-use Rattle.limbo_typed.specs.Fitting.{listed, HasNil, IsRefOf, Stands, AllStand, Gives, IsNumber, IsConstant, of_kind}
+use Rattle.limbo_typed.specs.Fitting.{HasPart, HasNil, IsRefOf, Stands, AllStand, Gives, IsNumber, IsConstant, of_kind}
 
 abbrev pub type_of : Expr → Ty
 type_of (Of t n) = t
@@ -48,19 +49,12 @@ Each P (x ∷ xs) = P x × Each P xs
 abbrev pub HasVariable : List Var → ℕ → Ty → Type 0
 HasVariable vs x t = (v : Var) × (slice_get vs x ≡ Some v) × (v.ty ≡ t)
 
--- Each number in a type names a module type.
-abbrev mutual
-  pub Names : (modules : ℕ) → Ty → Type 0
-  Names modules (ty.ArrayOf t) = Names modules t
-  Names modules (ty.ListOf t) = Names modules t
-  Names modules (ty.ChanOf t) = Names modules t
-  Names modules (ty.Tuple ts) = AllName modules ts
-  Names modules (ty.Module n) = n < modules
-  Names modules t = Unit {0}
+-- Each number in a type names an adt, a variant of it, or a module type.
+abbrev pub IsNamed : Module → Ty → Type 0
+IsNamed m t = Names m.adts (length m.interfaces) t
 
-  pub AllName : (modules : ℕ) → Tys → Type 0
-  AllName modules ty.NoTys = Unit {0}
-  AllName modules (ty.MoreTys t ts) = Names modules t × AllName modules ts
+abbrev pub NamesAll : Module → List Ty → Type 0
+NamesAll m ts = Each (IsNamed m) ts
 
 -- A function of this number takes such arguments, and has this answer.
 abbrev pub Takes : FnTy → List Ty → Ty → Type 0
@@ -107,12 +101,7 @@ printed_type printed.Print = ty.Int
 printed_type printed.Fprint = ty.Int
 printed_type printed.Sprint = ty.Chars
 
--- ---- parts of values
-
-abbrev pub HasPart : Ty → (part : ℕ) → Ty → Type 0
-HasPart (ty.Tuple ts) n t = slice_get (listed ts) n ≡ Some t
-HasPart (ty.Adt a) n t = Unit {0}
-HasPart _ n t = ⊥
+-- ---- types of places and channels
 
 -- what a `ref` names
 abbrev pub IsTarget : Ty → Ty → Type 0
@@ -122,6 +111,11 @@ IsTarget r _ = ⊥
 abbrev pub IsArray : Ty → Type 0
 IsArray (ty.ArrayOf t) = Unit {0}
 IsArray _ = ⊥
+
+-- what the variable of an arm of a `pick` names
+abbrev pub picked : (adt : ℕ) → (variants : List ℕ) → Ty
+picked n (v ∷ []) = ty.RefPick n v
+picked n _ = ty.RefAdt n
 
 abbrev pub IsChannel : Ty → Type 0
 IsChannel (ty.ChanOf t) = Unit {0}
@@ -133,7 +127,7 @@ module _ (m : Module) (variables : List Var) where
   abbrev mutual
     -- An expression whose parts have the types that are asked of them.
     pub SoundExpr : Expr → Type 0
-    SoundExpr (Of t n) = Names (length m.interfaces) t × SoundNode t n
+    SoundExpr (Of t n) = IsNamed m t × SoundNode t n
 
     pub SoundNode : Ty → Node → Type 0
     SoundNode t (Number n) = IsNumber t n
@@ -141,13 +135,13 @@ module _ (m : Module) (variables : List Var) where
     SoundNode t Nil = HasNil t
     SoundNode t OpenNil = ⊥
     SoundNode t (Read p) = SoundPlace p × (type_at p ≡ t)
-    SoundNode t (Part e n) = SoundExpr e × HasPart (type_of e) n t
-    SoundNode t (Apply o es) = SoundExprs es × Gives o (types_of es) t
+    SoundNode t (Part e n) = SoundExpr e × HasPart m.adts (type_of e) n t
+    SoundNode t (Apply o es) = SoundExprs es × Gives m.adts o (types_of es) t
     SoundNode t (Lazy c l r) = SoundInt l × SoundInt r × (t ≡ ty.Int)
     SoundNode t (Assign p e) = SoundExpr e × SoundPattern p (type_of e) × Stands (type_of e) t
     SoundNode t (Update o p e) =
-        SoundPlace p × SoundExpr e × Gives o (type_at p ∷ type_of e ∷ []) (type_at p) × (type_at p ≡ t)
-    SoundNode t (Step o g p) = SoundPlace p × Gives o (type_at p ∷ []) (type_at p) × (type_at p ≡ t)
+        SoundPlace p × SoundExpr e × Gives m.adts o (type_at p ∷ type_of e ∷ []) (type_at p) × (type_at p ≡ t)
+    SoundNode t (Step o g p) = SoundPlace p × Gives m.adts o (type_at p ∷ []) (type_at p) × (type_at p ≡ t)
     SoundNode t (Copy a i e) =
         SoundExpr a × SoundInt i × SoundExpr e × IsArray t × (type_of a ≡ t) × (type_of e ≡ t)
     SoundNode t (Filled n is rest) =
@@ -187,12 +181,12 @@ module _ (m : Module) (variables : List Var) where
     SoundFile _ _ = ⊥
 
     pub SoundPlace : Place → Type 0
-    SoundPlace (At t n) = Names (length m.interfaces) t × SoundPlaceNode t n
+    SoundPlace (At t n) = IsNamed m t × SoundPlaceNode t n
 
     pub SoundPlaceNode : Ty → PlaceNode → Type 0
     SoundPlaceNode t (Local x) = HasVariable variables x t
     SoundPlaceNode t (Global x) = HasVariable m.globals x t
-    SoundPlaceNode t (Field p n) = SoundPlace p × HasPart (type_at p) n t
+    SoundPlaceNode t (Field p n) = SoundPlace p × HasPart m.adts (type_at p) n t
     SoundPlaceNode t (Element a i) = SoundExpr a × SoundInt i × (type_of a ≡ ty.ArrayOf t)
     SoundPlaceNode t (Character p i) = SoundPlace p × SoundInt i × (type_at p ≡ ty.Chars) × (t ≡ ty.Int)
     SoundPlaceNode t (Target e) = SoundExpr e × IsTarget (type_of e) t
@@ -240,20 +234,27 @@ module _ (m : Module) (variables : List Var) where
   SoundAltHead (Sends c e) = SoundExpr c × SoundExpr e × ((t : Ty) × (type_of c ≡ ty.ChanOf t) × Stands (type_of e) t)
   SoundAltHead WaitsNot = Unit {0}
 
-  -- an arm's variable has a `ref` of the adt, or of the one variant
+  -- an arm names variants of the adt, and its variable has a `ref` of the adt, or of the one variant that it names
   abbrev pub SoundPickHead : (adt : ℕ) → PickHead → Type 0
-  SoundPickHead n h = (t : Ty) × HasVariable variables h.variable t × IsRefOf n t
+  SoundPickHead n h = Each (λ v. IsNamed m (ty.RefPick n v)) h.variants × HasVariable variables h.variable (picked n h.variants)
 
   abbrev pub SoundHandlerPattern : HandlerPattern → Type 0
   SoundHandlerPattern (handler.Declared n) = n < length m.exceptions
   SoundHandlerPattern _ = Unit {0}
 
-  abbrev pub HasNamed : Option ℕ → Type 0
-  HasNamed None = Unit {0}
-  HasNamed (Some x) = HasSomeVariable x
+  -- a declared exception whose values have these types
+  abbrev pub Carries : Tys → HandlerPattern → Type 0
+  Carries parts (handler.Declared n) = (e : Exception) × (slice_get m.exceptions n ≡ Some e) × (e.values ≡ listed parts)
+  Carries parts _ = ⊥
+
+  -- an arm's variable has the exception's text, or the tuple of its values
+  abbrev pub HasCaught : List HandlerPattern → Option ℕ → Type 0
+  HasCaught ps None = Unit {0}
+  HasCaught ps (Some x) =
+      HasVariable variables x ty.Chars ⊎ ((parts : Tys) × HasVariable variables x (ty.Tuple parts) × Each (Carries parts) ps)
 
   abbrev pub SoundHandlerHead : HandlerHead → Type 0
-  SoundHandlerHead h = Each SoundHandlerPattern h.patterns × HasNamed h.variable
+  SoundHandlerHead h = Each SoundHandlerPattern h.patterns × HasCaught h.patterns h.variable
 
 -- ---- statements
 
@@ -318,11 +319,16 @@ module _ (m : Module) (f : Function) where
 
 -- ---- modules
 
+abbrev pub HasOwner : Module → Option ℕ → Type 0
+HasOwner m None = Unit {0}
+HasOwner m (Some n) = n < length m.adts
+
 -- A function: its parameters are its first variables, and its body is sound.
 pub record SoundFunction (m : Module) (f : Function) : Type 0 where
   pub parameters : take (length f.of.args) (map (λ v. v.ty) f.variables) ≡ f.of.args
-  pub named : Each (λ v. Names (length m.interfaces) v.ty) f.variables
-  pub answer : Names (length m.interfaces) f.of.answer
+  pub named : Each (λ v. IsNamed m v.ty) f.variables
+  pub answer : IsNamed m f.of.answer
+  pub owner : HasOwner m f.owner
   pub body : SoundStmts m f [] f.body
 
 -- What a global begins with is a constant of its type.
@@ -336,18 +342,16 @@ pub record SoundDeclaration (m : Module) (d : Declared) : Type 0 where
   pub name : function.name ≡ d.name
   pub of : function.of ≡ d.of
 
-abbrev pub NamesAll : Module → List Ty → Type 0
-NamesAll m ts = Each (Names (length m.interfaces)) ts
-
 abbrev pub SoundSignature : Module → Signature → Type 0
-SoundSignature m s = NamesAll m s.of.args × Names (length m.interfaces) s.of.answer
+SoundSignature m s = NamesAll m s.of.args × IsNamed m s.of.answer
 
 abbrev pub HasSystem : Module → Option ℕ → Type 0
 HasSystem m None = Unit {0}
 HasSystem m (Some n) = n < length m.interfaces
 
 pub record IsSound (m : Module) : Type 0 where
-  pub globals : Each (λ v. Names (length m.interfaces) v.ty) m.globals
+  pub adts : AreNamed m.adts (length m.interfaces)
+  pub globals : Each (λ v. IsNamed m v.ty) m.globals
   pub initials : Each (SoundInitial m) m.initials
   pub functions : Each (SoundFunction m) m.functions
   pub declared : Each (SoundDeclaration m) m.declared

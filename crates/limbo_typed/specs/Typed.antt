@@ -2,6 +2,7 @@
 -- code holds no type and no tree is the code's own: operations, pieces of formats, constants, patterns of arms.
 use Rattle.std.specs.Prelude.{ℕ, ℤ, List, Option}
 use Rattle.limbo_types.specs.Types.{Ty, FnTy}
+use Rattle.limbo_layout.specs.Adts.{Def}
 use Rattle.limbo_typed.specs.declared.operation.Operation.{Operation}
 use Rattle.limbo_typed.specs.declared.operation.Connective.{Connective}
 use Rattle.limbo_typed.specs.declared.operation.Given.{Given}
@@ -160,10 +161,11 @@ pub record Exception : Type 0 where
   pub name : List ℕ
   pub values : List Ty
 
--- A module: what it has, what it declares, and the module types and exceptions that it names. A global without an initial value
+-- A module: what it has, what it declares, and the adts, module types and exceptions that it names. A global without an initial value
 -- begins with zero or `nil`.
 pub record Module : Type 0 where
   pub name : List ℕ
+  pub adts : List Def
   pub globals : List Var
   pub initials : List Initial
   pub functions : List Function
