@@ -159,20 +159,43 @@ filled None is None =
 filled None is (Some rest) =
     ap view_node (sym (make_node.rolls-Filled None is (Some rest)))
     ∙ fold-roll-TNode _ _ _ _ _ _ pattern_step place_node_step node_step item_step place_step expr_step
-        (TNode-F.Filled None is (Some rest))
+    (TNode-F.Filled None is (Some rest))
 filled (Some k) is None =
     ap view_node (sym (make_node.rolls-Filled (Some k) is None))
     ∙ fold-roll-TNode _ _ _ _ _ _ pattern_step place_node_step node_step item_step place_step expr_step (TNode-F.Filled (Some k) is None)
 filled (Some k) is (Some rest) =
     ap view_node (sym (make_node.rolls-Filled (Some k) is (Some rest)))
     ∙ fold-roll-TNode _ _ _ _ _ _ pattern_step place_node_step node_step item_step place_step expr_step
-        (TNode-F.Filled (Some k) is (Some rest))
+    (TNode-F.Filled (Some k) is (Some rest))
 
 pub view_node-Filled : (k : Option (Box code_expr.TExpr Global)) (is : Vec code_item.Item Global)
     (rest : Option (Box code_expr.TExpr Global))
     → view_node (make_node.Filled k is rest)
     ≡ tree.Filled (view_optional k) (items_of (map view_item is.items)) (view_optional rest)
 view_node-Filled k is rest = filled k is rest
+
+pub view_node-Filled_bare : (is : Vec code_item.Item Global)
+    → view_node (make_node.Filled None is None) ≡ tree.Filled tree.Absent (items_of (map view_item is.items)) tree.Absent
+unfolding view_optional
+view_node-Filled_bare is = filled None is None
+
+pub view_node-Filled_rest : (is : Vec code_item.Item Global) (rest : Box code_expr.TExpr Global)
+    → view_node (make_node.Filled None is (Some rest))
+    ≡ tree.Filled tree.Absent (items_of (map view_item is.items)) (tree.Present (view_expr rest.value))
+unfolding view_optional
+view_node-Filled_rest is rest = filled None is (Some rest)
+
+pub view_node-Filled_long : (k : Box code_expr.TExpr Global) (is : Vec code_item.Item Global)
+    → view_node (make_node.Filled (Some k) is None)
+    ≡ tree.Filled (tree.Present (view_expr k.value)) (items_of (map view_item is.items)) tree.Absent
+unfolding view_optional
+view_node-Filled_long k is = filled (Some k) is None
+
+pub view_node-Filled_long_rest : (k : Box code_expr.TExpr Global) (is : Vec code_item.Item Global) (rest : Box code_expr.TExpr Global)
+    → view_node (make_node.Filled (Some k) is (Some rest))
+    ≡ tree.Filled (tree.Present (view_expr k.value)) (items_of (map view_item is.items)) (tree.Present (view_expr rest.value))
+unfolding view_optional
+view_node-Filled_long_rest k is rest = filled (Some k) is (Some rest)
 
 channel : (k : Option (Box code_expr.TExpr Global)) → view_node (make_node.Channel k) ≡ tree.Channel (view_optional k)
 unfolding view_pattern view_place_node view_node view_item view_place view_expr view_optional
@@ -185,6 +208,15 @@ channel (Some k) =
 
 pub view_node-Channel : (k : Option (Box code_expr.TExpr Global)) → view_node (make_node.Channel k) ≡ tree.Channel (view_optional k)
 view_node-Channel k = channel k
+
+pub view_node-Channel_unsized : view_node (make_node.Channel None) ≡ tree.Channel tree.Absent
+unfolding view_optional
+view_node-Channel_unsized = channel None
+
+pub view_node-Channel_sized : (k : Box code_expr.TExpr Global)
+    → view_node (make_node.Channel (Some k)) ≡ tree.Channel (tree.Present (view_expr k.value))
+unfolding view_optional
+view_node-Channel_sized k = channel (Some k)
 
 pub view_node-Call : (f : ℕ) (es : Vec code_expr.TExpr Global) → view_node (make_node.Call f es) ≡ tree.Call f (view_exprs es.items)
 unfolding view_pattern view_place_node view_node view_item view_place view_expr view_optional
@@ -210,13 +242,24 @@ print which m None ps es =
 print which m (Some fd) ps es =
     ap view_node (sym (make_node.rolls-Print which m (Some fd) ps es))
     ∙ fold-roll-TNode _ _ _ _ _ _ pattern_step place_node_step node_step item_step place_step expr_step
-        (TNode-F.Print which m (Some fd) ps es)
+    (TNode-F.Print which m (Some fd) ps es)
 
 pub view_node-Print : (which : Printed) (m : Box code_expr.TExpr Global) (fd : Option (Box code_expr.TExpr Global))
     (ps : Vec Piece Global) (es : Vec code_expr.TExpr Global)
     → view_node (make_node.Print which m fd ps es)
     ≡ tree.Print which (view_expr m.value) (view_optional fd) ps.items (view_exprs es.items)
 view_node-Print which m fd ps es = print which m fd ps es
+
+pub view_node-Print_out : (which : Printed) (m : Box code_expr.TExpr Global) (ps : Vec Piece Global) (es : Vec code_expr.TExpr Global)
+    → view_node (make_node.Print which m None ps es) ≡ tree.Print which (view_expr m.value) tree.Absent ps.items (view_exprs es.items)
+unfolding view_optional
+view_node-Print_out which m ps es = print which m None ps es
+
+pub view_node-Print_file : (which : Printed) (m fd : Box code_expr.TExpr Global) (ps : Vec Piece Global) (es : Vec code_expr.TExpr Global)
+    → view_node (make_node.Print which m (Some fd) ps es)
+    ≡ tree.Print which (view_expr m.value) (tree.Present (view_expr fd.value)) ps.items (view_exprs es.items)
+unfolding view_optional
+view_node-Print_file which m fd ps es = print which m (Some fd) ps es
 
 pub view_node-Load : (k : ℕ) (e : Box code_expr.TExpr Global) → view_node (make_node.Load k e) ≡ tree.Load k (view_expr e.value)
 unfolding view_pattern view_place_node view_node view_item view_place view_expr view_optional
@@ -296,12 +339,49 @@ view_pattern-Tuple ps =
     ∙ fold-roll-Pattern _ _ _ _ _ _ pattern_step place_node_step node_step item_step place_step expr_step (Pattern-F.Tuple ps)
 
 pub ruleset the_exprs = (
-  view_optional-None, view_optional-Some, view_expr-out, view_place-out, view_item-out, view_node-Number, view_node-Chars,
-  view_node-Nil, view_node-OpenNil, view_node-Read, view_node-Part, view_node-Apply, view_node-Lazy, view_node-Assign,
-  view_node-Update, view_node-Step, view_node-Copy, view_node-Filled, view_node-Channel, view_node-Call, view_node-CallThrough,
-  view_node-Print, view_node-Load, view_node-Send, view_node-Receive, view_place_node-Local, view_place_node-Global,
-  view_place_node-Field, view_place_node-Element, view_place_node-Character, view_place_node-Target, view_pattern-Place,
-  view_pattern-Nothing, view_pattern-Tuple)
+  view_optional-None,
+  view_optional-Some,
+  view_expr-out,
+  view_place-out,
+  view_item-out,
+  view_node-Number,
+  view_node-Chars,
+  view_node-Nil,
+  view_node-OpenNil,
+  view_node-Read,
+  view_node-Part,
+  view_node-Apply,
+  view_node-Lazy,
+  view_node-Assign,
+  view_node-Update,
+  view_node-Step,
+  view_node-Copy,
+  view_node-Filled,
+  view_node-Filled_bare,
+  view_node-Filled_rest,
+  view_node-Filled_long,
+  view_node-Filled_long_rest,
+  view_node-Channel,
+  view_node-Channel_unsized,
+  view_node-Channel_sized,
+  view_node-Call,
+  view_node-CallThrough,
+  view_node-Print,
+  view_node-Print_out,
+  view_node-Print_file,
+  view_node-Load,
+  view_node-Send,
+  view_node-Receive,
+  view_place_node-Local,
+  view_place_node-Global,
+  view_place_node-Field,
+  view_place_node-Element,
+  view_place_node-Character,
+  view_place_node-Target,
+  view_pattern-Place,
+  view_pattern-Nothing,
+  view_pattern-Tuple,
+)
 
 -- ---- statements
 
@@ -447,21 +527,44 @@ unfolding view_stmt view_alt_arm view_case_arm view_handler_arm view_pick_arm
 view_alt_arm-out a = fold_out-AltArm _ _ _ _ _ stmt_step alt_arm_step case_arm_step handler_arm_step pick_arm_step a
 
 pub view_pick_arm-out : (a : code_pick_arm.PickArm) → view_pick_arm a ≡ record {
-    head = record { variants = a.variants.items; variable = a.variable };
-    body = view_stmts a.body.items
-  }
+  head = record { variants = a.variants.items; variable = a.variable };
+  body = view_stmts a.body.items;
+}
 unfolding view_stmt view_alt_arm view_case_arm view_handler_arm view_pick_arm
 view_pick_arm-out a = fold_out-PickArm _ _ _ _ _ stmt_step alt_arm_step case_arm_step handler_arm_step pick_arm_step a
 
 pub view_handler_arm-out : (a : code_handler_arm.HandlerArm) → view_handler_arm a ≡ record {
-    head = record { patterns = a.patterns.items; variable = a.variable };
-    body = view_stmts a.body.items
-  }
+  head = record { patterns = a.patterns.items; variable = a.variable };
+  body = view_stmts a.body.items;
+}
 unfolding view_stmt view_alt_arm view_case_arm view_handler_arm view_pick_arm
 view_handler_arm-out a = fold_out-HandlerArm _ _ _ _ _ stmt_step alt_arm_step case_arm_step handler_arm_step pick_arm_step a
 
 pub ruleset the_stmts = (
-  view_boxed-None, view_boxed-Some, view_stmt-Empty, view_stmt-Block, view_stmt-Declare, view_stmt-Eval, view_stmt-If, view_stmt-While,
-  view_stmt-Do, view_stmt-For, view_stmt-Case, view_stmt-Alt, view_stmt-Pick, view_stmt-Break, view_stmt-Continue, view_stmt-Return,
-  view_stmt-Exit, view_stmt-Spawn, view_stmt-Raise, view_stmt-RaiseDeclared, view_stmt-RaiseAgain, view_stmt-Handle, view_case_arm-out,
-  view_alt_arm-out, view_pick_arm-out, view_handler_arm-out)
+  view_boxed-None,
+  view_boxed-Some,
+  view_stmt-Empty,
+  view_stmt-Block,
+  view_stmt-Declare,
+  view_stmt-Eval,
+  view_stmt-If,
+  view_stmt-While,
+  view_stmt-Do,
+  view_stmt-For,
+  view_stmt-Case,
+  view_stmt-Alt,
+  view_stmt-Pick,
+  view_stmt-Break,
+  view_stmt-Continue,
+  view_stmt-Return,
+  view_stmt-Exit,
+  view_stmt-Spawn,
+  view_stmt-Raise,
+  view_stmt-RaiseDeclared,
+  view_stmt-RaiseAgain,
+  view_stmt-Handle,
+  view_case_arm-out,
+  view_alt_arm-out,
+  view_pick_arm-out,
+  view_handler_arm-out,
+)

@@ -1,5 +1,5 @@
 -- The trees of the code, without how they lie in memory.
-use Rattle.std.specs.Prelude.{ℕ, ℤ, List, [], ◌∷◌, map, Option, None, Some, option_map, Box}
+use Rattle.std.specs.Prelude.{ℤ, List, [], ◌∷◌, map, Option, None, Some, option_map, Box}
 use Rattle.std.specs.Global.{Global}
 use Rattle.limbo_types.specs.View.{view_ty, view_fn}
 use Rattle.limbo_layout.specs.View.{view_defs}

@@ -26,7 +26,10 @@ pub enum TNode {
     /// The value in a place.
     Read(Box<Place>),
     /// A part of an adt's or tuple's value that stands in no place, by its number (see `PlaceNode::Field`).
-    Part { whole: Box<TExpr>, part: u32 },
+    Part {
+        whole: Box<TExpr>,
+        part: u32,
+    },
     /// An operation on the values of its operands.
     Apply {
         operation: Operation,
@@ -68,9 +71,14 @@ pub enum TNode {
         rest: Option<Box<TExpr>>,
     },
     /// `chan of` a type. No form of the language gives a size so far.
-    Channel { size: Option<Box<TExpr>> },
+    Channel {
+        size: Option<Box<TExpr>>,
+    },
     /// A call of a function of the module. A method has the object among its arguments where it takes it.
-    Call { function: u32, args: Vec<TExpr> },
+    Call {
+        function: u32,
+        args: Vec<TExpr>,
+    },
     /// A call through a module's value, of a function by its place in the module's type.
     CallThrough {
         module: Box<TExpr>,
@@ -87,14 +95,19 @@ pub enum TNode {
         args: Vec<TExpr>,
     },
     /// `load`: an instance of the module at a path, of the module type of this number.
-    Load { interface: u32, path: Box<TExpr> },
+    Load {
+        interface: u32,
+        path: Box<TExpr>,
+    },
     /// `channel <-= value`
     Send {
         channel: Box<TExpr>,
         value: Box<TExpr>,
     },
     /// `<-channel`, from a channel or from any channel of an array, as the operand's type says.
-    Receive { channel: Box<TExpr> },
+    Receive {
+        channel: Box<TExpr>,
+    },
 }
 
 /// What can be assigned to, with its type.
@@ -115,7 +128,10 @@ pub enum PlaceNode {
     Global(u32),
     /// A part of a place, by its number among the parts as they lie in memory: of a pick adt the tag is part 0, then follow the
     /// common fields, then the fields of each variant.
-    Field { whole: Box<Place>, part: u32 },
+    Field {
+        whole: Box<Place>,
+        part: u32,
+    },
     /// An element of an array.
     Element {
         array: Box<TExpr>,
@@ -127,7 +143,9 @@ pub enum PlaceNode {
         index: Box<TExpr>,
     },
     /// What a `ref` names.
-    Target { reference: Box<TExpr> },
+    Target {
+        reference: Box<TExpr>,
+    },
 }
 
 /// Where an assigned value goes.

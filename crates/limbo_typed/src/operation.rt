@@ -30,13 +30,25 @@ pub enum Given {
 #[derive(Clone, Copy)]
 pub enum Operation {
     /// `+ - * / % & ^ |` of two numbers of a kind.
-    Arithmetic { operator: Operator, kind: Kind },
+    Arithmetic {
+        operator: Operator,
+        kind: Kind,
+    },
     /// `<<` and `>>` of a number of a kind and an int.
-    Shift { shift: Shift, kind: Kind },
+    Shift {
+        shift: Shift,
+        kind: Kind,
+    },
     /// `+`, `-`, `~`, `++` and `--` of a number of a kind.
-    Alter { unary: Unary, kind: Kind },
+    Alter {
+        unary: Unary,
+        kind: Kind,
+    },
     /// `== != < <= > >=` of two numbers of a kind: 1 or 0.
-    Compare { comparison: Comparison, kind: Kind },
+    Compare {
+        comparison: Comparison,
+        kind: Kind,
+    },
     /// The same of two strings.
     CompareChars(Comparison),
     /// `==` of two references: whether they are the same one, or `nil` both.
@@ -46,7 +58,10 @@ pub enum Operation {
     /// `!` of an int.
     Not,
     /// `byte`, `int` and `big` of a number.
-    Convert { from: Kind, to: Kind },
+    Convert {
+        from: Kind,
+        to: Kind,
+    },
     /// `int` and `big` of a string.
     ReadNumber(Kind),
     /// `string` of a number.
@@ -72,7 +87,10 @@ pub enum Operation {
     /// `(a, b, ..)`
     Tuple,
     /// A value of an adt, of its fields in order, the common ones of a pick adt first, then those of the variant.
-    Adt { adt: u32, variant: Option<u32> },
+    Adt {
+        adt: u32,
+        variant: Option<u32>,
+    },
     /// `list of { .. }`
     List,
     /// `array[n] of` a type, of its length: each element is zero or `nil`.

@@ -42,7 +42,9 @@ pub enum TStmt {
         value: Box<TExpr>,
         arms: Vec<CaseArm>,
     },
-    Alt { arms: Vec<AltArm> },
+    Alt {
+        arms: Vec<AltArm>,
+    },
     /// `pick` of a `ref` of a pick adt.
     Pick {
         value: Box<TExpr>,
@@ -64,7 +66,9 @@ pub enum TStmt {
         values: Vec<TExpr>,
     },
     /// What was caught last in this place is raised again.
-    RaiseAgain { caught: u32 },
+    RaiseAgain {
+        caught: u32,
+    },
     /// A block, and what handles its exceptions. What is caught stays in a place of the block's own, by its number among those of
     /// the function.
     Handle {
