@@ -42,11 +42,14 @@ IsRefOf n (RefAdt m) = m ≡ n
 IsRefOf n (RefPick m v) = m ≡ n
 IsRefOf n _ = ⊥
 
+abbrev pub IsVariantOf : Ty → Ty → Type 0
+IsVariantOf (RefPick n v) u = u ≡ RefAdt n
+IsVariantOf _ u = ⊥
+
 -- A value of the first type stands where one of the second is asked for: they are the same, or the first is a `ref` of a variant and
 -- the second of its adt.
 abbrev pub Stands : Ty → Ty → Type 0
-Stands t (RefAdt n) = IsRefOf n t
-Stands t u = t ≡ u
+Stands t u = (t ≡ u) ⊎ IsVariantOf t u
 
 -- values of these types, one after the other, where these are asked for
 abbrev pub AllStand : List Ty → List Ty → Type 0

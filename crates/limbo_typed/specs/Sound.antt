@@ -2,7 +2,8 @@
 -- Not said here, but by the checker's own rules: that stores make no cycle, that values of module types and of `FD` stay where they
 -- may, that types have a layout, that the ranges of a `case` don't overlap, that arrays, lists and modules are compared with `nil`
 -- alone, that a function with an answer ends each path, and that what is raised again was caught.
-use Rattle.std.specs.Prelude.{ℕ, ◌≡◌, ◌<◌, ◌+◌, ◌⊎◌, Bool, true, false, List, [], ◌∷◌, ◌++◌, map, take, length, Option, Some, None, slice_get}
+use Rattle.std.specs.Prelude.{ℕ, ◌≡◌, ◌<◌, ◌+◌, ◌⊎◌, Bool, true, false, List, []}
+use Rattle.std.specs.Prelude.{◌∷◌, ◌++◌, map, take, length, Option, Some, None, slice_get}
 use Rattle.limbo_types.specs.Types as ty
 use Rattle.limbo_types.specs.Types.{Ty, Tys, FnTy}
 use Rattle.limbo_layout.specs.Adts.{Names, AreNamed, listed}
@@ -49,9 +50,23 @@ Each P (x ∷ xs) = P x × Each P xs
 abbrev pub HasVariable : List Var → ℕ → Ty → Type 0
 HasVariable vs x t = (v : Var) × (slice_get vs x ≡ Some v) × (v.ty ≡ t)
 
--- Each number in a type names an adt, a variant of it, or a module type.
+-- No `nil` of which nothing says what it stands for has a part in a type.
+abbrev mutual
+  pub IsSettled : Ty → Type 0
+  IsSettled ty.Nil = ⊥
+  IsSettled (ty.ArrayOf t) = IsSettled t
+  IsSettled (ty.ListOf t) = IsSettled t
+  IsSettled (ty.ChanOf t) = IsSettled t
+  IsSettled (ty.Tuple ts) = AllSettled ts
+  IsSettled t = Unit {0}
+
+  pub AllSettled : Tys → Type 0
+  AllSettled ty.NoTys = Unit {0}
+  AllSettled (ty.MoreTys t ts) = IsSettled t × AllSettled ts
+
+-- A type of the module: each number in it names an adt, a variant of it, or a module type, and no `nil` in it is open.
 abbrev pub IsNamed : Module → Ty → Type 0
-IsNamed m t = Names m.adts (length m.interfaces) t
+IsNamed m t = Names m.adts (length m.interfaces) t × IsSettled t
 
 abbrev pub NamesAll : Module → List Ty → Type 0
 NamesAll m ts = Each (IsNamed m) ts
