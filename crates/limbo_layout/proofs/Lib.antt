@@ -5,3 +5,4 @@ pub mod Marks
 pub mod Unlaid
 pub mod Climbing
 pub mod Placed
+pub mod Examples

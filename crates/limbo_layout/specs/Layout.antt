@@ -1,5 +1,5 @@
 -- How values lie in memory.
-use Rattle.std.specs.Prelude.{◌≡◌, ℕ, ◌+◌, ◌/◌, ◌≤◌, Bool, false, ◌==◌, ◌||◌, List, [], ◌∷◌, ◌++◌, map, max, Option, Some, None, slice_get}
+use Rattle.std.specs.Prelude.{◌≡◌, ℕ, ◌+◌, ◌/◌, ◌<◌, ◌≤◌, Bool, false, ◌==◌, ◌||◌, List, [], ◌∷◌, ◌++◌, map, max, Option, Some, None, slice_get}
 use Rattle.std.specs.Int.{next_multiple_of}
 use Rattle.std.specs.List.{range_with_len}
 use Rattle.limbo_types.specs.Types.{Ty, Tys, Byte, Int, Big, Nothing, Tuple, Adt}
@@ -77,3 +77,11 @@ words size = (size + 3) / 4
 -- which words refer, by their order: those at the offsets
 abbrev pub map_of : Room → List Bool
 map_of r = map (λ w. is_in w (map (λ o. o / 4) r.references)) (range_with_len 0 (words r.size))
+
+-- what is told of a type's layout: its size, and its words that refer
+abbrev pub IsLayout : List Def → Ty → ℕ → List Bool → Type 0
+IsLayout defs t size words = (r : Room) × Laid defs t r × (size ≡ r.size) × (words ≡ map_of r)
+
+-- a type takes more than it may
+abbrev pub IsTooLarge : List Def → Ty → Type 0
+IsTooLarge defs t = (r : Room) → Laid defs t r → limit < r.size

@@ -3,7 +3,7 @@
 ghost use Rattle.std.specs.Prelude.{◌≡◌, ℕ, ◌<◌, ◌≤◌, List, length, IfOk, IfErr};
 ghost use Rattle.limbo_types.specs.View.{view_ty};
 ghost use Rattle.limbo_layout.specs.Adts.{Def, Has, held};
-ghost use Rattle.limbo_layout.specs.Layout.{Laid, limit, map_of, Room as Taken};
+ghost use Rattle.limbo_layout.specs.Layout.{IsLayout, IsTooLarge, limit};
 ghost use Rattle.limbo_layout.specs.Laying.{AreLaid};
 ghost use Rattle.limbo_layout.specs.declared.def.LayoutFault.TheVariants.{TooLarge};
 
@@ -28,9 +28,9 @@ pub struct Layout {
 /// Want of memory. `TooLarge` exactly where it takes more than 65,536 bytes.
 pub fn layout_of(alloc: Global, rooms: &[Room], t: &Ty) -> Result<Layout, LayoutFault>
     requires { (n : ℕ) → Has (held (view_ty t.now)) n → n < length rooms.now }
-    ensures laid { (defs : List Def) → AreLaid defs rooms.now → IfOk result (λ l. (r : Taken) × Laid defs (view_ty t.now) r × (l.size ≡ r.size) × (l.map.items ≡ map_of r)) }
+    ensures laid { (defs : List Def) → AreLaid defs rooms.now → IfOk result (λ l. IsLayout defs (view_ty t.now) l.size l.map.items) }
     ensures fits { IfOk result (λ l. l.size ≤ limit) }
-    ensures too_large { (defs : List Def) → AreLaid defs rooms.now → IfErr result (λ e. e ≡ TooLarge → (r : Taken) → Laid defs (view_ty t.now) r → limit < r.size) }
+    ensures too_large { (defs : List Def) → AreLaid defs rooms.now → IfErr result (λ e. e ≡ TooLarge → IsTooLarge defs (view_ty t.now)) }
 {
     let mut whole = Room::new(alloc);
     put_type(alloc, rooms, &mut whole, t)?;

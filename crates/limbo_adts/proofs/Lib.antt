@@ -1,0 +1,4 @@
+pub mod Likeness
+pub mod Reach
+pub mod Found
+pub mod Numbers
