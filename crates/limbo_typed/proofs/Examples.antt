@@ -34,6 +34,7 @@ abbrev m : Module
 m = record {
   name = codes "M";
   adts = [];
+  modules = [];
   globals = [];
   initials = [];
   functions = f ∷ [];

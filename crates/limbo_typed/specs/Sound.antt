@@ -366,6 +366,7 @@ HasSystem m (Some n) = n < length m.interfaces
 
 pub record IsSound (m : Module) : Type 0 where
   pub adts : AreNamed m.adts (length m.interfaces)
+  pub modules : map (λ i. i.name) m.interfaces ≡ m.modules
   pub globals : Each (λ v. IsNamed m v.ty) m.globals
   pub initials : Each (SoundInitial m) m.initials
   pub functions : Each (SoundFunction m) m.functions

@@ -162,10 +162,11 @@ pub record Exception : Type 0 where
   pub values : List Ty
 
 -- A module: what it has, what it declares, and the adts, module types and exceptions that it names. A global without an initial value
--- begins with zero or `nil`.
+-- begins with zero or `nil`. The names of the module types stand beside the adts too.
 pub record Module : Type 0 where
   pub name : List ℕ
   pub adts : List Def
+  pub modules : List (List ℕ)
   pub globals : List Var
   pub initials : List Initial
   pub functions : List Function

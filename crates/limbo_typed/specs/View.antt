@@ -2,7 +2,7 @@
 use Rattle.std.specs.Prelude.{ℤ, List, [], ◌∷◌, map, Option, None, Some, option_map, Box}
 use Rattle.std.specs.Global.{Global}
 use Rattle.limbo_types.specs.View.{view_ty, view_fn}
-use Rattle.limbo_layout.specs.View.{view_defs}
+use Rattle.limbo_adts.specs.Table.{defs_of}
 use Rattle.limbo_typed.specs.declared.expr.TExpr as code_expr
 use Rattle.limbo_typed.specs.declared.expr.TExpr.{TExpr-F, fold-TExpr}
 use Rattle.limbo_typed.specs.declared.expr.TNode as code_node
@@ -258,7 +258,8 @@ view_exception e = record { module_name = e.module; name = e.name; values = map 
 abbrev pub view_module : code_module.TypedModule → tree.Module
 view_module m = record {
   name = m.name;
-  adts = view_defs m.adts.items;
+  adts = defs_of m.adts;
+  modules = m.adts.modules;
   globals = map view_var m.globals.items;
   initials = m.initials.items;
   functions = map view_function m.functions.items;

@@ -1,6 +1,6 @@
 use crate::stmt::{Constant, TStmt};
 use inf_text::Text;
-use limbo_layout::AdtDef;
+use limbo_adts::Adts;
 use limbo_types::{FnTy, Ty};
 
 /// A variable of a function or of a module. A parameter without a name has the empty one.
@@ -64,8 +64,8 @@ pub struct Initial {
 #[derive(Drop)]
 pub struct TypedModule {
     pub name: Text,
-    /// Every adt that its types name, its own and those of the module types.
-    pub adts: Vec<AdtDef>,
+    /// Every adt that its types name, its own and those of the module types, and the names of the module types.
+    pub adts: Adts,
     pub globals: Vec<TVar>,
     /// What globals begin with; one that isn't named begins with zero or `nil`.
     pub initials: Vec<Initial>,
