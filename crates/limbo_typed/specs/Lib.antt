@@ -1,0 +1,4 @@
+pub mod Typed
+pub mod View
+pub mod Fitting
+pub mod Sound
