@@ -15,5 +15,5 @@ returns-clause-fits c =
     let e : c.push.new.self.items ≡ more = c.in_ok-push.ensures.items ∙ ap (λ (t : Table). t.adts ++ (c.args.def ∷ [])) c.self.view_is in
     let l : length more ≡ length c.args.self.adts + 1 = simp length-append (omega arith) in
     let f : IfOk c.new.result (λ _. (n : ℕ) → n < length more → Fits (view_defs more) (Adt n)) =
-        subst (λ (z : List code_def.AdtDef). IfOk c.new.result (λ _. (n : ℕ) → n < length z → Fits (view_defs z) (Adt n))) e c.new.ensures.fits in
+    subst (λ (z : List code_def.AdtDef). IfOk c.new.result (λ _. (n : ℕ) → n < length z → Fits (view_defs z) (Adt n))) e c.new.ensures.fits in
     IfOk-weaker c.new.result (λ _. (n : ℕ) → n < length more → Fits (view_defs more) (Adt n)) _ (λ x k n h. k n (omega arith)) f
