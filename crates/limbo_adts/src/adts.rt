@@ -58,6 +58,7 @@ impl Adts {
         ensures adts { IfOk result (λ adts. adts.adts ≡ defs.items) }
         ensures modules { IfOk result (λ adts. adts.modules ≡ modules.items) }
         ensures fits { IfOk result (λ adts. (n : ℕ) → n < length defs.items → Fits (view_defs defs.items) (Adt n)) }
+        ensures there { IfErr result (λ e. (n : ℕ) → e ≡ TooLarge n → n < length defs.items) }
         ensures too_large { IfErr result (λ e. (n : ℕ) → e ≡ TooLarge n → Fits (view_defs defs.items) (Adt n) → ⊥) }
         ensures first { IfErr result (λ e. (n m : ℕ) → e ≡ TooLarge n → m < n → Fits (view_defs defs.items) (Adt m)) }
     {
@@ -82,6 +83,7 @@ impl Adts {
         ensures adts { IfOk result (λ adts. adts.adts ≡ self.adts ++ (def ∷ [])) }
         ensures modules { IfOk result (λ adts. adts.modules ≡ self.modules) }
         ensures fits { IfOk result (λ _. (n : ℕ) → n < length self.adts + 1 → Fits (view_defs (self.adts ++ (def ∷ []))) (Adt n)) }
+        ensures last { IfErr result (λ e. (n : ℕ) → e ≡ TooLarge n → n ≡ length self.adts) }
         ensures too_large { IfErr result (λ e. (n : ℕ) → e ≡ TooLarge n → Fits (view_defs (self.adts ++ (def ∷ []))) (Adt n) → ⊥) }
     {
         let Adts {

@@ -186,6 +186,7 @@ pub fn lay_all(alloc: Global, defs: &[AdtDef]) -> Result<Vec<Room>, AdtsFault>
     requires held { HoldsOnly (view_defs defs.now) }
     requires few { length defs.now < 2 ^ 32 }
     ensures laid { IfOk result (λ rooms. AreLaid (view_defs defs.now) rooms.items) }
+    ensures there { IfErr result (λ e. (n : ℕ) → e ≡ TooLarge n → n < length defs.now) }
     ensures too_large { IfErr result (λ e. (n : ℕ) → e ≡ TooLarge n → Fits (view_defs defs.now) (Adt n) → ⊥) }
     ensures first { IfErr result (λ e. (n m : ℕ) → e ≡ TooLarge n → m < n → Fits (view_defs defs.now) (Adt m)) }
 {

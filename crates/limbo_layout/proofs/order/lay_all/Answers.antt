@@ -22,6 +22,16 @@ lay-requires-clause-first c =
     let m : length (view_defs c.args.defs.now) ≡ length c.args.defs.now = length-map c.args.defs.now view_def in
     rw c.if-not-index.true at (bool_at c.loop-number.table.laid.items c.loop-number.number c.index.result.now (omega arith) c.index.ensures)
 
+pub returns-in_err-lay-clause-there : goal.returns-in_err-lay-clause-there
+returns-in_err-lay-clause-there c =
+    let m : length (view_defs c.args.defs.now) ≡ length c.args.defs.now = length-map c.args.defs.now view_def in
+    let k : (n : ℕ) → c.in_err-lay.field-0.0 ≡ TooLarge n → n < length c.args.defs.now =
+    λ n e.
+    let f : n ≡ c.loop-number.number = (c.in_err-lay.ensures.too_large n e).0 in
+    omega arith in
+    let p = err_from_is_err_and c.from_residual-in_err-lay.result c.from_residual-in_err-lay.ensures.1 in
+    rw (p.1, p.2) k
+
 pub returns-in_err-lay-clause-first : goal.returns-in_err-lay-clause-first
 returns-in_err-lay-clause-first c =
     let k : (n m : ℕ) → c.in_err-lay.field-0.0 ≡ TooLarge n → m < n → Fits (view_defs c.args.defs.now) (Adt m) =

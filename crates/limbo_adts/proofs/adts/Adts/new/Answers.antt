@@ -12,6 +12,12 @@ use Rattle.limbo_adts.proofs.adts.Adts.new.Goals as goal
 pub lay_all-requires-clause-held : goal.lay_all-requires-clause-held
 lay_all-requires-clause-held c = rw c.deref.ensures.value (holds_only (view_defs c.args.defs.items) (length c.args.modules.items) c.requires.named)
 
+pub returns-in_err-rooms-clause-there : goal.returns-in_err-rooms-clause-there
+returns-in_err-rooms-clause-there c =
+    let k : (n : ℕ) → c.in_err-rooms.field-0.0 ≡ TooLarge n → n < length c.args.defs.items = rw c.deref.ensures.value at c.in_err-rooms.ensures.there in
+    let p = err_from_is_err_and c.from_residual.result c.from_residual.ensures.1 in
+    rw (p.1, p.2) k
+
 pub returns-in_err-rooms-clause-first : goal.returns-in_err-rooms-clause-first
 returns-in_err-rooms-clause-first c =
     let k : (n m : ℕ) → c.in_err-rooms.field-0.0 ≡ TooLarge n → m < n → Fits (view_defs c.args.defs.items) (Adt m) = rw c.deref.ensures.value at c.in_err-rooms.ensures.first in
