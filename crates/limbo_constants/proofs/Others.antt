@@ -10,30 +10,38 @@ use Rattle.limbo_tree.specs.declared.expr.Expr.TheVariants as make
 use Rattle.limbo_tree.specs.Exprs as tree
 use Rattle.limbo_tree.specs.View.{view_expr, exprs_of}
 use Rattle.limbo_tree.proofs.Forms.{Boxed, HasForm, has_form}
-use Rattle.limbo_constants.specs.Constants.{Meant, outcome, outcome_of_one}
+use Rattle.limbo_constants.specs.Constants.{Meant, leaf, outcome, outcome_of_one}
 use Rattle.limbo_constants.specs.Asked.{asked, asked_of_one}
 
 -- ---- expressions of no form that is constant
 
-pub not_constant :
+pub not_leaf :
     (meant : Meant) (e : code_expr.Expr)
     → ((v : ℤ) (wide : Bool) (s : Span) → e ≡ make.Number v wide s → ⊥)
     → ((t : Text) (s : Span) → e ≡ make.Chars t s → ⊥)
     → ((n : Text) (s : Span) → e ≡ make.Name n s → ⊥)
     → ((x : Boxed) (n : code_name.Name) (s : Span) → e ≡ make.Arrow x n s → ⊥)
     → ((x : Boxed) (n : code_name.Name) (s : Span) → e ≡ make.Dot x n s → ⊥)
-    → ((xs : Vec code_expr.Expr Global) (s : Span) → e ≡ make.Group xs s → ⊥)
-    → ((o : UnaryOp) (x : Boxed) (s : Span) → e ≡ make.Unary o x s → ⊥)
-    → ((o : BinaryOp) (l r : Boxed) (s : Span) → e ≡ make.Binary o l r s → ⊥)
-    → None ≡ outcome meant (view_expr e)
-not_constant meant e number chars name arrow dot group unary binary = go (view_expr e) (has_form e)
+    → None ≡ leaf meant (view_expr e)
+not_leaf meant e number chars name arrow dot = go (view_expr e) (has_form e)
   where
-    go : (t : tree.Expr) → HasForm e t → None ≡ outcome meant t
+    go : (t : tree.Expr) → HasForm e t → None ≡ leaf meant t
     go (tree.Number v wide) h = absurd (number h.0 h.1 h.2 h.3)
     go (tree.Chars t) h = absurd (chars h.0 h.1 h.2)
     go (tree.Name n) h = absurd (name h.0 h.1 h.2)
     go (tree.Arrow x n) h = absurd (arrow h.0 h.1 h.2 h.3)
     go (tree.Dot x n) h = absurd (dot h.0 h.1 h.2 h.3)
+    go _ h = refl
+
+pub only_leaf :
+    (meant : Meant) (e : code_expr.Expr)
+    → ((xs : Vec code_expr.Expr Global) (s : Span) → e ≡ make.Group xs s → ⊥)
+    → ((o : UnaryOp) (x : Boxed) (s : Span) → e ≡ make.Unary o x s → ⊥)
+    → ((o : BinaryOp) (l r : Boxed) (s : Span) → e ≡ make.Binary o l r s → ⊥)
+    → leaf meant (view_expr e) ≡ outcome meant (view_expr e)
+only_leaf meant e group unary binary = go (view_expr e) (has_form e)
+  where
+    go : (t : tree.Expr) → HasForm e t → leaf meant t ≡ outcome meant t
     go (tree.Group xs) h = absurd (group h.0 h.1 h.2)
     go (tree.Unary o x) h = absurd (unary h.0 h.1 h.2 h.3)
     go (tree.Binary o l r) h = absurd (binary h.0 h.1 h.2 h.3 h.4)

@@ -139,25 +139,37 @@ unary op operand = do
   sort ← sort_before row (sort_of operand)
   Some (settled sort (value_before row (value_in operand)))
 
-abbrev pub binary : BinaryOp → Outcome → Outcome → Option Outcome
-binary op left right = do
-  row ← between_row op
+abbrev pub come_between : Between → Outcome → Outcome → Option Outcome
+come_between row left right = do
   sort ← sort_between row (sort_of left) (sort_of right)
   Some (settled sort (given_between row (value_in left) (value_in right)))
 
--- A number is an int, or a big where it is written as one. What a name, `m->k` and `x.k` mean is asked for. `nil`, tuples,
--- assignments, calls, loads, and what makes or reads arrays, lists and channels aren't constant.
+abbrev pub binary : BinaryOp → Outcome → Outcome → Option Outcome
+binary op left right = between_row op >>= λ row. come_between row left right
+
+-- the same, of operands that may come to nothing
+abbrev pub unary_of : UnaryOp → Option Outcome → Option Outcome
+unary_of op operand = operand >>= λ x. unary op x
+
+abbrev pub binary_of : BinaryOp → Option Outcome → Option Outcome → Option Outcome
+binary_of op left right = left >>= λ x. right >>= λ y. binary op x y
+
+-- An expression without operators. A number is an int, or a big where it is written as one. What a name, `m->k` and `x.k` mean is
+-- asked for. `nil`, tuples, assignments, calls, loads, and what makes or reads arrays, lists and channels aren't constant.
+abbrev pub leaf : Meant → tree.Expr → Option Outcome
+leaf meant (tree.Number value wide) = Some (Gives (Number (of_kind (if wide then Big else Int) value)))
+leaf meant (tree.Chars text) = Some (Gives (Chars text))
+leaf meant (tree.Name name) = option_map Gives (meant (tree.Name name))
+leaf meant (tree.Arrow base name) = option_map Gives (meant (tree.Arrow base name))
+leaf meant (tree.Dot base name) = option_map Gives (meant (tree.Dot base name))
+leaf meant _ = None
+
 abbrev mutual
   pub outcome : Meant → tree.Expr → Option Outcome
-  outcome meant (tree.Number value wide) = Some (Gives (Number (of_kind (if wide then Big else Int) value)))
-  outcome meant (tree.Chars text) = Some (Gives (Chars text))
-  outcome meant (tree.Name name) = option_map Gives (meant (tree.Name name))
-  outcome meant (tree.Arrow base name) = option_map Gives (meant (tree.Arrow base name))
-  outcome meant (tree.Dot base name) = option_map Gives (meant (tree.Dot base name))
   outcome meant (tree.Group items) = outcome_of_one meant items
-  outcome meant (tree.Unary op operand) = outcome meant operand >>= λ x. unary op x
-  outcome meant (tree.Binary op left right) = outcome meant left >>= λ x. outcome meant right >>= λ y. binary op x y
-  outcome meant _ = None
+  outcome meant (tree.Unary op operand) = unary_of op (outcome meant operand)
+  outcome meant (tree.Binary op left right) = binary_of op (outcome meant left) (outcome meant right)
+  outcome meant e = leaf meant e
 
   -- one expression in parentheses
   pub outcome_of_one : Meant → tree.Exprs → Option Outcome

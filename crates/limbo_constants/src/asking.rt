@@ -22,8 +22,7 @@ fn ask<'a>(parts: Vec<&'a Expr>, e: &'a Expr) -> Result<Vec<&'a Expr>, AllocErro
         Expr::Unary { operand, .. } => ask(parts, operand),
         Expr::Binary { left, right, .. } => {
             let parts = ask(parts, left)?;
-            let parts = ask(parts, right)?;
-            Ok(parts)
+            ask(parts, right)
         }
         _ => Ok(parts),
     }

@@ -8,7 +8,7 @@ ghost use Rattle.limbo_constants.specs.View.{view_operand, view_found};
 use crate::constant::{Constant, Outcome};
 use crate::known::Known;
 use crate::operand::{Found, Held, Operand};
-use crate::values::{binary, unary};
+use crate::values::{binary_of, unary_of};
 use limbo_tree::Expr;
 use limbo_values::{Kind, Number};
 use std::alloc::{AllocError, Global};
@@ -31,6 +31,24 @@ fn named<'a, K: Known>(known: &'a K, part: &Expr) -> Option<Found<'a>>
     }
 }
 
+// What an expression without operators comes to.
+#[tactic(auto, using(limbo_tree::proofs::Exprs::the_views))]
+fn leaf<'a, K: Known>(known: &'a K, e: &'a Expr) -> Option<Found<'a>>
+    ensures { option_map view_found result ≡ constants.leaf (K.meant known.now) (view_expr e.now) }
+{
+    match e {
+        Expr::Number { value, wide, .. } => {
+            let number = literal(*value, *wide);
+            Some(Found::Gives(Operand::Number(number)))
+        }
+        Expr::Chars { text, .. } => Some(Found::Gives(Operand::Chars(Held::Lent(text)))),
+        Expr::Name { .. } => named(known, e),
+        Expr::Arrow { .. } => named(known, e),
+        Expr::Dot { .. } => named(known, e),
+        _ => None,
+    }
+}
+
 // What an expression comes to. A string is copied nowhere but where two are joined.
 #[tactic(auto, using(limbo_tree::proofs::Exprs::the_views))]
 #[cycle(finding)]
@@ -42,20 +60,10 @@ fn find<'a, K: Known>(
     ensures { IfOk result (λ found. option_map view_found found ≡ constants.outcome (K.meant known.now) (view_expr e.now)) }
 {
     match e {
-        Expr::Number { value, wide, .. } => {
-            let number = literal(*value, *wide);
-            Ok(Some(Found::Gives(Operand::Number(number))))
-        }
-        Expr::Chars { text, .. } => Ok(Some(Found::Gives(Operand::Chars(Held::Lent(text))))),
-        Expr::Name { .. } => Ok(named(known, e)),
-        Expr::Arrow { .. } => Ok(named(known, e)),
-        Expr::Dot { .. } => Ok(named(known, e)),
         Expr::Group { items, .. } => find_one(alloc, known, items),
         Expr::Unary { op, operand, .. } => {
-            let Some(operand) = find(alloc, known, operand)? else {
-                return Ok(None);
-            };
-            Ok(unary(*op, &operand))
+            let operand = find(alloc, known, operand)?;
+            Ok(unary_of(*op, operand))
         }
         Expr::Binary {
             op,
@@ -63,15 +71,11 @@ fn find<'a, K: Known>(
             right,
             ..
         } => {
-            let Some(left) = find(alloc, known, left)? else {
-                return Ok(None);
-            };
-            let Some(right) = find(alloc, known, right)? else {
-                return Ok(None);
-            };
-            binary(alloc, *op, left, right)
+            let left = find(alloc, known, left)?;
+            let right = find(alloc, known, right)?;
+            binary_of(alloc, *op, left, right)
         }
-        _ => Ok(None),
+        _ => Ok(leaf(known, e)),
     }
 }
 

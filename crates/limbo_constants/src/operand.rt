@@ -1,6 +1,6 @@
 //! What is kept while an expression is evaluated. A string is lent by the tree or by who knows the constants, until it is joined.
 
-ghost use Rattle.std.specs.Prelude.{◌≡◌, IfOk, option_map, None};
+ghost use Rattle.std.specs.Prelude.{◌≡◌, IfOk, option_map};
 ghost use Rattle.std.specs.Result.{result_ok};
 ghost use Rattle.limbo_values.specs.Texts.{joined};
 ghost use Rattle.limbo_constants.specs.Constants as constants;
@@ -148,16 +148,6 @@ impl<'a> Found<'a> {
         match self {
             Found::Gives(a) => a.sort(),
             Found::Raises(sort) => *sort,
-        }
-    }
-
-    /// The value, if there is one.
-    pub fn into_value(self) -> Option<Operand<'a>>
-        ensures { option_map view_operand result ≡ constants.value_in (view_found self.entry) }
-    {
-        match self {
-            Found::Gives(a) => Some(a),
-            Found::Raises(_) => None,
         }
     }
 

@@ -58,14 +58,24 @@ fn given_before(row: Before, operand: &Found) -> Option<Number>
     }
 }
 
-/// What an operator before an operand comes to, if it fits there.
-pub fn unary<'a>(op: UnaryOp, operand: &Found) -> Option<Found<'a>>
+// What an operator before an operand comes to, if it fits there.
+fn unary<'a>(op: UnaryOp, operand: &Found) -> Option<Found<'a>>
     ensures { option_map view_found result ≡ constants.unary op (view_found operand.now) }
 {
     let row = before_row(op)?;
     let sort = sort_before(row, operand.sort())?;
     let value = numeric(given_before(row, operand));
     Some(settled(sort, value))
+}
+
+/// The same, of an operand that may come to nothing.
+pub fn unary_of<'a>(op: UnaryOp, operand: Option<Found>) -> Option<Found<'a>>
+    ensures { option_map view_found result ≡ constants.unary_of op (option_map view_found operand.entry) }
+{
+    match operand {
+        Some(operand) => unary(op, &operand),
+        None => None,
+    }
 }
 
 // ---- between two values
@@ -128,16 +138,40 @@ fn of_values<'a>(
     alloc: Global,
     operation: Operation,
     a: Operand<'a>,
-    b: Operand<'a>,
+    b: &Operand,
 ) -> Result<Option<Operand<'a>>, AllocError>
-    requires { Fits (Between.Values operation) (sort_of_constant (view_operand a)) (sort_of_constant (view_operand b)) }
-    ensures { IfOk result (λ v. option_map view_operand v ≡ constants.of_values operation (view_operand a.entry) (view_operand b.entry)) }
+    requires { Fits (Between.Values operation) (sort_of_constant (view_operand a)) (sort_of_constant (view_operand b.now)) }
+    ensures { IfOk result (λ v. option_map view_operand v ≡ constants.of_values operation (view_operand a.entry) (view_operand b.now)) }
 {
-    match (a, b) {
-        (Operand::Number(a), Operand::Number(b)) => Ok(numeric(of_numbers(operation, a, b))),
-        (Operand::Chars(s), Operand::Chars(t)) => of_texts(alloc, operation, s, t.as_slice()),
-        (Operand::Number(_), Operand::Chars(_)) => Ok(None),
-        (Operand::Chars(_), Operand::Number(_)) => Ok(None),
+    match a {
+        Operand::Number(a) => match b {
+            Operand::Number(b) => Ok(numeric(of_numbers(operation, a, *b))),
+            Operand::Chars(_) => Ok(None),
+        },
+        Operand::Chars(s) => match b {
+            Operand::Number(_) => Ok(None),
+            Operand::Chars(t) => of_texts(alloc, operation, s, t.as_slice()),
+        },
+    }
+}
+
+// What an operation gives of what two operands come to.
+fn of_found<'a>(
+    alloc: Global,
+    operation: Operation,
+    left: Found<'a>,
+    right: &Found,
+) -> Result<Option<Operand<'a>>, AllocError>
+    requires { Fits (Between.Values operation) (sort_of (view_found left)) (sort_of (view_found right.now)) }
+    ensures { IfOk result (λ v. option_map view_operand v
+        ≡ constants.given_between (Between.Values operation) (value_in (view_found left.entry)) (value_in (view_found right.now))) }
+{
+    match left {
+        Found::Gives(a) => match right {
+            Found::Gives(b) => of_values(alloc, operation, a, b),
+            Found::Raises(_) => Ok(None),
+        },
+        Found::Raises(_) => Ok(None),
     }
 }
 
@@ -178,41 +212,71 @@ fn given_between<'a>(
     alloc: Global,
     row: Between,
     left: Found<'a>,
-    right: Found<'a>,
+    right: &Found,
 ) -> Result<Option<Operand<'a>>, AllocError>
-    requires { Fits row (sort_of (view_found left)) (sort_of (view_found right)) }
+    requires { Fits row (sort_of (view_found left)) (sort_of (view_found right.now)) }
     ensures { IfOk result (λ v. option_map view_operand v
-        ≡ constants.given_between row (value_in (view_found left.entry)) (value_in (view_found right.entry))) }
+        ≡ constants.given_between row (value_in (view_found left.entry)) (value_in (view_found right.now))) }
 {
     match row {
+        Between::Values(operation) => of_found(alloc, operation, left, right),
         Between::And => Ok(told(both(left.condition(), right.condition()))),
         Between::Or => Ok(told(either(left.condition(), right.condition()))),
-        Between::Values(operation) => match (left, right) {
-            (Found::Gives(a), Found::Gives(b)) => of_values(alloc, operation, a, b),
-            (Found::Gives(_), Found::Raises(_)) => Ok(None),
-            (Found::Raises(_), Found::Gives(_) | Found::Raises(_)) => Ok(None),
-        },
     }
 }
 
-/// What an operator between two operands comes to, if it fits there.
-///
-/// # Errors
-/// Want of memory.
-pub fn binary<'a>(
+// What comes of it, if it fits there.
+fn come_between<'a>(
+    alloc: Global,
+    row: Between,
+    left: Found<'a>,
+    right: &Found,
+) -> Result<Option<Found<'a>>, AllocError>
+    ensures { IfOk result (λ found. option_map view_found found
+        ≡ constants.come_between row (view_found left.entry) (view_found right.now)) }
+{
+    match sort_between(row, left.sort(), right.sort()) {
+        Some(sort) => {
+            let value = given_between(alloc, row, left, right)?;
+            Ok(Some(settled(sort, value)))
+        }
+        None => Ok(None),
+    }
+}
+
+// What an operator between two operands comes to, if it fits there.
+fn binary<'a>(
     alloc: Global,
     op: BinaryOp,
     left: Found<'a>,
-    right: Found<'a>,
+    right: &Found,
 ) -> Result<Option<Found<'a>>, AllocError>
-    ensures { IfOk result (λ found. option_map view_found found ≡ constants.binary op (view_found left.entry) (view_found right.entry)) }
+    ensures { IfOk result (λ found. option_map view_found found ≡ constants.binary op (view_found left.entry) (view_found right.now)) }
 {
-    let Some(row) = between_row(op) else {
-        return Ok(None);
-    };
-    let Some(sort) = sort_between(row, left.sort(), right.sort()) else {
-        return Ok(None);
-    };
-    let value = given_between(alloc, row, left, right)?;
-    Ok(Some(settled(sort, value)))
+    match between_row(op) {
+        Some(row) => come_between(alloc, row, left, right),
+        None => Ok(None),
+    }
+}
+
+/// The same, of operands that may come to nothing.
+///
+/// # Errors
+/// Want of memory.
+pub fn binary_of<'a>(
+    alloc: Global,
+    op: BinaryOp,
+    left: Option<Found<'a>>,
+    right: Option<Found>,
+) -> Result<Option<Found<'a>>, AllocError>
+    ensures { IfOk result (λ found. option_map view_found found
+        ≡ constants.binary_of op (option_map view_found left.entry) (option_map view_found right.entry)) }
+{
+    match left {
+        Some(left) => match right {
+            Some(right) => binary(alloc, op, left, &right),
+            None => Ok(None),
+        },
+        None => Ok(None),
+    }
 }
