@@ -1,0 +1,5 @@
+pub mod Order
+pub mod View
+pub mod Searching
+pub mod Seen
+pub mod Laws
