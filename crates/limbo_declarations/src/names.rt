@@ -1,0 +1,100 @@
+ghost use Rattle.std.specs.Prelude.{◌≡◌, ℕ, Some, IfOk, IfErr, IfSome, IfNone};
+ghost use Rattle.std.specs.Ordering.{nat_cmp};
+ghost use Rattle.std.specs.Cmp.Lexicographic.{slice_cmp};
+ghost use Rattle.std.specs.BTreeMap.{get_by};
+ghost use Rattle.limbo_declarations.specs.Names.{names, IsAt, AreOnce, IsRepeated, IsIndex};
+ghost use Rattle.limbo_declarations.specs.declared.names.NamesFault.TheVariants.{Twice};
+
+use crate::row::Row;
+use inf_text::Text;
+use std::alloc::{AllocError, AllocFailed, Global};
+use std::collections::BTreeMap;
+
+/// Why rows aren't those of one scope.
+#[derive(Clone, Copy, PartialEq, Eq, Debug)]
+pub enum NamesFault {
+    /// Want of memory.
+    NoMemory,
+    /// Refusal 41: the name of this row is declared by a row before it.
+    Twice {
+        /// The row's number.
+        row: usize,
+    },
+}
+
+impl From<AllocError> for NamesFault {
+    ghost use Rattle.std.specs.Prelude.{◌≡◌};
+    ghost use Rattle.limbo_declarations.specs.declared.names.NamesFault.TheVariants.{NoMemory};
+
+    ghost from_gives = { λ _ e. e ≡ NoMemory };
+
+    fn from(_error: AllocError) -> NamesFault {
+        NamesFault::NoMemory
+    }
+}
+
+impl<T: Drop> From<AllocFailed<T>> for NamesFault {
+    ghost use Rattle.std.specs.Prelude.{◌≡◌};
+    ghost use Rattle.limbo_declarations.specs.declared.names.NamesFault.TheVariants.{NoMemory};
+
+    ghost from_gives = { λ _ e. e ≡ NoMemory };
+
+    fn from(_error: AllocFailed<T>) -> NamesFault {
+        NamesFault::NoMemory
+    }
+}
+
+/// The names of a scope, each declared once.
+#[derive(Drop)]
+pub struct Names<'a> {
+    /// The rows, as they stand in the source.
+    pub rows: Vec<Row<'a>>,
+    // Of each name the number of its row.
+    index: BTreeMap<Text, usize>,
+    ghost found: { IsIndex index (names rows.items) },
+}
+
+// Where a name stands.
+fn look_up(index: &BTreeMap<Text, usize>, name: &Text) -> Option<usize>
+    ensures { result ≡ get_by (slice_cmp nat_cmp name.now) index.now }
+{
+    index.get(name).copied()
+}
+
+// Where each name stands.
+fn index(alloc: Global, rows: &[Row]) -> Result<BTreeMap<Text, usize>, NamesFault>
+    ensures index { IfOk result (λ index. IsIndex index (names rows.now)) }
+    ensures twice { IfErr result (λ e. (k : ℕ) → e ≡ Twice k → IsRepeated (names rows.now) k) }
+{
+    let mut index = BTreeMap::new(alloc);
+    for (number, row) in rows.iter().enumerate() {
+        if let Some(_before) = look_up(&index, &row.name.text) {
+            return Err(NamesFault::Twice { row: number });
+        }
+        index.insert(row.name.text.clone()?, number)?;
+    }
+    Ok(index)
+}
+
+impl<'a> Names<'a> {
+    /// The names of these rows.
+    ///
+    /// # Errors
+    /// Want of memory. `Twice` exactly where a name is declared by two rows: a row whose name one before it declares.
+    pub fn new(alloc: Global, rows: Vec<Row<'a>>) -> Result<Names<'a>, NamesFault>
+        ensures rows { IfOk result (λ n. n.rows ≡ rows.entry) }
+        ensures once { IfOk result (λ _. AreOnce (names rows.entry.items)) }
+        ensures twice { IfErr result (λ e. (k : ℕ) → e ≡ Twice k → IsRepeated (names rows.entry.items) k) }
+    {
+        let index = index(alloc, &rows)?;
+        Ok(Names { rows, index })
+    }
+
+    /// The number of the row that declares a name.
+    pub fn find(&self, name: &Text) -> Option<usize>
+        ensures found { IfSome result (λ k. IsAt (names self.now.rows.items) k name.now) }
+        ensures absent { IfNone result ((k : ℕ) → IsAt (names self.now.rows.items) k name.now → ⊥) }
+    {
+        look_up(&self.index, name)
+    }
+}
