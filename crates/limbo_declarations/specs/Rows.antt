@@ -20,56 +20,57 @@ pub data Declared : Type 0 where
   Function : FnType → Declared
   Case : List Field → Declared
 
--- A name, and what it is declared as.
+-- A name with the path of the text in which it stands, and what it is declared as.
 pub record Row : Type 0 where
+  pub path : List ℕ
   pub name : List ℕ
   pub means : Declared
 
 -- names that are declared alike
-abbrev pub each : List (List ℕ) → Declared → List Row
-each [] d = []
-each (n ∷ ns) d = record { name = n; means = d } ∷ each ns d
+abbrev pub each : (path : List ℕ) → List (List ℕ) → Declared → List Row
+each p [] d = []
+each p (n ∷ ns) d = record { path = p; name = n; means = d } ∷ each p ns d
 
 -- constants of one value: `iota` counts them
-abbrev pub counted : ℕ → List (List ℕ) → Expr → List Row
-counted k [] e = []
-counted k (n ∷ ns) e = record { name = n; means = Constant e k } ∷ counted (suc k) ns e
+abbrev pub counted : (path : List ℕ) → ℕ → List (List ℕ) → Expr → List Row
+counted p k [] e = []
+counted p k (n ∷ ns) e = record { path = p; name = n; means = Constant e k } ∷ counted p (suc k) ns e
 
-abbrev pub rows_of_decl : Decl → List Row
-rows_of_decl (decls.Con ns e) = counted 0 ns e
-rows_of_decl (decls.TypeName ns t) = each ns (Alias t)
-rows_of_decl (decls.Var ns t e) = each ns (Variable t e)
-rows_of_decl (decls.Define ns e) = each ns (Inferred e)
-rows_of_decl (decls.Import ns m) = each ns (Imported m)
-rows_of_decl (decls.Exception ns ts) = each ns (Exception ts)
-rows_of_decl (decls.Module n ms) = record { name = n; means = Module ms } ∷ []
-rows_of_decl (decls.Adt n ms pick) = record { name = n; means = Adt ms pick } ∷ []
+abbrev pub rows_of_decl : (path : List ℕ) → Decl → List Row
+rows_of_decl p (decls.Con ns e) = counted p 0 ns e
+rows_of_decl p (decls.TypeName ns t) = each p ns (Alias t)
+rows_of_decl p (decls.Var ns t e) = each p ns (Variable t e)
+rows_of_decl p (decls.Define ns e) = each p ns (Inferred e)
+rows_of_decl p (decls.Import ns m) = each p ns (Imported m)
+rows_of_decl p (decls.Exception ns ts) = each p ns (Exception ts)
+rows_of_decl p (decls.Module n ms) = record { path = p; name = n; means = Module ms } ∷ []
+rows_of_decl p (decls.Adt n ms pick) = record { path = p; name = n; means = Adt ms pick } ∷ []
 
-abbrev pub rows_of_member : Member → List Row
-rows_of_member (VarMember ns t) = each ns (Variable t None)
-rows_of_member (FnMember ns f) = each ns (Function f)
-rows_of_member (ConMember ns e) = counted 0 ns e
-rows_of_member (TypeMember ns t) = each ns (Alias t)
-rows_of_member (AdtMember n ms pick) = record { name = n; means = Adt ms pick } ∷ []
+abbrev pub rows_of_member : (path : List ℕ) → Member → List Row
+rows_of_member p (VarMember ns t) = each p ns (Variable t None)
+rows_of_member p (FnMember ns f) = each p ns (Function f)
+rows_of_member p (ConMember ns e) = counted p 0 ns e
+rows_of_member p (TypeMember ns t) = each p ns (Alias t)
+rows_of_member p (AdtMember n ms pick) = record { path = p; name = n; means = Adt ms pick } ∷ []
 
 -- The scope of a module's members.
-abbrev pub rows_of_members : Members → List Row
-rows_of_members NoMembers = []
-rows_of_members (MoreMembers m ms) = rows_of_member m ++ rows_of_members ms
+abbrev pub rows_of_members : (path : List ℕ) → Members → List Row
+rows_of_members p NoMembers = []
+rows_of_members p (MoreMembers m ms) = rows_of_member p m ++ rows_of_members p ms
 
-abbrev pub rows_of_variants : List Variant → List Row
-rows_of_variants [] = []
-rows_of_variants (v ∷ vs) = each v.names (Case v.fields) ++ rows_of_variants vs
+abbrev pub rows_of_variants : (path : List ℕ) → List Variant → List Row
+rows_of_variants p [] = []
+rows_of_variants p (v ∷ vs) = each p v.names (Case v.fields) ++ rows_of_variants p vs
 
-abbrev pub rows_of_pick : Option (List Variant) → List Row
-rows_of_pick None = []
-rows_of_pick (Some vs) = rows_of_variants vs
+abbrev pub rows_of_pick : (path : List ℕ) → Option (List Variant) → List Row
+rows_of_pick p None = []
+rows_of_pick p (Some vs) = rows_of_variants p vs
 
 -- The scope of an adt's members: the names of its variants stand in it too.
-abbrev pub rows_of_adt : Members → Option (List Variant) → List Row
-rows_of_adt ms pick = rows_of_members ms ++ rows_of_pick pick
+abbrev pub rows_of_adt : (path : List ℕ) → Members → Option (List Variant) → List Row
+rows_of_adt p ms pick = rows_of_members p ms ++ rows_of_pick p pick
 
 -- The fields of a variant.
-abbrev pub rows_of_fields : List Field → List Row
-rows_of_fields [] = []
-rows_of_fields (f ∷ fs) = each f.names (Variable f.of None) ++ rows_of_fields fs
+abbrev pub rows_of_fields : (path : List ℕ) → List Field → List Row
+rows_of_fields p [] = []
+rows_of_fields p (f ∷ fs) = each p f.names (Variable f.of None) ++ rows_of_fields p fs

@@ -19,7 +19,7 @@ view_declared (declared.Function f) = Function (view_fn f.now)
 view_declared (declared.Case fs) = Case (map view_field fs.now)
 
 abbrev pub view_row : code_row.Row → Row
-view_row r = record { name = r.name.now.text; means = view_declared r.declared }
+view_row r = record { path = r.path.now; name = r.name.now.text; means = view_declared r.declared }
 
 abbrev pub rows_of : List code_row.Row → List Row
 rows_of rs = map view_row rs

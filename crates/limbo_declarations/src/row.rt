@@ -1,3 +1,4 @@
+use inf_text::Text;
 use limbo_tree::{Expr, Field, FnType, Member, Name, TypeTree, Variant};
 
 /// What a name is declared as (Limbo Language Reference, declarations).
@@ -34,9 +35,11 @@ pub enum Declared<'a> {
     Case(&'a [Field]),
 }
 
-/// A name where it is declared, and what it is declared as.
+/// A name in the text where it is declared, and what it is declared as.
 #[derive(Clone, Copy)]
 pub struct Row<'a> {
+    /// The path of the text in which it stands.
+    pub path: &'a Text,
     pub name: &'a Name,
     pub declared: Declared<'a>,
 }

@@ -6,6 +6,7 @@ ghost use Rattle.limbo_declarations.specs.Rows as told;
 ghost use Rattle.limbo_declarations.specs.View.{view_declared, rows_of};
 
 use crate::row::{Declared, Row};
+use inf_text::Text;
 use limbo_tree::{Decl, Expr, Field, Member, Name, Variant};
 use std::alloc::{AllocError, Global};
 use std::slice;
@@ -13,13 +14,18 @@ use std::slice;
 // Names that are declared alike.
 fn push_each<'a>(
     rows: &mut Vec<Row<'a>>,
+    path: &'a Text,
     names: &'a [Name],
     declared: Declared<'a>,
 ) -> Result<(), AllocError>
-    ensures { IfOk result (λ _. rows_of rows.new.items ≡ rows_of rows.old.items ++ told.each (names_of names.now) (view_declared declared.entry)) }
+    ensures { IfOk result (λ _. rows_of rows.new.items ≡ rows_of rows.old.items ++ told.each path.now (names_of names.now) (view_declared declared.entry)) }
 {
     for name in names {
-        rows.push(Row { name, declared })?;
+        rows.push(Row {
+            path,
+            name,
+            declared,
+        })?;
     }
     Ok(())
 }
@@ -27,13 +33,15 @@ fn push_each<'a>(
 // Constants of one value, which `iota` counts.
 fn push_counted<'a>(
     rows: &mut Vec<Row<'a>>,
+    path: &'a Text,
     names: &'a [Name],
     value: &'a Expr,
 ) -> Result<(), AllocError>
-    ensures { IfOk result (λ _. rows_of rows.new.items ≡ rows_of rows.old.items ++ told.counted 0 (names_of names.now) (view_expr value.now)) }
+    ensures { IfOk result (λ _. rows_of rows.new.items ≡ rows_of rows.old.items ++ told.counted path.now 0 (names_of names.now) (view_expr value.now)) }
 {
     for (iota, name) in names.iter().enumerate() {
         rows.push(Row {
+            path,
             name,
             declared: Declared::Constant { value, iota },
         })?;
@@ -65,12 +73,12 @@ fn listed<'a>(pick: &'a Option<Vec<Variant>>) -> Option<&'a [Variant]>
 ///
 /// # Errors
 /// Want of memory.
-pub fn push_decl<'a>(rows: &mut Vec<Row<'a>>, d: &'a Decl) -> Result<(), AllocError>
-    ensures { IfOk result (λ _. rows_of rows.new.items ≡ rows_of rows.old.items ++ told.rows_of_decl (view_decl d.now)) }
+pub fn push_decl<'a>(rows: &mut Vec<Row<'a>>, path: &'a Text, d: &'a Decl) -> Result<(), AllocError>
+    ensures { IfOk result (λ _. rows_of rows.new.items ≡ rows_of rows.old.items ++ told.rows_of_decl path.now (view_decl d.now)) }
 {
     match d {
-        Decl::Con { names, value, .. } => push_counted(rows, names, value),
-        Decl::Type { names, of, .. } => push_each(rows, names, Declared::Alias(of)),
+        Decl::Con { names, value, .. } => push_counted(rows, path, names, value),
+        Decl::Type { names, of, .. } => push_each(rows, path, names, Declared::Alias(of)),
         Decl::Var {
             names,
             of,
@@ -78,15 +86,25 @@ pub fn push_decl<'a>(rows: &mut Vec<Row<'a>>, d: &'a Decl) -> Result<(), AllocEr
             ..
         } => {
             let value = boxed(value);
-            push_each(rows, names, Declared::Variable { of, value })
+            push_each(rows, path, names, Declared::Variable { of, value })
         }
-        Decl::Define { names, value, .. } => push_each(rows, names, Declared::Inferred(value)),
-        Decl::Import { names, module, .. } => push_each(rows, names, Declared::Imported(module)),
+        Decl::Define { names, value, .. } => push_each(
+            rows,
+            path,
+            names,
+            Declared::Inferred(value),
+        ),
+        Decl::Import { names, module, .. } => push_each(
+            rows,
+            path,
+            names,
+            Declared::Imported(module),
+        ),
         Decl::Exception { names, values, .. } => {
-            push_each(rows, names, Declared::Exception(values))
+            push_each(rows, path, names, Declared::Exception(values))
         }
         Decl::Module { name, members, .. } => {
-            push_each(rows, slice::from_ref(name), Declared::Module(members))
+            push_each(rows, path, slice::from_ref(name), Declared::Module(members))
         }
         Decl::Adt {
             name,
@@ -95,23 +113,28 @@ pub fn push_decl<'a>(rows: &mut Vec<Row<'a>>, d: &'a Decl) -> Result<(), AllocEr
             ..
         } => {
             let pick = listed(pick);
-            push_each(rows, slice::from_ref(name), Declared::Adt { members, pick })
+            push_each(
+                rows,
+                path,
+                slice::from_ref(name),
+                Declared::Adt { members, pick },
+            )
         }
     }
 }
 
 // Adds what a member declares.
 #[tactic(auto, using(limbo_tree::proofs::Members::the_members))]
-fn push_member<'a>(rows: &mut Vec<Row<'a>>, m: &'a Member) -> Result<(), AllocError>
-    ensures { IfOk result (λ _. rows_of rows.new.items ≡ rows_of rows.old.items ++ told.rows_of_member (view_member m.now)) }
+fn push_member<'a>(rows: &mut Vec<Row<'a>>, path: &'a Text, m: &'a Member) -> Result<(), AllocError>
+    ensures { IfOk result (λ _. rows_of rows.new.items ≡ rows_of rows.old.items ++ told.rows_of_member path.now (view_member m.now)) }
 {
     match m {
         Member::Var { names, of, .. } => {
-            push_each(rows, names, Declared::Variable { of, value: None })
+            push_each(rows, path, names, Declared::Variable { of, value: None })
         }
-        Member::Function { names, of, .. } => push_each(rows, names, Declared::Function(of)),
-        Member::Con { names, value, .. } => push_counted(rows, names, value),
-        Member::Type { names, of, .. } => push_each(rows, names, Declared::Alias(of)),
+        Member::Function { names, of, .. } => push_each(rows, path, names, Declared::Function(of)),
+        Member::Con { names, value, .. } => push_counted(rows, path, names, value),
+        Member::Type { names, of, .. } => push_each(rows, path, names, Declared::Alias(of)),
         Member::Adt {
             name,
             members,
@@ -119,7 +142,12 @@ fn push_member<'a>(rows: &mut Vec<Row<'a>>, m: &'a Member) -> Result<(), AllocEr
             ..
         } => {
             let pick = listed(pick);
-            push_each(rows, slice::from_ref(name), Declared::Adt { members, pick })
+            push_each(
+                rows,
+                path,
+                slice::from_ref(name),
+                Declared::Adt { members, pick },
+            )
         }
     }
 }
@@ -129,21 +157,29 @@ fn push_member<'a>(rows: &mut Vec<Row<'a>>, m: &'a Member) -> Result<(), AllocEr
 /// # Errors
 /// Want of memory.
 #[tactic(auto, unfolding(limbo_tree::specs::View::view_members))]
-pub fn push_members<'a>(rows: &mut Vec<Row<'a>>, members: &'a [Member]) -> Result<(), AllocError>
-    ensures { IfOk result (λ _. rows_of rows.new.items ≡ rows_of rows.old.items ++ told.rows_of_members (view_members members.now)) }
+pub fn push_members<'a>(
+    rows: &mut Vec<Row<'a>>,
+    path: &'a Text,
+    members: &'a [Member],
+) -> Result<(), AllocError>
+    ensures { IfOk result (λ _. rows_of rows.new.items ≡ rows_of rows.old.items ++ told.rows_of_members path.now (view_members members.now)) }
 {
     for m in members {
-        push_member(rows, m)?;
+        push_member(rows, path, m)?;
     }
     Ok(())
 }
 
 // Adds the names of variants.
-fn push_variants<'a>(rows: &mut Vec<Row<'a>>, variants: &'a [Variant]) -> Result<(), AllocError>
-    ensures { IfOk result (λ _. rows_of rows.new.items ≡ rows_of rows.old.items ++ told.rows_of_variants (map view_variant variants.now)) }
+fn push_variants<'a>(
+    rows: &mut Vec<Row<'a>>,
+    path: &'a Text,
+    variants: &'a [Variant],
+) -> Result<(), AllocError>
+    ensures { IfOk result (λ _. rows_of rows.new.items ≡ rows_of rows.old.items ++ told.rows_of_variants path.now (map view_variant variants.now)) }
 {
     for v in variants {
-        push_each(rows, &v.names, Declared::Case(&v.fields))?;
+        push_each(rows, path, &v.names, Declared::Case(&v.fields))?;
     }
     Ok(())
 }
@@ -154,15 +190,16 @@ fn push_variants<'a>(rows: &mut Vec<Row<'a>>, variants: &'a [Variant]) -> Result
 /// Want of memory.
 pub fn adt_rows<'a>(
     alloc: Global,
+    path: &'a Text,
     members: &'a [Member],
     pick: Option<&'a [Variant]>,
 ) -> Result<Vec<Row<'a>>, AllocError>
-    ensures { IfOk result (λ rows. rows_of rows.items ≡ told.rows_of_adt (view_members members.now) (option_map (λ vs. map view_variant vs.now) pick.entry)) }
+    ensures { IfOk result (λ rows. rows_of rows.items ≡ told.rows_of_adt path.now (view_members members.now) (option_map (λ vs. map view_variant vs.now) pick.entry)) }
 {
     let mut rows = Vec::new(alloc);
-    push_members(&mut rows, members)?;
+    push_members(&mut rows, path, members)?;
     if let Some(variants) = pick {
-        push_variants(&mut rows, variants)?;
+        push_variants(&mut rows, path, variants)?;
     }
     Ok(rows)
 }
@@ -171,11 +208,15 @@ pub fn adt_rows<'a>(
 ///
 /// # Errors
 /// Want of memory.
-pub fn module_rows<'a>(alloc: Global, members: &'a [Member]) -> Result<Vec<Row<'a>>, AllocError>
-    ensures { IfOk result (λ rows. rows_of rows.items ≡ told.rows_of_members (view_members members.now)) }
+pub fn module_rows<'a>(
+    alloc: Global,
+    path: &'a Text,
+    members: &'a [Member],
+) -> Result<Vec<Row<'a>>, AllocError>
+    ensures { IfOk result (λ rows. rows_of rows.items ≡ told.rows_of_members path.now (view_members members.now)) }
 {
     let mut rows = Vec::new(alloc);
-    push_members(&mut rows, members)?;
+    push_members(&mut rows, path, members)?;
     Ok(rows)
 }
 
@@ -183,8 +224,12 @@ pub fn module_rows<'a>(alloc: Global, members: &'a [Member]) -> Result<Vec<Row<'
 ///
 /// # Errors
 /// Want of memory.
-pub fn field_rows<'a>(alloc: Global, fields: &'a [Field]) -> Result<Vec<Row<'a>>, AllocError>
-    ensures { IfOk result (λ rows. rows_of rows.items ≡ told.rows_of_fields (map view_field fields.now)) }
+pub fn field_rows<'a>(
+    alloc: Global,
+    path: &'a Text,
+    fields: &'a [Field],
+) -> Result<Vec<Row<'a>>, AllocError>
+    ensures { IfOk result (λ rows. rows_of rows.items ≡ told.rows_of_fields path.now (map view_field fields.now)) }
 {
     let mut rows = Vec::new(alloc);
     for field in fields {
@@ -192,7 +237,7 @@ pub fn field_rows<'a>(alloc: Global, fields: &'a [Field]) -> Result<Vec<Row<'a>>
             of: &field.of,
             value: None,
         };
-        push_each(&mut rows, &field.names, declared)?;
+        push_each(&mut rows, path, &field.names, declared)?;
     }
     Ok(rows)
 }

@@ -6,5 +6,5 @@ use Rattle.limbo_declarations.proofs.rows.push_counted.Given as goal
 
 abbrev pub invariant-loop-iota : goal.invariant-loop-iota
 invariant-loop-iota l =
-    rows_of l.rows.items ++ counted l.iota (names_of (drop l.iota l.names)) (view_expr l.value)
-    ≡ rows_of l.fn.rows.items ++ counted 0 (names_of l.names) (view_expr l.value)
+    rows_of l.rows.items ++ counted l.path l.iota (names_of (drop l.iota l.names)) (view_expr l.value)
+    ≡ rows_of l.fn.rows.items ++ counted l.path 0 (names_of l.names) (view_expr l.value)

@@ -6,5 +6,5 @@ use Rattle.limbo_declarations.proofs.rows.push_members.Given as goal
 
 abbrev pub invariant-loop-m : goal.invariant-loop-m
 invariant-loop-m l =
-    rows_of l.rows.items ++ rows_of_members (members_of (map view_member (drop l.m-index l.members)))
-    ≡ rows_of l.fn.rows.items ++ rows_of_members (members_of (map view_member l.members))
+    rows_of l.rows.items ++ rows_of_members l.path (members_of (map view_member (drop l.m-index l.members)))
+    ≡ rows_of l.fn.rows.items ++ rows_of_members l.path (members_of (map view_member l.members))

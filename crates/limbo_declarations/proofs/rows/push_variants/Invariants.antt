@@ -6,5 +6,5 @@ use Rattle.limbo_declarations.proofs.rows.push_variants.Given as goal
 
 abbrev pub invariant-loop-v : goal.invariant-loop-v
 invariant-loop-v l =
-    rows_of l.rows.items ++ rows_of_variants (map view_variant (drop l.v-index l.variants))
-    ≡ rows_of l.fn.rows.items ++ rows_of_variants (map view_variant l.variants)
+    rows_of l.rows.items ++ rows_of_variants l.path (map view_variant (drop l.v-index l.variants))
+    ≡ rows_of l.fn.rows.items ++ rows_of_variants l.path (map view_variant l.variants)
