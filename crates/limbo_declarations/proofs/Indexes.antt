@@ -6,8 +6,7 @@ use Rattle.std.specs.Cmp.{eq_by_cmp_equiv, Equal-is}
 use Rattle.std.specs.Cmp.Lexicographic.{slice_cmp, nat_list_cmp_total}
 use Rattle.std.specs.BTreeMap.{BTreeMap, get_by, Updates}
 use Rattle.std.specs.FinMap.{IsAntisymmetric, nat_cmp-IsAntisymmetric, slice_cmp-IsAntisymmetric}
-use Rattle.limbo_declarations.specs.declared.row.Row as code_row
-use Rattle.limbo_declarations.specs.Names.{names, IsAt, AreOnce, IsRepeated, IsIndex}
+use Rattle.limbo_declarations.specs.Names.{IsAt, AreOnce, IsRepeated, IsIndex}
 
 -- ---- places in a list
 
@@ -29,26 +28,26 @@ at_cases (x ∷ ns) n (suc k) q h = elim (at_cases ns n k q h) [
   | inr e ↦ inr (ap suc e.0, e.1)
 ]
 
-pub taken : (k : ℕ) (rows : List code_row.Row) (r : code_row.Row) → k < length rows → r ≡ get_or rows k r → names (take (suc k) rows) ≡ names (take k rows) ++ (r.name.now.text ∷ [])
+pub taken : (k : ℕ) (all : List (List ℕ)) (r : List ℕ) → k < length all → r ≡ get_or all k r → take (suc k) all ≡ take k all ++ (r ∷ [])
 taken k [] r l e = absurd (omega arith)
-taken zero (x ∷ rows) r l e = ap (λ (z : code_row.Row). z.name.now.text ∷ []) (sym e)
-taken (suc k) (x ∷ rows) r l e = ap (λ ns. x.name.now.text ∷ ns) (taken k rows r (omega arith) e)
+taken zero (x ∷ all) r l e = ap (λ (z : List ℕ). z ∷ []) (sym e)
+taken (suc k) (x ∷ all) r l e = ap (λ ns. x ∷ ns) (taken k all r (omega arith) e)
 
-pub taken_length : (k : ℕ) (rows : List code_row.Row) → k < length rows → length (names (take k rows)) ≡ k
+pub taken_length : (k : ℕ) (all : List (List ℕ)) → k < length all → length (take k all) ≡ k
 taken_length k [] l = absurd (omega arith)
-taken_length zero (x ∷ rows) l = refl
-taken_length (suc k) (x ∷ rows) l = ap suc (taken_length k rows (omega arith))
+taken_length zero (x ∷ all) l = refl
+taken_length (suc k) (x ∷ all) l = ap suc (taken_length k all (omega arith))
 
-taken_at : (k : ℕ) (rows : List code_row.Row) (j : ℕ) (n : List ℕ) → IsAt (names (take k rows)) j n → (j < k) × IsAt (names rows) j n
-taken_at zero rows j n h = absurd cc
+taken_at : (k : ℕ) (all : List (List ℕ)) (j : ℕ) (n : List ℕ) → IsAt (take k all) j n → (j < k) × IsAt all j n
+taken_at zero all j n h = absurd cc
 taken_at (suc k) [] j n h = absurd cc
-taken_at (suc k) (x ∷ rows) zero n h = (omega arith, h)
-taken_at (suc k) (x ∷ rows) (suc j) n h = let i = taken_at k rows j n h in (omega arith, i.1)
+taken_at (suc k) (x ∷ all) zero n h = (omega arith, h)
+taken_at (suc k) (x ∷ all) (suc j) n h = let i = taken_at k all j n h in (omega arith, i.1)
 
-row_at : (k : ℕ) (rows : List code_row.Row) (r : code_row.Row) → k < length rows → r ≡ get_or rows k r → IsAt (names rows) k r.name.now.text
+row_at : (k : ℕ) (all : List (List ℕ)) (r : List ℕ) → k < length all → r ≡ get_or all k r → IsAt all k r
 row_at k [] r l e = absurd (omega arith)
-row_at zero (x ∷ rows) r l e = ap (λ (z : code_row.Row). Some z.name.now.text) (sym e)
-row_at (suc k) (x ∷ rows) r l e = row_at k rows r (omega arith) e
+row_at zero (x ∷ all) r l e = ap (λ (z : List ℕ). Some z) (sym e)
+row_at (suc k) (x ∷ all) r l e = row_at k all r (omega arith) e
 
 -- ---- the index
 
@@ -88,25 +87,33 @@ more old new ns n h a u q k = go (eq_by_cmp (slice_cmp nat_cmp) n q) refl
 
 -- a name that was found stands before
 pub repeated :
-    (index : BTreeMap (List ℕ) ℕ) (k : ℕ) (rows : List code_row.Row) (r : code_row.Row) (j : ℕ) → IsIndex index (names (take k rows))
-    → k < length rows → r ≡ get_or rows k r → get_by (slice_cmp nat_cmp r.name.now.text) index ≡ Some j → IsRepeated (names rows) k
-repeated index k rows r j h l e f =
-    let i = taken_at k rows j r.name.now.text ((h r.name.now.text j).0 f) in
-    record { before = j; name = r.name.now.text; is_before = i.0; there = row_at k rows r l e; and_there = i.1 }
+    (index : BTreeMap (List ℕ) ℕ) (k : ℕ) (all : List (List ℕ)) (r : List ℕ) (j : ℕ) → IsIndex index (take k all)
+    → k < length all → r ≡ get_or all k r → get_by (slice_cmp nat_cmp r) index ≡ Some j → IsRepeated all k
+repeated index k all r j h l e f =
+    let i = taken_at k all j r ((h r j).0 f) in
+    record { before = j; name = r; is_before = i.0; there = row_at k all r l e; and_there = i.1 }
 
 -- what an index finds stands at one place
 -- the index after one more row
 pub one_more :
-    (old new : BTreeMap (List ℕ) ℕ) (k : ℕ) (rows : List code_row.Row) (r : code_row.Row) → IsIndex old (names (take k rows)) → k < length rows
-    → r ≡ get_or rows k r → get_by (slice_cmp nat_cmp r.name.now.text) old ≡ None → Updates (slice_cmp nat_cmp) old new r.name.now.text (Some k)
-    → IsIndex new (names (take (k + 1) rows))
-one_more old new k rows r h l e a u =
+    (old new : BTreeMap (List ℕ) ℕ) (k : ℕ) (all : List (List ℕ)) (r : List ℕ) → IsIndex old (take k all) → k < length all
+    → r ≡ get_or all k r → get_by (slice_cmp nat_cmp r) old ≡ None → Updates (slice_cmp nat_cmp) old new r (Some k)
+    → IsIndex new (take (k + 1) all)
+one_more old new k all r h l e a u =
     let s : k + 1 ≡ suc k = omega arith in
-    let t : length (names (take k rows)) ≡ k = taken_length k rows l in
-    let v : Updates (slice_cmp nat_cmp) old new r.name.now.text (Some (length (names (take k rows)))) =
-    subst (λ (z : ℕ). Updates (slice_cmp nat_cmp) old new r.name.now.text (Some z)) (sym t) u in
-    subst (λ (z : ℕ). IsIndex new (names (take z rows))) (sym s)
-    (subst (λ (ns : List (List ℕ)). IsIndex new ns) (sym (taken k rows r l e)) (more old new (names (take k rows)) r.name.now.text h a v))
+    let t : length (take k all) ≡ k = taken_length k all l in
+    let v : Updates (slice_cmp nat_cmp) old new r (Some (length (take k all))) =
+    subst (λ (z : ℕ). Updates (slice_cmp nat_cmp) old new r (Some z)) (sym t) u in
+    subst (λ (z : ℕ). IsIndex new (take z all)) (sym s)
+    (subst (λ (ns : List (List ℕ)). IsIndex new ns) (sym (taken k all r l e)) (more old new (take k all) r h a v))
 
 pub once : (index : BTreeMap (List ℕ) ℕ) (ns : List (List ℕ)) → IsIndex index ns → AreOnce ns
 once index ns h i j n f g = let a = (h n i).1 f in let b = (h n j).1 g in cc
+
+take_all : (all : List (List ℕ)) → take (length all) all ≡ all
+take_all [] = refl
+take_all (x ∷ all) = ap (λ ns. x ∷ ns) (take_all all)
+
+-- the index at the end
+pub once_all : (index : BTreeMap (List ℕ) ℕ) (all : List (List ℕ)) (k : ℕ) → IsIndex index (take k all) → k ≡ length all → AreOnce all
+once_all index all k h e = subst (λ (ns : List (List ℕ)). AreOnce ns) (ap (λ (z : ℕ). take z all) e ∙ take_all all) (once index (take k all) h)

@@ -54,26 +54,41 @@ pub struct Names<'a> {
     ghost found: { IsIndex index (names rows.items) },
 }
 
-// Where a name stands.
-fn look_up(index: &BTreeMap<Text, usize>, name: &Text) -> Option<usize>
+/// Where a name stands, by an index.
+pub fn look_up(index: &BTreeMap<Text, usize>, name: &Text) -> Option<usize>
     ensures { result ≡ get_by (slice_cmp nat_cmp name.now) index.now }
 {
     index.get(name).copied()
 }
 
-// Where each name stands.
-fn index(alloc: Global, rows: &[Row]) -> Result<BTreeMap<Text, usize>, NamesFault>
-    ensures index { IfOk result (λ index. IsIndex index (names rows.now)) }
-    ensures twice { IfErr result (λ e. (k : ℕ) → e ≡ Twice k → IsRepeated (names rows.now) k) }
+/// Where each of some names stands.
+///
+/// # Errors
+/// Want of memory. `Twice` exactly where a name stands at two places: a place whose name stands before it.
+pub fn index(alloc: Global, all: &[Text]) -> Result<BTreeMap<Text, usize>, NamesFault>
+    ensures index { IfOk result (λ index. IsIndex index all.now) }
+    ensures once { IfOk result (λ _. AreOnce all.now) }
+    ensures twice { IfErr result (λ e. (k : ℕ) → e ≡ Twice k → IsRepeated all.now k) }
 {
     let mut index = BTreeMap::new(alloc);
-    for (number, row) in rows.iter().enumerate() {
-        if let Some(_before) = look_up(&index, &row.name.text) {
+    for (number, name) in all.iter().enumerate() {
+        if let Some(_before) = look_up(&index, name) {
             return Err(NamesFault::Twice { row: number });
         }
-        index.insert(row.name.text.clone()?, number)?;
+        index.insert(name.clone()?, number)?;
     }
     Ok(index)
+}
+
+// The names that rows declare.
+fn texts(alloc: Global, rows: &[Row]) -> Result<Vec<Text>, AllocError>
+    ensures { IfOk result (λ texts. texts.items ≡ names rows.now) }
+{
+    let mut texts = Vec::with_capacity(alloc, rows.len())?;
+    for row in rows {
+        texts.push(row.name.text.clone()?)?;
+    }
+    Ok(texts)
 }
 
 impl<'a> Names<'a> {
@@ -86,7 +101,8 @@ impl<'a> Names<'a> {
         ensures once { IfOk result (λ _. AreOnce (names rows.entry.items)) }
         ensures twice { IfErr result (λ e. (k : ℕ) → e ≡ Twice k → IsRepeated (names rows.entry.items) k) }
     {
-        let index = index(alloc, &rows)?;
+        let texts = texts(alloc, &rows)?;
+        let index = index(alloc, &texts)?;
         Ok(Names { rows, index })
     }
 
