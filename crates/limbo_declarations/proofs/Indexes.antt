@@ -117,3 +117,7 @@ take_all (x ∷ all) = ap (λ ns. x ∷ ns) (take_all all)
 -- the index at the end
 pub once_all : (index : BTreeMap (List ℕ) ℕ) (all : List (List ℕ)) (k : ℕ) → IsIndex index (take k all) → k ≡ length all → AreOnce all
 once_all index all k h e = subst (λ (ns : List (List ℕ)). AreOnce ns) (ap (λ (z : ℕ). take z all) e ∙ take_all all) (once index (take k all) h)
+
+-- a name that stands twice isn't once
+pub not_once : (all : List (List ℕ)) (k : ℕ) → IsRepeated all k → AreOnce all → ⊥
+not_once all k r o = let e : r.before ≡ k = o r.before k r.name r.and_there r.there in let l = r.is_before in absurd (omega arith)

@@ -1,5 +1,7 @@
 -- What the rows of the code stand for.
-use Rattle.std.specs.Prelude.{List, map, option_map}
+use Rattle.std.specs.Prelude.{ℕ, List, map, option_map}
+use Rattle.std.specs.Borrow.{Bor}
+use Rattle.limbo_tree.specs.declared.name.Name as code_name
 use Rattle.limbo_tree.specs.View.{view_expr, view_type, view_types, view_members, view_variant, view_field, view_fn}
 use Rattle.limbo_declarations.specs.declared.row.Declared as code
 use Rattle.limbo_declarations.specs.declared.row.Declared.TheVariants as declared
@@ -23,3 +25,7 @@ view_row r = record { path = r.path.now; name = r.name.now.text; means = view_de
 
 abbrev pub rows_of : List code_row.Row → List Row
 rows_of rs = map view_row rs
+
+-- the texts of names that are referred to
+abbrev pub texts_of : List (Bor code_name.Name) → List (List ℕ)
+texts_of ns = map (λ n. n.now.text) ns

@@ -11,7 +11,9 @@
 mod names;
 mod row;
 mod rows;
+mod scopes;
 
-pub use names::{Names, NamesFault};
+pub use names::{Names, NamesFault, index, look_up};
 pub use row::{Declared, Row};
 pub use rows::{adt_rows, field_rows, module_rows, push_decl, push_members};
+pub use scopes::{OnceFault, decl_once, fn_once};

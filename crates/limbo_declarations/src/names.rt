@@ -1,4 +1,4 @@
-ghost use Rattle.std.specs.Prelude.{◌≡◌, ℕ, Some, IfOk, IfErr, IfSome, IfNone};
+ghost use Rattle.std.specs.Prelude.{◌≡◌, ◌<◌, ℕ, length, Some, IfOk, IfErr, IfSome, IfNone};
 ghost use Rattle.std.specs.Ordering.{nat_cmp};
 ghost use Rattle.std.specs.Cmp.Lexicographic.{slice_cmp};
 ghost use Rattle.std.specs.BTreeMap.{get_by};
@@ -68,6 +68,7 @@ pub fn look_up(index: &BTreeMap<Text, usize>, name: &Text) -> Option<usize>
 pub fn index(alloc: Global, all: &[Text]) -> Result<BTreeMap<Text, usize>, NamesFault>
     ensures index { IfOk result (λ index. IsIndex index all.now) }
     ensures once { IfOk result (λ _. AreOnce all.now) }
+    ensures within { IfErr result (λ e. (k : ℕ) → e ≡ Twice k → k < length all.now) }
     ensures twice { IfErr result (λ e. (k : ℕ) → e ≡ Twice k → IsRepeated all.now k) }
 {
     let mut index = BTreeMap::new(alloc);
