@@ -1,0 +1,9 @@
+pub mod Lists
+pub mod Flattening
+pub mod Deep
+pub mod Places
+pub mod Growing
+pub mod Levels
+pub mod Folders
+pub mod Marks
+pub mod Examples
