@@ -1,0 +1,5 @@
+pub mod Sorts
+pub mod Constants
+pub mod Asked
+pub mod View
+pub mod Laws
