@@ -1,3 +1,4 @@
 pub mod Indexes
 pub mod Apart
 pub mod Inside
+pub mod Found

@@ -1,4 +1,7 @@
 ghost use Rattle.std.specs.Prelude.{◌≡◌, ◌<◌, ℕ, length, Some, IfOk, IfErr, IfSome, IfNone};
+ghost use Rattle.std.specs.List.{Contains};
+ghost use Rattle.limbo_declarations.specs.Rows as told;
+ghost use Rattle.limbo_declarations.specs.View.{rows_of, view_row};
 ghost use Rattle.std.specs.Ordering.{nat_cmp};
 ghost use Rattle.std.specs.Cmp.Lexicographic.{slice_cmp};
 ghost use Rattle.std.specs.BTreeMap.{get_by};
@@ -110,8 +113,21 @@ impl<'a> Names<'a> {
     /// The number of the row that declares a name.
     pub fn find(&self, name: &Text) -> Option<usize>
         ensures found { IfSome result (λ k. IsAt (names self.now.rows.items) k name.now) }
+        ensures within { IfSome result (λ k. k < length self.now.rows.items) }
         ensures absent { IfNone result ((k : ℕ) → IsAt (names self.now.rows.items) k name.now → ⊥) }
     {
         look_up(&self.index, name)
+    }
+
+    /// The row that declares a name.
+    pub fn row(&self, name: &Text) -> Option<Row<'a>>
+        ensures found { IfSome result (λ r. Contains (rows_of self.now.rows.items) (view_row r) × (r.name.now.text ≡ name.now)) }
+        ensures only { IfSome result (λ r. (s : told.Row) → Contains (rows_of self.now.rows.items) s → s.name ≡ name.now → s ≡ view_row r) }
+        ensures absent { IfNone result ((s : told.Row) → Contains (rows_of self.now.rows.items) s → s.name ≡ name.now → ⊥) }
+    {
+        match self.find(name) {
+            Some(number) => Some(self.rows[number]),
+            None => None,
+        }
     }
 }
