@@ -13,7 +13,7 @@ mod row;
 mod rows;
 mod scopes;
 
-pub use names::{Names, NamesFault, index, look_up};
+pub use names::{Names, NamesFault, RowsFault, index, look_up};
 pub use row::{Declared, Row};
 pub use rows::{adt_rows, field_rows, module_rows, push_decl, push_members};
 pub use scopes::{OnceFault, decl_once, fn_once};

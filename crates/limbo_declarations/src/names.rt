@@ -6,23 +6,22 @@ ghost use Rattle.std.specs.Ordering.{nat_cmp};
 ghost use Rattle.std.specs.Cmp.Lexicographic.{slice_cmp};
 ghost use Rattle.std.specs.BTreeMap.{get_by};
 ghost use Rattle.limbo_declarations.specs.Names.{names, IsAt, AreOnce, IsRepeated, IsIndex};
+ghost use Rattle.limbo_declarations.specs.declared.row.Row as code_row;
 ghost use Rattle.limbo_declarations.specs.declared.names.NamesFault.TheVariants.{Twice};
+ghost use Rattle.limbo_declarations.specs.declared.names.RowsFault.TheVariants as rows_fault;
 
 use crate::row::Row;
 use inf_text::Text;
 use std::alloc::{AllocError, AllocFailed, Global};
 use std::collections::BTreeMap;
 
-/// Why rows aren't those of one scope.
+/// Why names have no index.
 #[derive(Clone, Copy, PartialEq, Eq, Debug)]
 pub enum NamesFault {
     /// Want of memory.
     NoMemory,
-    /// Refusal 41: the name of this row is declared by a row before it.
-    Twice {
-        /// The row's number.
-        row: usize,
-    },
+    /// The name that stands there stands before it too.
+    Twice { row: usize },
 }
 
 impl From<AllocError> for NamesFault {
@@ -95,19 +94,43 @@ fn texts(alloc: Global, rows: &[Row]) -> Result<Vec<Text>, AllocError>
     Ok(texts)
 }
 
+/// Why rows aren't those of one scope.
+#[derive(Clone, Copy)]
+pub enum RowsFault<'a> {
+    /// Want of memory.
+    NoMemory,
+    /// Refusal 41: the name of this row is declared by a row before it.
+    Twice { row: Row<'a> },
+}
+
+impl<'a> From<AllocError> for RowsFault<'a> {
+    ghost use Rattle.std.specs.Prelude.{◌≡◌};
+    ghost use Rattle.limbo_declarations.specs.declared.names.RowsFault.TheVariants.{NoMemory};
+
+    ghost from_gives = { λ _ e. e ≡ NoMemory };
+
+    fn from(_error: AllocError) -> RowsFault<'a> {
+        RowsFault::NoMemory
+    }
+}
+
 impl<'a> Names<'a> {
     /// The names of these rows.
     ///
     /// # Errors
     /// Want of memory. `Twice` exactly where a name is declared by two rows: a row whose name one before it declares.
-    pub fn new(alloc: Global, rows: Vec<Row<'a>>) -> Result<Names<'a>, NamesFault>
+    pub fn new(alloc: Global, rows: Vec<Row<'a>>) -> Result<Names<'a>, RowsFault<'a>>
         ensures rows { IfOk result (λ n. n.rows ≡ rows.entry) }
         ensures once { IfOk result (λ _. AreOnce (names rows.entry.items)) }
-        ensures twice { IfErr result (λ e. (k : ℕ) → e ≡ Twice k → IsRepeated (names rows.entry.items) k) }
+        ensures stands { IfErr result (λ e. (r : code_row.Row) → e ≡ rows_fault.Twice r → Contains rows.entry.items r) }
+        ensures twice { IfErr result (λ e. (r : code_row.Row) → e ≡ rows_fault.Twice r → AreOnce (names rows.entry.items) → ⊥) }
     {
         let texts = texts(alloc, &rows)?;
-        let index = index(alloc, &texts)?;
-        Ok(Names { rows, index })
+        match index(alloc, &texts) {
+            Ok(index) => Ok(Names { rows, index }),
+            Err(NamesFault::NoMemory) => Err(RowsFault::NoMemory),
+            Err(NamesFault::Twice { row }) => Err(RowsFault::Twice { row: rows[row] }),
+        }
     }
 
     /// The number of the row that declares a name.

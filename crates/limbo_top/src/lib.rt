@@ -5,11 +5,15 @@
 //! says which names they give the top level: those that are declared there, the members of the implemented module, and the functions
 //! that are defined and that the module doesn't declare.
 //!
-//! Read `tops`, `module`.
+//! Read `tops`, `module`, `naming`.
 #![tactic(auto)]
 
+mod fault;
 mod module;
+mod naming;
 mod tops;
 
-pub use module::implemented;
+pub use fault::TopFault;
+pub use module::{alone, implemented};
+pub use naming::top_level;
 pub use tops::{Definition, declared, definitions};
