@@ -52,7 +52,8 @@ abbrev mutual
   -- the scopes inside a member; an adt's members share theirs with the names of its variants
   pub MemberIsOnce : Member → Type 0
   MemberIsOnce (decls.FnMember ns f) = FnIsOnce f
-  MemberIsOnce (decls.AdtMember n ms pick) = AreOnce (member_names ms ++ pick_names pick) × PickIsOnce (member_names ms) pick × MembersAreOnce ms
+  MemberIsOnce (decls.AdtMember n ms pick) = AreOnce (member_names ms ++ pick_names pick) × PickIsOnce (member_names ms) pick
+      × MembersAreOnce ms
   MemberIsOnce _ = Unit {0}
 
   pub MembersAreOnce : Members → Type 0

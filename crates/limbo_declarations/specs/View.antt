@@ -6,7 +6,8 @@ use Rattle.limbo_tree.specs.View.{view_expr, view_type, view_types, view_members
 use Rattle.limbo_declarations.specs.declared.row.Declared as code
 use Rattle.limbo_declarations.specs.declared.row.Declared.TheVariants as declared
 use Rattle.limbo_declarations.specs.declared.row.Row as code_row
-use Rattle.limbo_declarations.specs.Rows.{Declared, Row, Constant, Alias, Variable, Inferred, Imported, Exception, Module, Adt, Function, Case}
+use Rattle.limbo_declarations.specs.Rows.{Declared, Row, Constant, Alias, Variable, Inferred, Imported, Exception, Module, Adt, Function}
+use Rattle.limbo_declarations.specs.Rows.{Case}
 
 abbrev pub view_declared : code.Declared → Declared
 view_declared (declared.Constant e k) = Constant (view_expr e.now) k

@@ -1,7 +1,8 @@
 //! The rows of trees.
 
 ghost use Rattle.std.specs.Prelude.{◌≡◌, ◌++◌, map, option_map, IfOk};
-ghost use Rattle.limbo_tree.specs.View.{names_of, view_expr, view_boxed, view_decl, view_member, view_members, members_of, view_variant, view_field};
+ghost use Rattle.limbo_tree.specs.View.{names_of, view_expr, view_boxed, view_decl, view_member, view_members, members_of, view_variant};
+ghost use Rattle.limbo_tree.specs.View.{view_field};
 ghost use Rattle.limbo_declarations.specs.Rows as told;
 ghost use Rattle.limbo_declarations.specs.View.{view_declared, rows_of};
 
@@ -18,7 +19,8 @@ fn push_each<'a>(
     names: &'a [Name],
     declared: Declared<'a>,
 ) -> Result<(), AllocError>
-    ensures { IfOk result (λ _. rows_of rows.new.items ≡ rows_of rows.old.items ++ told.each path.now (names_of names.now) (view_declared declared.entry)) }
+    ensures { IfOk result (λ _. rows_of rows.new.items ≡ rows_of rows.old.items
+        ++ told.each path.now (names_of names.now) (view_declared declared.entry)) }
 {
     for name in names {
         rows.push(Row {
@@ -37,7 +39,8 @@ fn push_counted<'a>(
     names: &'a [Name],
     value: &'a Expr,
 ) -> Result<(), AllocError>
-    ensures { IfOk result (λ _. rows_of rows.new.items ≡ rows_of rows.old.items ++ told.counted path.now 0 (names_of names.now) (view_expr value.now)) }
+    ensures { IfOk result (λ _. rows_of rows.new.items ≡ rows_of rows.old.items
+        ++ told.counted path.now 0 (names_of names.now) (view_expr value.now)) }
 {
     for (iota, name) in names.iter().enumerate() {
         rows.push(Row {
@@ -162,7 +165,8 @@ pub fn push_members<'a>(
     path: &'a Text,
     members: &'a [Member],
 ) -> Result<(), AllocError>
-    ensures { IfOk result (λ _. rows_of rows.new.items ≡ rows_of rows.old.items ++ told.rows_of_members path.now (view_members members.now)) }
+    ensures { IfOk result (λ _. rows_of rows.new.items ≡ rows_of rows.old.items
+        ++ told.rows_of_members path.now (view_members members.now)) }
 {
     for m in members {
         push_member(rows, path, m)?;
@@ -176,7 +180,8 @@ fn push_variants<'a>(
     path: &'a Text,
     variants: &'a [Variant],
 ) -> Result<(), AllocError>
-    ensures { IfOk result (λ _. rows_of rows.new.items ≡ rows_of rows.old.items ++ told.rows_of_variants path.now (map view_variant variants.now)) }
+    ensures { IfOk result (λ _. rows_of rows.new.items ≡ rows_of rows.old.items
+        ++ told.rows_of_variants path.now (map view_variant variants.now)) }
 {
     for v in variants {
         push_each(rows, path, &v.names, Declared::Case(&v.fields))?;
@@ -194,7 +199,8 @@ pub fn adt_rows<'a>(
     members: &'a [Member],
     pick: Option<&'a [Variant]>,
 ) -> Result<Vec<Row<'a>>, AllocError>
-    ensures { IfOk result (λ rows. rows_of rows.items ≡ told.rows_of_adt path.now (view_members members.now) (option_map (λ vs. map view_variant vs.now) pick.entry)) }
+    ensures { IfOk result (λ rows. rows_of rows.items ≡ told.rows_of_adt path.now (view_members members.now) (option_map
+        (λ vs. map view_variant vs.now) pick.entry)) }
 {
     let mut rows = Vec::new(alloc);
     push_members(&mut rows, path, members)?;

@@ -2,9 +2,11 @@
 
 ghost use Rattle.std.specs.Prelude.{◌≡◌, ◌++◌, ℕ, List, map, option_map, IfOk, IfErr, IfSome, IfNone};
 ghost use Rattle.inf_text.specs.declared.span.Span.{Span};
-ghost use Rattle.limbo_tree.specs.View.{view_decl, view_member, view_members, members_of, view_variant, view_field, view_fn, view_param, name_of, names_of};
+ghost use Rattle.limbo_tree.specs.View.{view_decl, view_member, view_members, members_of, view_variant, view_field, view_fn, view_param};
+ghost use Rattle.limbo_tree.specs.View.{name_of, names_of};
 ghost use Rattle.limbo_declarations.specs.Names.{AreOnce, IsIndex};
-ghost use Rattle.limbo_declarations.specs.Scopes.{FnIsOnce, AreApart, FieldsAreOnce, PickIsOnce, MembersAreOnce, MemberIsOnce, AdtIsOnce, ModuleIsOnce, DeclIsOnce};
+ghost use Rattle.limbo_declarations.specs.Scopes.{FnIsOnce, AreApart, FieldsAreOnce, PickIsOnce, MembersAreOnce, MemberIsOnce, AdtIsOnce};
+ghost use Rattle.limbo_declarations.specs.Scopes.{ModuleIsOnce, DeclIsOnce};
 ghost use Rattle.limbo_declarations.specs.Scopes.{member_names, variant_names, pick_names, field_names, present, param_names};
 ghost use Rattle.limbo_declarations.specs.View.{texts_of};
 ghost use Rattle.limbo_declarations.specs.declared.scopes.OnceFault.TheVariants.{Twice};
@@ -58,7 +60,8 @@ fn push_names<'a>(all: &mut Vec<&'a Name>, more: &'a [Name]) -> Result<(), Alloc
 }
 
 fn push_members<'a>(all: &mut Vec<&'a Name>, members: &'a [Member]) -> Result<(), AllocError>
-    ensures { IfOk result (λ _. texts_of all.new.items ≡ texts_of all.old.items ++ member_names (members_of (map view_member members.now))) }
+    ensures { IfOk result (λ _. texts_of all.new.items ≡ texts_of all.old.items
+        ++ member_names (members_of (map view_member members.now))) }
 {
     for m in members {
         push_names(all, names_of_member(m))?;
@@ -77,7 +80,8 @@ fn push_variants<'a>(all: &mut Vec<&'a Name>, variants: &'a [Variant]) -> Result
 
 #[tactic(auto, using(crate::proofs::Apart::none_behind))]
 fn push_pick<'a>(all: &mut Vec<&'a Name>, pick: &'a Option<Vec<Variant>>) -> Result<(), AllocError>
-    ensures { IfOk result (λ _. texts_of all.new.items ≡ texts_of all.old.items ++ pick_names (option_map (λ vs. map view_variant vs.items) pick.now)) }
+    ensures { IfOk result (λ _. texts_of all.new.items ≡ texts_of all.old.items
+        ++ pick_names (option_map (λ vs. map view_variant vs.items) pick.now)) }
 {
     match pick {
         None => Ok(()),
@@ -176,7 +180,8 @@ fn variant_once(
     v: &Variant,
 ) -> Result<(), OnceFault>
     ensures once { IfOk result (λ _. AreOnce (field_names (view_variant v.now).fields)) }
-    ensures apart { IfOk result (λ _. (ns : List (List ℕ)) → IsIndex members.now ns → AreApart ns (field_names (view_variant v.now).fields)) }
+    ensures apart { IfOk result (λ _. (ns : List (List ℕ)) → IsIndex members.now ns
+        → AreApart ns (field_names (view_variant v.now).fields)) }
     ensures twice { IfErr result (λ e. (at : Span) (ns : List (List ℕ)) → e ≡ Twice at → IsIndex members.now ns
         → AreOnce (field_names (view_variant v.now).fields) → AreApart ns (field_names (view_variant v.now).fields) → ⊥) }
 {
@@ -195,7 +200,8 @@ fn variants_once(
     variants: &[Variant],
 ) -> Result<(), OnceFault>
     ensures once { IfOk result (λ _. (ns : List (List ℕ)) → IsIndex members.now ns → FieldsAreOnce ns (map view_variant variants.now)) }
-    ensures twice { IfErr result (λ e. (at : Span) (ns : List (List ℕ)) → e ≡ Twice at → IsIndex members.now ns → FieldsAreOnce ns (map view_variant variants.now) → ⊥) }
+    ensures twice { IfErr result (λ e. (at : Span) (ns : List (List ℕ)) → e ≡ Twice at → IsIndex members.now ns
+        → FieldsAreOnce ns (map view_variant variants.now) → ⊥) }
 {
     for v in variants {
         variant_once(alloc, members, v)?;
@@ -209,9 +215,11 @@ fn pick_once(
     members: &[Member],
     pick: &Option<Vec<Variant>>,
 ) -> Result<(), OnceFault>
-    ensures once { IfOk result (λ _. PickIsOnce (member_names (members_of (map view_member members.now))) (option_map (λ vs. map view_variant vs.items) pick.now)) }
+    ensures once { IfOk result (λ _. PickIsOnce (member_names (members_of (map view_member members.now))) (option_map
+        (λ vs. map view_variant vs.items) pick.now)) }
     ensures twice { IfErr result (λ e. (at : Span) → e ≡ Twice at → AreOnce (member_names (members_of (map view_member members.now)))
-        → PickIsOnce (member_names (members_of (map view_member members.now))) (option_map (λ vs. map view_variant vs.items) pick.now) → ⊥) }
+        → PickIsOnce (member_names (members_of (map view_member members.now))) (option_map
+        (λ vs. map view_variant vs.items) pick.now) → ⊥) }
 {
     match pick {
         None => Ok(()),
@@ -230,9 +238,11 @@ fn shared_once(
     members: &[Member],
     pick: &Option<Vec<Variant>>,
 ) -> Result<(), OnceFault>
-    ensures once { IfOk result (λ _. AreOnce (member_names (members_of (map view_member members.now)) ++ pick_names (option_map (λ vs. map view_variant vs.items) pick.now))) }
+    ensures once { IfOk result (λ _. AreOnce (member_names (members_of (map view_member members.now))
+        ++ pick_names (option_map (λ vs. map view_variant vs.items) pick.now))) }
     ensures twice { IfErr result (λ e. (at : Span) → e ≡ Twice at
-        → AreOnce (member_names (members_of (map view_member members.now)) ++ pick_names (option_map (λ vs. map view_variant vs.items) pick.now)) → ⊥) }
+        → AreOnce (member_names (members_of (map view_member members.now))
+        ++ pick_names (option_map (λ vs. map view_variant vs.items) pick.now)) → ⊥) }
 {
     let mut all = Vec::new(alloc);
     push_members(&mut all, members)?;
@@ -244,7 +254,8 @@ fn shared_once(
 // The scopes inside an adt.
 #[cycle(inside)]
 fn adt_once(alloc: Global, members: &[Member], pick: &Option<Vec<Variant>>) -> Result<(), OnceFault>
-    ensures once { IfOk result (λ _. AdtIsOnce (members_of (map view_member members.now)) (option_map (λ vs. map view_variant vs.items) pick.now)) }
+    ensures once { IfOk result (λ _. AdtIsOnce (members_of (map view_member members.now)) (option_map
+        (λ vs. map view_variant vs.items) pick.now)) }
     ensures twice { IfErr result (λ e. (at : Span) → e ≡ Twice at
         → AdtIsOnce (members_of (map view_member members.now)) (option_map (λ vs. map view_variant vs.items) pick.now) → ⊥) }
 {

@@ -22,7 +22,8 @@ pub struct Definition<'a> {
 
 // Adds what a declaration declares.
 fn push_top<'a>(rows: &mut Vec<Row<'a>>, s: Standing<'a>) -> Result<(), AllocError>
-    ensures { IfOk result (λ _. rows_of rows.new.items ≡ rows_of rows.old.items ++ told.rows_of_top s.entry.path.now (view_top s.entry.top.now)) }
+    ensures { IfOk result (λ _. rows_of rows.new.items ≡ rows_of rows.old.items
+        ++ told.rows_of_top s.entry.path.now (view_top s.entry.top.now)) }
 {
     match s.top {
         Top::Declare { decl } => push_decl(rows, s.path, decl),
