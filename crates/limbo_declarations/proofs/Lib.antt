@@ -1,0 +1,4 @@
+pub mod Indexes
+pub mod Apart
+pub mod Inside
+pub mod Found
