@@ -184,3 +184,10 @@ settled_form u p0 p1 p2 p3 p4 = go (view_ty u) (has_form u)
     go (ty.ChanOf t) h = absurd (p3 h.0 h.1)
     go (ty.Tuple ts) h = absurd (p4 h.0 h.1)
     go _ h = refl
+
+pub no_element : (u : code_ty.Ty) → ((b : Box code_ty.Ty Global) → u ≡ make.Array b → ⊥) → None ≡ forms.element_of (view_ty u)
+no_element u p0 = go (view_ty u) (has_form u)
+  where
+    go : (t : ty.Ty) → HasForm u t → None ≡ forms.element_of t
+    go (ty.ArrayOf t) h = absurd (p0 h.0 h.1)
+    go _ h = refl

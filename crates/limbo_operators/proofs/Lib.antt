@@ -6,3 +6,6 @@ pub mod Table
 pub mod Told
 pub mod OneTable
 pub mod Giving
+pub mod Nodes
+pub mod Runs
+pub mod Settled

@@ -48,6 +48,10 @@ item_of (ListOf t) = Some t
 item_of Nil = Some Nil
 item_of _ = None
 
+abbrev pub element_of : Ty → Option Ty
+element_of (ArrayOf t) = Some t
+element_of _ = None
+
 abbrev pub sequence_of : Ty → Option Sequence
 sequence_of Chars = Some sequence.Chars
 sequence_of (ArrayOf t) = Some sequence.Array

@@ -8,7 +8,7 @@ use Rattle.limbo_typed.specs.declared.operation.Operation.{Operation}
 use Rattle.limbo_typed.specs.declared.operation.Operation.TheVariants as op
 use Rattle.limbo_typed.specs.Typed.{Expr, Of, Node, Exprs, NoExprs, MoreExprs, Optional, Absent, Present, Items, NoItems, MoreItems}
 use Rattle.limbo_typed.specs.Typed.{Nil, OpenNil, Apply, Filled}
-use Rattle.limbo_operators.specs.Forms.{is_nil, is_reference}
+use Rattle.limbo_operators.specs.Forms.{is_nil, is_reference, element_of}
 use Rattle.limbo_operators.specs.Joining.{choose}
 
 abbrev pub has_nil : Ty → Bool
@@ -65,10 +65,6 @@ as_asked (OfEach ts) f g = f ts
 as_asked (OfAll t) f g = g t
 as_asked OfNone f g = None
 
-abbrev pub element_of : Ty → Option Ty
-element_of (ArrayOf t) = Some t
-element_of _ = None
-
 abbrev mutual
   pub settled : Ty → Expr → Option Expr
   settled t (Of u n) =
@@ -110,5 +106,7 @@ Tells o false new = o ≡ None
 abbrev pub settled_args : Ty → Operation → Exprs → Option Exprs
 settled_args t o es = as_asked (asks t o) (λ ts. settled_each ts es) (λ u. settled_all u es)
 
-abbrev pub settled_elements : Ty → Items → Optional → Option (Items × Optional)
-settled_elements t is rest = choose (element_of t) None (λ u. both (λ js last. (js, last)) (settled_items u is) (settled_rest u rest))
+abbrev pub filled_node : Ty → Node → Option Node
+filled_node t (Filled k is rest) =
+    choose (element_of t) None (λ u. both (λ js last. Filled k js last) (settled_items u is) (settled_rest u rest))
+filled_node t _ = None

@@ -109,6 +109,17 @@ pub(crate) fn item_of(t: &Ty) -> Option<&Ty>
     }
 }
 
+// The type of an array's elements.
+#[tactic(auto, using(limbo_types::proofs::View::the_types, crate::proofs::Forms::no_element))]
+pub(crate) fn element_of(t: &Ty) -> Option<&Ty>
+    ensures { option_map (λ i. view_ty i.now) result ≡ forms.element_of (view_ty t.now) }
+{
+    match t {
+        Ty::Array(item) => Some(item),
+        _ => None,
+    }
+}
+
 // What a type has the length of.
 #[tactic(auto, using(limbo_types::proofs::View::the_types, crate::proofs::Forms::no_sequence))]
 pub(crate) fn sequence_of(t: &Ty) -> Option<Sequence>

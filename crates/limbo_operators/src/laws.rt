@@ -2,6 +2,7 @@
 
 ghost use Rattle.limbo_operators.specs.Formats.{OneFormat, PiecesAsk};
 ghost use Rattle.limbo_operators.specs.Laws.{OneType, OneBinaryRow, OneUnaryRow, BinaryGives, UnaryGives, BytesGive};
+ghost use Rattle.limbo_operators.specs.Laws.{OneSettled, SettledStands, SettledAsItIs};
 
 /// A text is a format of one list of parts at most.
 pub fn one_format()
@@ -29,4 +30,11 @@ pub fn rows_give()
     ensures binary { BinaryGives }
     ensures unary { UnaryGives }
     ensures bytes { BytesGive }
+{}
+
+/// Where a type is asked for, a value is one tree at most, whose type stands there; a value of the very type is itself.
+pub fn settled_values()
+    ensures once { OneSettled }
+    ensures stands { SettledStands }
+    ensures as_it_is { SettledAsItIs }
 {}

@@ -6,7 +6,7 @@
 //! for is open, and tuples, lists and arrays carry that upward: `specs/Standing.antt` says what such a value is where a type is
 //! asked for. `specs/Rows.antt` has the table itself, a line for each row. The checker of expressions stands on it.
 //!
-//! Read `form`, `format`, `joining`, `signs`, `rows`, `laws`.
+//! Read `form`, `format`, `joining`, `standing`, `signs`, `rows`, `laws`.
 #![tactic(auto)]
 
 mod form;
@@ -15,10 +15,12 @@ mod joining;
 mod laws;
 mod rows;
 mod signs;
+mod standing;
 
 pub use form::of_kind;
 pub use format::{FormatPart, Verb, fit, parts_of};
 pub use joining::element_type;
-pub use laws::{one_format, one_row, one_type, pieces_ask, rows_give};
+pub use laws::{one_format, one_row, one_type, pieces_ask, rows_give, settled_values};
 pub use rows::{OneRow, Row, binary_row, bytes_row, lazy_row, unary_row, update_row};
 pub use signs::{Binary, altering, binary_of, converting, updating};
+pub use standing::settle;
