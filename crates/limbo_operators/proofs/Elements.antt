@@ -1,17 +1,18 @@
 -- The type that is found of elements is the least for which they stand.
-use Rattle.std.proofs.Common.{◌≡◌, ◌⊎◌, ◌==◌, ◌&&◌, ℕ, Bool, true, false, cond, List, [], ◌∷◌, Option, Some, None, option_map, refl, sym, ap, subst, ◌∙◌, inl, inr}
+use Rattle.std.proofs.Common.{◌≡◌, ◌==◌, ◌&&◌, ℕ, Bool, true, false, cond, List, [], ◌∷◌, Option, Some, None, option_map, refl, sym, ap, subst, ◌∙◌, inl, inr}
 use Rattle.std.proofs.lemmas.Bool.{eqb-true}
 use Rattle.std.proofs.Common.{rules, tests}
 use Rattle.std.specs.Prelude.{IfSome, IfNone}
 use Rattle.limbo_types.specs.declared.ty.Ty as code_ty
 use Rattle.limbo_types.specs.View.{view_ty}
-use Rattle.limbo_types.specs.Types.{Ty, Tys, Byte, Int, Big, Chars, Nothing, Nil, ArrayOf, ListOf, ChanOf, Tuple, Adt, RefAdt, RefPick, Module, NoTys, MoreTys}
+use Rattle.limbo_types.specs.Types.{Ty, Tys, Nil, ArrayOf, ListOf, ChanOf, Tuple, RefAdt, RefPick, NoTys, MoreTys}
 use Rattle.limbo_types.specs.Same.{same}
 use Rattle.limbo_types.proofs.Same.{only, itself}
-use Rattle.limbo_typed.specs.Fitting.{Stands, IsVariantOf, IsRefOf}
+use Rattle.limbo_typed.specs.Fitting.{Stands, IsVariantOf}
 use Rattle.limbo_typed.specs.Sound.{IsSettled, AllSettled}
 use Rattle.limbo_operators.specs.Forms.{is_settled, all_settled, ref_of}
-use Rattle.limbo_operators.specs.Joining.{AllOpen, SettledStand, Joins, choose, common_adt, join_two, join, or_nil, joined}
+use Rattle.limbo_operators.specs.Joining.{AllOpen, SettledStand, Joins, common_adt, join_two, join, or_nil, joined}
+use Rattle.limbo_operators.specs.Forms.{choose}
 use Rattle.limbo_operators.specs.Joining as rule
 
 -- ---- tests

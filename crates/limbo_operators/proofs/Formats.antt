@@ -1,6 +1,6 @@
 -- What is read of a format is what it is written as, and what fits its arguments.
 use Rattle.std.proofs.Common.{◌≡◌, ℕ, Bool, true, false, cond, List, [], ◌∷◌, ◌++◌, Option, Some, None, option_map, refl, sym, ap, subst, ◌∙◌}
-use Rattle.std.proofs.Common.{append_assoc, rules, Vec, Global, inl, inr}
+use Rattle.std.proofs.Common.{append_assoc, Vec, Global, inl, inr}
 use Rattle.std.specs.Prelude.{IfSome, IfNone}
 use Rattle.std.specs.Prelude.{◌==◌, codes}
 use Rattle.std.proofs.lemmas.Bool.{eqb-true}
@@ -11,6 +11,7 @@ use Rattle.limbo_typed.specs.declared.print.Hole.{Hole}
 use Rattle.limbo_typed.specs.declared.print.Hole.TheVariants as hole
 use Rattle.limbo_typed.specs.declared.print.Piece.{Piece}
 use Rattle.limbo_typed.specs.declared.print.Piece.TheVariants as piece
+use Rattle.limbo_operators.specs.Forms.{choose}
 use Rattle.limbo_operators.specs.declared.format.Verb.{Verb}
 use Rattle.limbo_operators.specs.declared.format.Verb.TheVariants.{Decimal, Big, Character, Hexadecimal}
 use Rattle.limbo_operators.specs.declared.format.Verb.TheVariants as verb
@@ -22,7 +23,7 @@ use Rattle.limbo_operators.specs.Formats.{written, escaped, all_escaped, spellin
 use Rattle.limbo_operators.specs.Formats.{Takes, Fits, AskedAs, AllAskedAs}
 use Rattle.limbo_typed.specs.Sound.{type_of_hole, holes}
 use Rattle.limbo_operators.specs.Formats as fits
-use Rattle.limbo_operators.specs.FormatReading.{choose, verb_of, closed, added, parts, format_of, decimal_for, big_for, chars_for, int_for}
+use Rattle.limbo_operators.specs.FormatReading.{verb_of, closed, added, parts, format_of}
 use Rattle.limbo_operators.specs.FormatReading.{hole_for, fitted, IsRead, IsFitted}
 
 -- ---- the same from the right to the left

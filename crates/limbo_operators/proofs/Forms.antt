@@ -41,6 +41,8 @@ no_int u i never = go (view_ty u) (has_form u)
     go ty.Int h = absurd (never h)
     go _ h = refl
 
+pub ruleset the_holes = (no_decimal, no_big, no_chars, no_int)
+
 -- a test that tells whether two types are the same
 pub told : (t u : ty.Ty) (r : Bool) → (r ≡ true → t ≡ u) → (t ≡ u → r ≡ true) → r ≡ same t u
 told t u true k l = sym (ap (λ z. same t z) (sym (k refl)) ∙ itself t)

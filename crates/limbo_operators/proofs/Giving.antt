@@ -1,6 +1,6 @@
 -- The rows give what operations give.
-use Rattle.std.proofs.Common.{◌≡◌, ◌⊎◌, ℕ, List, [], ◌∷◌, refl, inl, inr}
-use Rattle.limbo_types.specs.Types.{Ty, Int, Nil, ChanOf, RefAdt, RefPick}
+use Rattle.std.proofs.Common.{ℕ, List, [], ◌∷◌, refl, inl, inr}
+use Rattle.limbo_types.specs.Types.{Ty, Int, RefAdt, RefPick}
 use Rattle.limbo_layout.specs.Adts.{Def}
 use Rattle.limbo_tree.specs.declared.operators.UnaryOp.{UnaryOp}
 use Rattle.limbo_typed.specs.declared.operation.Operation.{Operation}

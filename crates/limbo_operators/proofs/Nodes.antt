@@ -20,7 +20,7 @@ use Rattle.limbo_typed.specs.View.{view_pattern, view_place_node, view_node, vie
 use Rattle.limbo_typed.proofs.View.{view_node-OpenNil, view_node-Apply, view_node-Filled}
 use Rattle.limbo_operators.specs.Forms.{is_reference, element_of}
 use Rattle.limbo_operators.specs.Settling.{has_nil, is_open_nil, is_tuple, is_list, is_cons, is_variant_of, stands_variant, settled_node}
-use Rattle.limbo_operators.specs.Settling.{Tells, both, filled_node, settled_args, settled_items, settled_rest}
+use Rattle.limbo_operators.specs.Settling.{Tells, filled_node, settled_args, settled_items, settled_rest}
 
 abbrev pub Boxed : Type 0
 Boxed = Option (Box code_expr.TExpr Global)

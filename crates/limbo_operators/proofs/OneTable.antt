@@ -1,20 +1,20 @@
 -- The rows that are chosen for one operand are those of the table.
-use Rattle.std.proofs.Common.{◌≡◌, ◌&&◌, ℕ, Bool, true, false, cond, List, [], ◌∷◌, Option, Some, None, option_map, refl, sym, ap, subst, ◌∙◌}
-use Rattle.std.specs.Prelude.{IfSome, IfNone, slice_get}
+use Rattle.std.proofs.Common.{◌≡◌, ℕ, Bool, true, false, cond, List, [], ◌∷◌, Option, Some, None, refl, sym, ap, subst, ◌∙◌}
+use Rattle.std.specs.Prelude.{slice_get}
 use Rattle.limbo_values.specs.declared.number.Kind.{Kind}
 use Rattle.limbo_values.specs.declared.number.Kind.TheVariants as kind
 use Rattle.limbo_values.specs.declared.operator.Unary.{Unary}
-use Rattle.limbo_types.specs.Types.{Ty, Byte, Int, Big, Chars, Nil, ArrayOf, ListOf}
+use Rattle.limbo_types.specs.Types.{Ty, Byte, Int, Chars, Nil, ArrayOf, ListOf}
 use Rattle.limbo_layout.specs.Adts.{Def, Variant}
 use Rattle.limbo_tree.specs.declared.operators.UnaryOp.{UnaryOp}
 use Rattle.limbo_tree.specs.declared.operators.UnaryOp.TheVariants as before
 use Rattle.limbo_typed.specs.declared.operation.Sequence.{Sequence}
 use Rattle.limbo_typed.specs.declared.operation.Sequence.TheVariants as sequence
 use Rattle.limbo_typed.specs.declared.operation.Operation.TheVariants as op
-use Rattle.limbo_typed.specs.Fitting.{of_kind, IsRefOf, IsSequence, IsPick}
+use Rattle.limbo_typed.specs.Fitting.{of_kind, IsSequence, IsPick}
 use Rattle.limbo_typed.specs.Sound.{IsSettled}
-use Rattle.limbo_operators.specs.Forms.{kind_of, is_int, is_text, ref_of, item_of, sequence_of, is_byte, is_bytes, is_settled}
-use Rattle.limbo_operators.specs.Joining.{choose}
+use Rattle.limbo_operators.specs.Forms.{kind_of, is_int, is_text, ref_of, sequence_of, is_byte, is_bytes, is_settled}
+use Rattle.limbo_operators.specs.Forms.{choose}
 use Rattle.limbo_operators.specs.Rows.{OneRow, one, IsText, UnaryRow, BytesRow, altering, converting}
 use Rattle.limbo_operators.specs.Rows as rule
 use Rattle.limbo_operators.specs.Choosing.{has_variants, is_pick, settled_item, is_byte_kind, convert_row, string_row, length_row, tag_row}

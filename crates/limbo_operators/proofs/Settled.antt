@@ -1,5 +1,5 @@
 -- What a value is where a type is asked for, as it is found, is what the definition says.
-use Rattle.std.proofs.Common.{◌≡◌, ◌&&◌, ◌==◌, ℕ, ℤ, Bool, true, false, cond, List, [], ◌∷◌, Option, Some, None, option_map, refl, sym, ap, subst, ◌∙◌, inl, inr}
+use Rattle.std.proofs.Common.{◌≡◌, ◌&&◌, ◌==◌, ℕ, Bool, true, false, cond, List, [], ◌∷◌, Option, Some, None, option_map, refl, sym, ap, subst, ◌∙◌, inl, inr}
 use Rattle.std.proofs.lemmas.Bool.{eqb-true}
 use Rattle.std.proofs.Common.{rules, tests}
 use Rattle.limbo_types.specs.Types as ty
@@ -13,12 +13,11 @@ use Rattle.limbo_typed.specs.Typed.{Expr, Of, Node, Exprs, NoExprs, MoreExprs, O
 use Rattle.limbo_typed.specs.Typed.{Nil, OpenNil, Apply, Filled}
 use Rattle.limbo_typed.specs.Fitting.{HasNil, Stands}
 use Rattle.limbo_typed.specs.Sound.{type_of}
-use Rattle.limbo_operators.specs.Forms.{is_nil, is_reference, element_of}
-use Rattle.limbo_operators.specs.Joining.{choose}
+use Rattle.limbo_operators.specs.Forms.{is_nil, element_of}
 use Rattle.limbo_operators.specs.Standing.{Settles, SettlesForm, SettleEach, SettleAll, SettleItems, SettleRest}
 use Rattle.limbo_operators.specs.Standing as rule
-use Rattle.limbo_operators.specs.Settling.{has_nil, is_open_nil, is_tuple, is_list, is_cons, is_variant_of, stands_variant, both, Asks, OfEach, OfAll, OfNone}
-use Rattle.limbo_operators.specs.Settling.{list_asks, asks, as_asked, settled, settled_node, settled_args, settled_each, settled_all, settled_items, settled_rest, Tells}
+use Rattle.limbo_operators.specs.Settling.{has_nil, is_open_nil, is_tuple, is_list, is_cons, stands_variant, both, OfEach, OfAll, OfNone}
+use Rattle.limbo_operators.specs.Settling.{list_asks, as_asked, settled, settled_node, settled_args, settled_each, settled_all, settled_items, settled_rest, Tells}
 use Rattle.limbo_operators.proofs.Elements.{both_true}
 use Rattle.limbo_operators.proofs.Table.{choose_some, if_some, nil_is}
 

@@ -1,7 +1,6 @@
 -- The rows that are chosen are those of the table.
-use Rattle.std.proofs.Common.{◌≡◌, ◌⊎◌, ◌&&◌, ◌==◌, ℕ, Bool, true, false, cond, List, [], ◌∷◌, Option, Some, None, option_map, refl, sym, ap, subst}
+use Rattle.std.proofs.Common.{◌≡◌, ◌⊎◌, ◌&&◌, ◌==◌, ℕ, Bool, true, false, cond, [], ◌∷◌, Option, Some, None, refl, sym, ap, subst}
 use Rattle.std.proofs.Common.{◌∙◌, inl, inr}
-use Rattle.std.specs.Prelude.{IfSome, IfNone, slice_get}
 use Rattle.std.proofs.lemmas.Bool.{eqb-true}
 use Rattle.limbo_values.specs.declared.number.Kind.{Kind}
 use Rattle.limbo_values.specs.declared.number.Kind.TheVariants as kind
@@ -10,7 +9,7 @@ use Rattle.limbo_values.specs.declared.operator.Operator.TheVariants as operator
 use Rattle.limbo_values.specs.declared.operator.Shift.{Shift}
 use Rattle.limbo_values.specs.declared.operator.Comparison.{Comparison}
 use Rattle.limbo_values.specs.declared.operator.Comparison.TheVariants as comparison
-use Rattle.limbo_types.specs.Types.{Ty, Tys, Byte, Int, Big, Chars, Nothing, Nil, ArrayOf, ListOf, ChanOf, Tuple, Adt, RefAdt, RefPick, Module, NoTys, MoreTys}
+use Rattle.limbo_types.specs.Types.{Ty, Byte, Int, Big, Chars, Nil, ArrayOf, ListOf, ChanOf, RefAdt, RefPick, Module}
 use Rattle.limbo_types.specs.Same.{same}
 use Rattle.limbo_types.proofs.Same.{only, itself}
 use Rattle.limbo_tree.specs.declared.operators.AssignOp.{AssignOp}
@@ -18,15 +17,15 @@ use Rattle.limbo_typed.specs.declared.operation.Operation.{Operation}
 use Rattle.limbo_typed.specs.declared.operation.Operation.TheVariants as op
 use Rattle.limbo_typed.specs.declared.operation.Connective.{Connective}
 use Rattle.limbo_typed.specs.Fitting.{of_kind, IsReference, IsRefOf}
-use Rattle.limbo_typed.specs.Sound.{IsSettled}
 use Rattle.limbo_operators.specs.declared.signs.Binary.{Binary}
 use Rattle.limbo_operators.specs.declared.signs.Binary.TheVariants as binary
-use Rattle.limbo_operators.specs.Forms.{kind_of, is_int, is_nil, is_text, is_reference, is_channel, ref_of, item_of, is_settled}
-use Rattle.limbo_operators.specs.Joining.{Joins, choose, joined}
+use Rattle.limbo_operators.specs.Forms.{kind_of, same_kind, is_int, is_nil, is_text, is_reference, is_channel, ref_of, item_of, is_settled}
+use Rattle.limbo_operators.specs.Joining.{Joins, joined}
+use Rattle.limbo_operators.specs.Forms.{choose}
 use Rattle.limbo_operators.specs.Rows.{Row, row, IsText, IsOrder, Identifies, AreLike, HasItems, BinaryRow, LazyRow, UpdateRow, updating}
 use Rattle.limbo_operators.specs.Rows as rule
 use Rattle.limbo_operators.specs.Choosing.{is_add, numbers, arithmetic_row, shift_row, identifying, are_like, may_be_nil, reference_row, is_order}
-use Rattle.limbo_operators.specs.Choosing.{text_row, compare_row, cons_of, cons_row, binary_row, lazy_row, into_place, update_row}
+use Rattle.limbo_operators.specs.Choosing.{text_row, compare_row, cons_of, cons_row, binary_row, lazy_row, update_row}
 use Rattle.limbo_operators.proofs.Elements.{both_true, settled_is, settled_true, not_settled, open_false, joins_given, joins_found}
 
 -- ---- options and tests
@@ -92,11 +91,13 @@ numbers_at o k t u f g = rw (f, g) (rule.numbers o k)
 
 numbers_given : (o : Operator) (t u : Ty) (r : Row) → numbers o t u ≡ Some r → BinaryRow (binary.Arithmetic o) t u r
 numbers_given o t u r e =
-    let k = choose_some (kind_of t) _ r e in
-    let s = if_some (same t u) _ r k.2 in
-    let f : t ≡ of_kind k.0 = kind_is t k.0 k.1 in
+    let k = choose_some (same_kind t u) _ r e in
+    let l = choose_some (kind_of t) _ k.0 k.1 in
+    let s = if_some (same t u) l.0 k.0 l.2 in
+    let f : t ≡ of_kind k.0 = kind_is t l.0 l.1 ∙ ap of_kind s.1 in
     let g : u ≡ of_kind k.0 = sym (only t u s.0) ∙ f in
-    subst (λ (z : Row). BinaryRow (binary.Arithmetic o) t u z) s.1 (numbers_at o k.0 t u f g)
+    let q : row (of_kind k.0) (of_kind k.0) (op.Arithmetic o k.0) (of_kind k.0) ≡ r = let h = k.2 in cc in
+    subst (λ (z : Row). BinaryRow (binary.Arithmetic o) t u z) q (numbers_at o k.0 t u f g)
 
 arithmetic_given : (o : Operator) (t u : Ty) (r : Row) → arithmetic_row o t u ≡ Some r → BinaryRow (binary.Arithmetic o) t u r
 arithmetic_given o t u r e = go (is_text t && (is_text u && is_add o)) refl e

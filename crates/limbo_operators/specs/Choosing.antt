@@ -20,8 +20,10 @@ use Rattle.limbo_typed.specs.declared.operation.Connective.{Connective}
 use Rattle.limbo_typed.specs.Fitting.{of_kind}
 use Rattle.limbo_operators.specs.declared.signs.Binary.{Binary}
 use Rattle.limbo_operators.specs.declared.signs.Binary.TheVariants as binary
-use Rattle.limbo_operators.specs.Forms.{kind_of, is_int, is_nil, is_text, is_reference, is_channel, ref_of, item_of, sequence_of, is_bytes, is_settled}
-use Rattle.limbo_operators.specs.Joining.{choose, joined}
+use Rattle.limbo_operators.specs.Forms.{kind_of, same_kind, is_int, is_nil, is_text, is_reference}
+use Rattle.limbo_operators.specs.Forms.{is_channel, ref_of, item_of, sequence_of, is_bytes, is_settled}
+use Rattle.limbo_operators.specs.Joining.{joined}
+use Rattle.limbo_operators.specs.Forms.{choose}
 use Rattle.limbo_operators.specs.Rows.{Row, row, OneRow, one, altering, converting, updating}
 
 -- ---- two operands
@@ -31,7 +33,7 @@ is_add operator.Add = true
 is_add _ = false
 
 abbrev pub numbers : Operator → Ty → Ty → Option Row
-numbers o t u = choose (kind_of t) None (λ k. if same t u then Some (row (of_kind k) (of_kind k) (op.Arithmetic o k) (of_kind k)) else None)
+numbers o t u = choose (same_kind t u) None (λ k. Some (row (of_kind k) (of_kind k) (op.Arithmetic o k) (of_kind k)))
 
 abbrev pub arithmetic_row : Operator → Ty → Ty → Option Row
 arithmetic_row o t u = if is_text t && (is_text u && is_add o) then Some (row Chars Chars op.Join Chars) else numbers o t u

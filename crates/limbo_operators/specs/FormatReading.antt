@@ -10,6 +10,7 @@ use Rattle.limbo_typed.specs.declared.print.Hole.{Hole}
 use Rattle.limbo_typed.specs.declared.print.Hole.TheVariants as hole
 use Rattle.limbo_typed.specs.declared.print.Piece.{Piece}
 use Rattle.limbo_typed.specs.declared.print.Piece.TheVariants as piece
+use Rattle.limbo_operators.specs.Forms.{choose}
 use Rattle.limbo_operators.specs.declared.format.Verb.{Verb}
 use Rattle.limbo_operators.specs.declared.format.Verb.TheVariants.{Decimal, Big, Character, Hexadecimal}
 use Rattle.limbo_operators.specs.declared.format.Verb.TheVariants as verb
@@ -17,10 +18,6 @@ use Rattle.limbo_operators.specs.declared.format.FormatPart.{FormatPart}
 use Rattle.limbo_operators.specs.declared.format.FormatPart.TheVariants.{Chars, Error, Argument}
 use Rattle.limbo_operators.specs.declared.format.Seen.{Seen}
 use Rattle.limbo_operators.specs.declared.format.Seen.TheVariants.{Nothing, Percent, PercentB}
-
-abbrev pub choose : {A B : Type 0} → Option A → Option B → (A → Option B) → Option B
-choose (Some a) b f = f a
-choose None b f = b
 
 -- the verb of one letter
 abbrev pub verb_of : ℕ → Option Verb

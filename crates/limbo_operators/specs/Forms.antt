@@ -1,10 +1,16 @@
 -- Tests of types, and parts of them: what they say of a type is proved of them.
-use Rattle.std.specs.Prelude.{ℕ, Bool, true, false, Option, None, Some, ◌&&◌}
+use Rattle.std.specs.Prelude.{ℕ, Bool, true, false, Option, None, Some, ◌&&◌, if◌then◌else◌}
 use Rattle.limbo_values.specs.declared.number.Kind.{Kind}
 use Rattle.limbo_values.specs.declared.number.Kind.TheVariants as kind
-use Rattle.limbo_types.specs.Types.{Ty, Tys, Byte, Int, Big, Chars, Nil, ArrayOf, ListOf, ChanOf, Tuple, RefAdt, RefPick, Module, NoTys, MoreTys}
+use Rattle.limbo_types.specs.Types.{Ty, Tys, Byte, Int, Big, Chars, Nil, ArrayOf}
+use Rattle.limbo_types.specs.Types.{ListOf, ChanOf, Tuple, RefAdt, RefPick, Module, NoTys, MoreTys}
+use Rattle.limbo_types.specs.Same.{same}
 use Rattle.limbo_typed.specs.declared.operation.Sequence.{Sequence}
 use Rattle.limbo_typed.specs.declared.operation.Sequence.TheVariants as sequence
+
+abbrev pub choose : {A B : Type 0} → Option A → B → (A → B) → B
+choose (Some a) b f = f a
+choose None b f = b
 
 abbrev pub kind_of : Ty → Option Kind
 kind_of Byte = Some kind.Byte
@@ -79,3 +85,7 @@ abbrev mutual
   pub all_settled : Tys → Bool
   all_settled NoTys = true
   all_settled (MoreTys t ts) = is_settled t && all_settled ts
+
+-- the kind of numbers that two types both have
+abbrev pub same_kind : Ty → Ty → Option Kind
+same_kind t u = choose (kind_of t) None (λ k. if same t u then Some k else None)

@@ -1,10 +1,10 @@
 -- The one type of a literal's elements (Limbo Language Reference, expressions).
-use Rattle.std.specs.Prelude.{ℕ, ◌≡◌, List, [], ◌∷◌, Option, None, Some, option_map, ◌==◌, if◌then◌else◌}
+use Rattle.std.specs.Prelude.{ℕ, List, [], ◌∷◌, Option, None, Some, option_map, ◌==◌, if◌then◌else◌}
 use Rattle.limbo_types.specs.Types.{Ty, Nil, RefAdt}
 use Rattle.limbo_types.specs.Same.{same}
 use Rattle.limbo_typed.specs.Fitting.{Stands}
 use Rattle.limbo_typed.specs.Sound.{IsSettled}
-use Rattle.limbo_operators.specs.Forms.{is_settled, ref_of}
+use Rattle.limbo_operators.specs.Forms.{choose, is_settled, ref_of}
 
 -- nothing says what they are
 abbrev pub AllOpen : List Ty → Type 0
@@ -23,10 +23,6 @@ pub data Joins (ts : List Ty) : Ty → Type 0 where
   least : (t : Ty) → (AllOpen ts → ⊥) → SettledStand ts t → ((u : Ty) → SettledStand ts u → Stands t u) → Joins ts t
 
 -- ---- the same, as it is read from the first to the last
-
-abbrev pub choose : {A B : Type 0} → Option A → B → (A → B) → B
-choose (Some a) b f = f a
-choose None b f = b
 
 -- the adt of which both are a `ref`
 abbrev pub common_adt : Ty → Ty → Option ℕ

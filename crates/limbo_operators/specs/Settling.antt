@@ -1,7 +1,6 @@
 -- What a value is where a type is asked for, as a function; that it gives what the definition says is proved of it.
 use Rattle.std.specs.Prelude.{ℕ, ◌≡◌, Bool, true, false, List, [], ◌∷◌, Option, None, Some, option_map, ◌==◌, ◌&&◌, if◌then◌else◌}
-use Rattle.limbo_types.specs.Types as ty
-use Rattle.limbo_types.specs.Types.{Ty, Tys, Chars, ArrayOf, ListOf, Tuple, RefAdt, RefPick}
+use Rattle.limbo_types.specs.Types.{Ty, Chars, ListOf, Tuple, RefAdt, RefPick}
 use Rattle.limbo_types.specs.Same.{same}
 use Rattle.limbo_layout.specs.Adts.{listed}
 use Rattle.limbo_typed.specs.declared.operation.Operation.{Operation}
@@ -9,7 +8,7 @@ use Rattle.limbo_typed.specs.declared.operation.Operation.TheVariants as op
 use Rattle.limbo_typed.specs.Typed.{Expr, Of, Node, Exprs, NoExprs, MoreExprs, Optional, Absent, Present, Items, NoItems, MoreItems}
 use Rattle.limbo_typed.specs.Typed.{Nil, OpenNil, Apply, Filled}
 use Rattle.limbo_operators.specs.Forms.{is_nil, is_reference, element_of}
-use Rattle.limbo_operators.specs.Joining.{choose}
+use Rattle.limbo_operators.specs.Forms.{choose}
 
 abbrev pub has_nil : Ty → Bool
 has_nil Chars = true

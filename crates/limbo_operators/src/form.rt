@@ -152,6 +152,14 @@ pub(crate) fn is_same(t: &Ty, u: &Ty) -> bool
     equal(t, u)
 }
 
+// The kind of numbers that two types both have.
+pub(crate) fn same_kind(t: &Ty, u: &Ty) -> Option<Kind>
+    ensures { result ≡ forms.same_kind (view_ty t.now) (view_ty u.now) }
+{
+    let kind = kind_of(t)?;
+    if is_same(t, u) { Some(kind) } else { None }
+}
+
 /// Whether no `nil` has a part in a type of which nothing says what it stands for.
 #[tactic(auto, using(limbo_types::proofs::View::the_types, crate::proofs::Forms::settled_form))]
 #[cycle(settled)]

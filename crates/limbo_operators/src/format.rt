@@ -163,7 +163,7 @@ pub fn parts_of(alloc: Global, text: &Text) -> Result<Option<Vec<FormatPart>>, A
 }
 
 // What an argument of this type stands in for.
-#[tactic(auto, using(limbo_types::proofs::View::the_types, crate::proofs::Forms::no_decimal, crate::proofs::Forms::no_big, crate::proofs::Forms::no_chars, crate::proofs::Forms::no_int))]
+#[tactic(auto, using(limbo_types::proofs::View::the_types, crate::proofs::Forms::the_holes))]
 fn hole_for(verb: Verb, t: &Ty) -> Option<Hole>
     ensures { result ≡ reading.hole_for verb (view_ty t.now) }
 {

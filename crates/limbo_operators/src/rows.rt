@@ -12,7 +12,7 @@ ghost use Rattle.limbo_operators.specs.RowView.{view_row, view_one};
 
 use crate::form::{
     is_bytes, is_channel, is_int, is_nil, is_reference, is_same, is_settled, is_text, item_of,
-    kind_of, of_kind, ref_of, sequence_of,
+    kind_of, of_kind, ref_of, same_kind, sequence_of,
 };
 use crate::joining::{join, or_nil};
 use crate::signs::{Binary, altering, converting, updating};
@@ -60,10 +60,7 @@ fn arithmetic_row(operator: Operator, left: &Ty, right: &Ty) -> Option<Row>
             result: Ty::Chars,
         });
     }
-    let kind = kind_of(left)?;
-    if !is_same(left, right) {
-        return None;
-    }
+    let kind = same_kind(left, right)?;
     Some(Row {
         left: of_kind(kind),
         right: of_kind(kind),

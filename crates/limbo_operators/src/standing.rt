@@ -124,7 +124,8 @@ fn settle_args(
     operation: Operation,
     asked: &Ty,
 ) -> Result<bool, AllocError>
-    ensures { IfOk result (λ yes. Tells (settling.settled_args (view_ty asked.now) operation (view_exprs args.old)) yes (view_exprs args.new)) }
+    ensures { IfOk result (λ yes. Tells (settling.settled_args (view_ty asked.now) operation (view_exprs args.old))
+        yes (view_exprs args.new)) }
 {
     match asked {
         Ty::Tuple(parts) => {
@@ -172,7 +173,8 @@ fn is_cons(operation: Operation) -> bool
 // Values, each where a type of its own is asked for.
 #[cycle(settling)]
 fn settle_each(alloc: Global, values: &mut [TExpr], asked: &[Ty]) -> Result<bool, AllocError>
-    ensures { IfOk result (λ yes. Tells (settling.settled_each (map view_ty asked.now) (view_exprs values.old)) yes (view_exprs values.new)) }
+    ensures { IfOk result (λ yes. Tells (settling.settled_each (map view_ty asked.now) (view_exprs values.old))
+        yes (view_exprs values.new)) }
 {
     let mut rest = asked;
     for value in values.iter_mut() {
@@ -208,7 +210,8 @@ fn settle_pair(
     item: &Ty,
     list: &Ty,
 ) -> Result<bool, AllocError>
-    ensures { IfOk result (λ yes. Tells (settling.settled_each (view_ty item.now ∷ view_ty list.now ∷ []) (view_exprs values.old)) yes (view_exprs values.new)) }
+    ensures { IfOk result (λ yes. Tells (settling.settled_each (view_ty item.now ∷ view_ty list.now ∷ []) (view_exprs values.old))
+        yes (view_exprs values.new)) }
 {
     if values.len() != 2 {
         return Ok(false);
@@ -226,7 +229,8 @@ fn settle_pair(
 // The elements of an array that have an index.
 #[cycle(settling)]
 fn settle_items(alloc: Global, items: &mut [Item], asked: &Ty) -> Result<bool, AllocError>
-    ensures { IfOk result (λ yes. Tells (settling.settled_items (view_ty asked.now) (items_of (map view_item items.old))) yes (items_of (map view_item items.new))) }
+    ensures { IfOk result (λ yes. Tells (settling.settled_items (view_ty asked.now) (items_of (map view_item items.old)))
+        yes (items_of (map view_item items.new))) }
 {
     for item in items.iter_mut() {
         if !settle_value(alloc, &mut item.value, asked)? {

@@ -1,4 +1,4 @@
-use Rattle.std.proofs.Common.{◌≡◌, [], drop}
+use Rattle.std.proofs.Common.{◌≡◌, drop}
 use Rattle.limbo_operators.specs.FormatReading.{parts, format_of}
 use Rattle.limbo_operators.proofs.format.read.Given as goal
 

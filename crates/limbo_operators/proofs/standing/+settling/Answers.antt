@@ -1,7 +1,6 @@
-use Rattle.std.proofs.Common.{◌≡◌, ◌∙◌, ◌<◌, ◌≤◌, ℕ, List, [], ◌∷◌, true, false, length, map, get_or, sym, ap, subst, arith, rules, refl}
-use Rattle.limbo_types.specs.declared.ty.Ty as code_ty
+use Rattle.std.proofs.Common.{◌≡◌, ◌∙◌, ◌<◌, length, map, get_or, sym, ap, subst, arith, rules, refl}
 use Rattle.limbo_types.specs.View.{view_ty}
-use Rattle.limbo_operators.proofs.Runs.{all_next, all_stops, all_done, items_next, items_stop, items_done, stands, stands_not, as_told, unvisited_next}
+use Rattle.limbo_operators.proofs.Runs.{all_next, all_stops, all_done, items_next, items_stop, items_done, stands, stands_not, unvisited_next}
 use Rattle.limbo_operators.proofs.Runs.{each_next_at, each_stops_at, each_over_at, each_told, pair_next, pair_stops, pair_done, pair_only, pair_at_next}
 use Rattle.limbo_typed.specs.View.{view_expr, view_exprs, view_item, items_of}
 use Rattle.std.proofs.lemmas.List.{with_items_is}
