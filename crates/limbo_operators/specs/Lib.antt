@@ -1,0 +1,10 @@
+pub mod Formats
+pub mod FormatReading
+pub mod Forms
+pub mod Joining
+pub mod Standing
+pub mod Settling
+pub mod Rows
+pub mod Choosing
+pub mod RowView
+pub mod Laws
