@@ -2,6 +2,7 @@ pub mod Formats
 pub mod FormatReading
 pub mod Forms
 pub mod Joining
+pub mod ItemTypes
 pub mod Standing
 pub mod Settling
 pub mod Rows

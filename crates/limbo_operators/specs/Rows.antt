@@ -17,6 +17,8 @@ use Rattle.limbo_tree.specs.declared.operators.BinaryOp.{BinaryOp}
 use Rattle.limbo_tree.specs.declared.operators.BinaryOp.TheVariants as sign
 use Rattle.limbo_tree.specs.declared.operators.UnaryOp.{UnaryOp}
 use Rattle.limbo_tree.specs.declared.operators.UnaryOp.TheVariants as before
+use Rattle.limbo_tree.specs.declared.operators.PostfixOp.{PostfixOp}
+use Rattle.limbo_tree.specs.declared.operators.PostfixOp.TheVariants as behind
 use Rattle.limbo_tree.specs.declared.operators.AssignOp.{AssignOp}
 use Rattle.limbo_tree.specs.declared.operators.AssignOp.TheVariants as assign
 use Rattle.limbo_typed.specs.declared.operation.Connective.{Connective}
@@ -77,6 +79,11 @@ altering before.Complement = Some unary.Complement
 altering before.Increment = Some unary.Increment
 altering before.Decrement = Some unary.Decrement
 altering _ = None
+
+-- `++` and `--` behind a place have the row that they have before it
+abbrev pub before_of : PostfixOp → UnaryOp
+before_of behind.Increment = before.Increment
+before_of behind.Decrement = before.Decrement
 
 -- the conversions to numbers
 abbrev pub converting : UnaryOp → Option Kind

@@ -4,12 +4,13 @@ ghost use Rattle.std.specs.Prelude.{◌≡◌, IfOk, IfSome, IfNone, None, map, 
 ghost use Rattle.limbo_types.specs.Types as types;
 ghost use Rattle.limbo_types.specs.View.{view_ty};
 ghost use Rattle.limbo_operators.specs.Formats.{arg_types};
+ghost use Rattle.limbo_operators.specs.ItemTypes.{item_types};
 ghost use Rattle.limbo_operators.specs.Joining as joining;
 ghost use Rattle.limbo_operators.specs.Joining.{Joins};
 ghost use Rattle.limbo_operators.specs.Settling.{Tells};
 
 use crate::form::{is_same, is_settled, ref_of};
-use limbo_typed::TExpr;
+use limbo_typed::{Item, TExpr};
 use limbo_types::{Ty, copy};
 use std::alloc::{AllocError, Global};
 
@@ -83,4 +84,44 @@ pub fn element_type(alloc: Global, elements: &[TExpr]) -> Result<Option<Ty>, All
     ensures none { IfOk result (λ t. IfNone t ((u : types.Ty) → Joins (arg_types elements.now) u → ⊥)) }
 {
     joined(alloc, elements)
+}
+
+// The type of an array's elements, or nothing where they have none.
+fn joined_items(
+    alloc: Global,
+    items: &[Item],
+    rest: Option<&TExpr>,
+) -> Result<Option<Ty>, AllocError>
+    ensures { IfOk result (λ t. joining.joined None (item_types items.now rest.entry) ≡ option_map view_ty t) }
+{
+    let mut found = None;
+    for item in items {
+        if !join(alloc, &mut found, &item.value.ty)? {
+            return Ok(None);
+        }
+    }
+    if let Some(value) = rest {
+        if !join(alloc, &mut found, &value.ty)? {
+            return Ok(None);
+        }
+    }
+    Ok(Some(or_nil(found)))
+}
+
+/// The type of the elements of an array with its elements: of those that have an index, and of the one that stands at each other
+/// index, if there is one. It is the type of them all as `element_type` gives it.
+///
+/// # Errors
+/// Want of memory.
+pub fn item_type(
+    alloc: Global,
+    items: &[Item],
+    rest: Option<&TExpr>,
+) -> Result<Option<Ty>, AllocError>
+    // It is the type of the elements.
+    ensures found { IfOk result (λ t. IfSome t (λ t. Joins (item_types items.now rest.entry) (view_ty t))) }
+    // Where there is none, they have no type.
+    ensures none { IfOk result (λ t. IfNone t ((u : types.Ty) → Joins (item_types items.now rest.entry) u → ⊥)) }
+{
+    joined_items(alloc, items, rest)
 }

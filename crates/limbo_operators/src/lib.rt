@@ -19,8 +19,8 @@ mod standing;
 
 pub use form::of_kind;
 pub use format::{FormatPart, Verb, fit, parts_of};
-pub use joining::element_type;
+pub use joining::{element_type, item_type};
 pub use laws::{one_format, one_row, one_type, pieces_ask, rows_give, settled_values};
 pub use rows::{OneRow, Row, binary_row, bytes_row, lazy_row, unary_row, update_row};
-pub use signs::{Binary, altering, binary_of, converting, updating};
+pub use signs::{Binary, altering, before_of, binary_of, converting, updating};
 pub use standing::settle;

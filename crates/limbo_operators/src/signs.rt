@@ -3,7 +3,7 @@
 ghost use Rattle.std.specs.Prelude.{◌≡◌};
 ghost use Rattle.limbo_operators.specs.Rows as rows;
 
-use limbo_tree::{AssignOp, BinaryOp, UnaryOp};
+use limbo_tree::{AssignOp, BinaryOp, PostfixOp, UnaryOp};
 use limbo_typed::Connective;
 use limbo_values::{Comparison, Kind, Operator, Shift, Unary};
 
@@ -70,7 +70,7 @@ pub fn updating(op: AssignOp) -> Option<Binary>
     }
 }
 
-/// The operators on one number. `++` and `--` stand before a place there, and behind one they are `limbo_tree`'s `PostfixOp`.
+/// The operators on one number. `++` and `--` stand before a place there.
 #[tactic(auto, using(crate::proofs::Others::not_altering))]
 pub fn altering(op: UnaryOp) -> Option<Unary>
     ensures { result ≡ rows.altering op }
@@ -95,5 +95,15 @@ pub fn converting(op: UnaryOp) -> Option<Kind>
         UnaryOp::Int => Some(Kind::Int),
         UnaryOp::Big => Some(Kind::Big),
         _ => None,
+    }
+}
+
+/// The operator before a place that changes it as this one behind it does.
+pub fn before_of(op: PostfixOp) -> UnaryOp
+    ensures { result ≡ rows.before_of op }
+{
+    match op {
+        PostfixOp::Increment => UnaryOp::Increment,
+        PostfixOp::Decrement => UnaryOp::Decrement,
     }
 }
