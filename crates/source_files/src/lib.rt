@@ -1,0 +1,17 @@
+//! Reads the texts that a source includes, from a tree of files (Limbo Language Reference, include).
+//!
+//! `tree_at` gives the tree of the text that stands at a path: of a built-in text, `sys.m` or `draw.m`, under its name, which is
+//! never read from the files, and else of the file. `specs/Files.antt` says what stands at a path, `specs/Texts.antt` when its
+//! bytes are an included text, and why they are none. The command stands on it.
+//!
+//! Read `built_in`, `text`, `fault`, `opening`, `tree`.
+#![tactic(auto)]
+
+mod built_in;
+mod fault;
+mod opening;
+mod text;
+mod tree;
+
+pub use fault::FilesFault;
+pub use tree::tree_at;
