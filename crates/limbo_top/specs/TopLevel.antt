@@ -23,6 +23,16 @@ pub record IsTopLevel (implements : List ℕ) (tops : List Placed) (rows : List 
 abbrev pub HasNoModule : (implements : List ℕ) → List Placed → Type 0
 HasNoModule implements tops = (path : List ℕ) (members : Members) → DeclaresModule (declared tops) implements path members → ⊥
 
--- Whatever the module of the name is, a name is declared twice.
-abbrev pub DeclaresTwice : (implements : List ℕ) → List Placed → Type 0
-DeclaresTwice implements tops = (rows : List Row) → IsTopLevel implements tops rows → ⊥
+-- A name is declared twice: among the declarations; among the members of the implemented module; or where these and the functions that
+-- declare themselves stand together.
+pub data DeclaresTwice (implements : List ℕ) (tops : List Placed) : Type 0 where
+  in_source : (AreOnce (row_names (declared tops)) → ⊥) → DeclaresTwice implements tops
+  in_module : (path : List ℕ) (members : Members) → DeclaresModule (declared tops) implements path members
+      → (AreOnce (row_names (rows_of_members path members)) → ⊥) → DeclaresTwice implements tops
+  at_top : (path : List ℕ) (members : Members) (alone : List Row) → DeclaresModule (declared tops) implements path members
+      → Alone (rows_of_members path members) (definitions tops) alone
+      → (AreOnce (row_names (declared tops ++ rows_of_members path members ++ alone)) → ⊥) → DeclaresTwice implements tops
+
+-- There are no such names.
+abbrev pub HasNoTopLevel : (implements : List ℕ) → List Placed → Type 0
+HasNoTopLevel implements tops = (rows : List Row) → IsTopLevel implements tops rows → ⊥

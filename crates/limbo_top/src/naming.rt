@@ -5,7 +5,7 @@ ghost use Rattle.std.specs.Borrow.{Bor};
 ghost use Rattle.inf_text.specs.declared.span.Span.{Span};
 ghost use Rattle.limbo_declarations.specs.Names.{names, AreOnce};
 ghost use Rattle.limbo_declarations.specs.View.{rows_of};
-ghost use Rattle.limbo_top.specs.TopLevel.{IsTopLevel, HasNoModule, DeclaresTwice};
+ghost use Rattle.limbo_top.specs.TopLevel.{IsTopLevel, HasNoModule, HasNoTopLevel, DeclaresTwice};
 ghost use Rattle.limbo_top.specs.View.{placed};
 ghost use Rattle.limbo_top.specs.declared.fault.TopFault.TheVariants.{Twice, Unknown};
 
@@ -63,8 +63,8 @@ fn joined<'a>(
 /// The names of the top level of a source that implements the module of this name.
 ///
 /// # Errors
-/// Want of memory. `Unknown` exactly where the source declares no such module at its top level; `Twice` only where one of the names
-/// is declared twice.
+/// Want of memory. `Unknown` exactly where the source declares no such module at its top level. `Twice` only where a name is declared
+/// twice, so that there is no top level.
 pub fn top_level<'a>(
     alloc: Global,
     implements: &Text,
@@ -73,6 +73,7 @@ pub fn top_level<'a>(
     ensures top_level { IfOk result (λ n. IsTopLevel implements.now (placed tops.now) (rows_of n.rows.items)) }
     ensures unknown { IfErr result (λ e. e ≡ Unknown → HasNoModule implements.now (placed tops.now)) }
     ensures twice { IfErr result (λ e. (p : Bor (List ℕ)) (at : Span) → e ≡ Twice p at → DeclaresTwice implements.now (placed tops.now)) }
+    ensures none { IfErr result (λ e. (p : Bor (List ℕ)) (at : Span) → e ≡ Twice p at → HasNoTopLevel implements.now (placed tops.now)) }
 {
     let rows = declared(alloc, tops)?;
     let outer = scope_of(alloc, rows)?;

@@ -10,7 +10,7 @@ use Rattle.limbo_declarations.specs.Names.{names, AreOnce}
 use Rattle.limbo_declarations.specs.Rows.{Row, rows_of_members}
 use Rattle.limbo_declarations.specs.View.{rows_of, view_row}
 use Rattle.limbo_top.specs.Tops.{Placed, Definition, declared, definitions, DeclaresModule, Alone}
-use Rattle.limbo_top.specs.TopLevel.{row_names, IsTopLevel, DeclaresTwice}
+use Rattle.limbo_top.specs.TopLevel.{row_names, IsTopLevel, HasNoTopLevel, DeclaresTwice, in_source, in_module, at_top}
 use Rattle.limbo_top.specs.View.{placed, definitions_of}
 use Rattle.limbo_top.specs.declared.fault.TopFault.TheVariants.{Twice}
 use Rattle.limbo_top.proofs.TopLevels.{names_view, declared_once, members_once, all_once}
@@ -26,10 +26,10 @@ rows_of-parts ds ms zs = map-append view_row (ds ++ ms) zs ∙ ap (λ rs. rs ++ 
 once_in : (rs : List code_row.Row) (qs : List Row) → rows_of rs ≡ qs → AreOnce (row_names qs) → AreOnce (names rs)
 once_in rs qs e h = subst (λ (ns : List (List ℕ)). AreOnce ns) (sym (names_view rs ∙ ap row_names e)) h
 
-pub returns-in_err-outer-clause-twice : goal.returns-in_err-outer-clause-twice
-returns-in_err-outer-clause-twice c =
+pub returns-in_err-outer-clause-none : goal.returns-in_err-outer-clause-none
+returns-in_err-outer-clause-none c =
     let tops = placed c.args.tops.now in
-    let k : (p : Bor (List ℕ)) (at : Span) → c.in_err-outer.field-0.0 ≡ Twice p at → DeclaresTwice c.args.implements.now tops =
+    let k : (p : Bor (List ℕ)) (at : Span) → c.in_err-outer.field-0.0 ≡ Twice p at → HasNoTopLevel c.args.implements.now tops =
     λ p at e rows top. c.in_err-outer.ensures.twice p at e (once_in c.in_ok-rows.rows.items (declared tops) c.in_ok-rows.ensures (declared_once c.args.implements.now tops rows top)) in
     let p = err_from_is_err_and c.from_residual-in_err-outer.result c.from_residual-in_err-outer.ensures.1 in
     rw (p.1, p.2) k
@@ -40,14 +40,14 @@ returns-in-None-clause-unknown c =
     let d : rows_of c.in_ok-outer.outer.rows.items ≡ declared (placed c.args.tops.now) = ap (λ v. rows_of v.items) c.in_ok-outer.ensures.rows ∙ c.in_ok-rows.ensures in
     c.in-None.ensures.none path ms (subst (λ (rs : List Row). DeclaresModule rs c.args.implements.now path ms) (sym d) h)
 
-pub returns-in_err-inner-clause-twice : goal.returns-in_err-inner-clause-twice
-returns-in_err-inner-clause-twice c =
+pub returns-in_err-inner-clause-none : goal.returns-in_err-inner-clause-none
+returns-in_err-inner-clause-none c =
     let tops = placed c.args.tops.now in
     let d : rows_of c.in_ok-outer.outer.rows.items ≡ declared tops = ap (λ v. rows_of v.items) c.in_ok-outer.ensures.rows ∙ c.in_ok-rows.ensures in
     let ms : Members = view_members c.in-Some.module.1.now in
     let m : DeclaresModule (declared tops) c.args.implements.now c.in-Some.module.0.now ms =
     subst (λ (rs : List Row). DeclaresModule rs c.args.implements.now c.in-Some.module.0.now ms) d c.in-Some.ensures.some in
-    let k : (p : Bor (List ℕ)) (at : Span) → c.in_err-inner.field-0.0 ≡ Twice p at → DeclaresTwice c.args.implements.now tops =
+    let k : (p : Bor (List ℕ)) (at : Span) → c.in_err-inner.field-0.0 ≡ Twice p at → HasNoTopLevel c.args.implements.now tops =
     λ p at e rows top. c.in_err-inner.ensures.twice p at e
     (once_in c.in_ok-listed.listed.items (rows_of_members c.in-Some.module.0.now ms) c.in_ok-listed.ensures (members_once c.args.implements.now tops rows top c.in-Some.module.0.now ms m)) in
     let p = err_from_is_err_and c.from_residual-in_err-inner.result c.from_residual-in_err-inner.ensures.1 in
@@ -97,8 +97,8 @@ returns-clause-top_level c =
     })
     c.scope_of-3.ensures.rows c.scope_of-3.ensures.once
 
-pub returns-clause-twice : goal.returns-clause-twice
-returns-clause-twice c =
+pub returns-clause-none : goal.returns-clause-none
+returns-clause-none c =
     let tops = placed c.args.tops.now in
     let path = c.in-Some.module.0.now in
     let ms : Members = view_members c.in-Some.module.1.now in
@@ -116,4 +116,45 @@ returns-clause-twice c =
     (λ e k p at s rows top. k p at s
     (once_in c.in_ok-all.all.items (declared tops ++ rows_of_members path ms ++ rows_of c.in_ok-alone.alone.items) r
     (all_once c.args.implements.now tops rows top path ms (rows_of c.in_ok-alone.alone.items) is a)))
+    c.scope_of-3.ensures.twice
+
+pub returns-in_err-outer-clause-twice : goal.returns-in_err-outer-clause-twice
+returns-in_err-outer-clause-twice c =
+    let tops = placed c.args.tops.now in
+    let k : (p : Bor (List ℕ)) (at : Span) → c.in_err-outer.field-0.0 ≡ Twice p at → DeclaresTwice c.args.implements.now tops =
+    λ p at e. in_source (λ o. c.in_err-outer.ensures.twice p at e (once_in c.in_ok-rows.rows.items (declared tops) c.in_ok-rows.ensures o)) in
+    let p = err_from_is_err_and c.from_residual-in_err-outer.result c.from_residual-in_err-outer.ensures.1 in
+    rw (p.1, p.2) k
+
+pub returns-in_err-inner-clause-twice : goal.returns-in_err-inner-clause-twice
+returns-in_err-inner-clause-twice c =
+    let tops = placed c.args.tops.now in
+    let path = c.in-Some.module.0.now in
+    let ms : Members = view_members c.in-Some.module.1.now in
+    let d : rows_of c.in_ok-outer.outer.rows.items ≡ declared tops = ap (λ v. rows_of v.items) c.in_ok-outer.ensures.rows ∙ c.in_ok-rows.ensures in
+    let m : DeclaresModule (declared tops) c.args.implements.now path ms =
+    subst (λ (rs : List Row). DeclaresModule rs c.args.implements.now path ms) d c.in-Some.ensures.some in
+    let k : (p : Bor (List ℕ)) (at : Span) → c.in_err-inner.field-0.0 ≡ Twice p at → DeclaresTwice c.args.implements.now tops =
+    λ p at e. in_module path ms m (λ o. c.in_err-inner.ensures.twice p at e (once_in c.in_ok-listed.listed.items (rows_of_members path ms) c.in_ok-listed.ensures o)) in
+    let p = err_from_is_err_and c.from_residual-in_err-inner.result c.from_residual-in_err-inner.ensures.1 in
+    rw (p.1, p.2) k
+
+pub returns-clause-twice : goal.returns-clause-twice
+returns-clause-twice c =
+    let tops = placed c.args.tops.now in
+    let path = c.in-Some.module.0.now in
+    let ms : Members = view_members c.in-Some.module.1.now in
+    let d : rows_of c.in_ok-outer.outer.rows.items ≡ declared tops = ap (λ v. rows_of v.items) c.in_ok-outer.ensures.rows ∙ c.in_ok-rows.ensures in
+    let m : rows_of c.in_ok-inner.inner.rows.items ≡ rows_of_members path ms = ap (λ v. rows_of v.items) c.in_ok-inner.ensures.rows ∙ c.in_ok-listed.ensures in
+    let is : DeclaresModule (declared tops) c.args.implements.now path ms =
+    subst (λ (rs : List Row). DeclaresModule rs c.args.implements.now path ms) d c.in-Some.ensures.some in
+    let f : definitions_of c.deref.result.now ≡ definitions tops = ap definitions_of c.deref.ensures.value ∙ c.in_ok-definitions.ensures in
+    let a : Alone (rows_of_members path ms) (definitions tops) (rows_of c.in_ok-alone.alone.items) =
+    alone_are (rows_of c.in_ok-inner.inner.rows.items) (definitions_of c.deref.result.now) (definitions tops) (rows_of c.in_ok-alone.alone.items) (rows_of c.in_ok-alone.alone.items)
+    c.in_ok-alone.ensures (rows_of_members path ms) m f refl in
+    let j : c.in_ok-all.all.items ≡ c.in_ok-outer.outer.rows.items ++ c.in_ok-inner.inner.rows.items ++ c.in_ok-alone.alone.items = search rules in
+    let r = parts_are c.in_ok-all.all.items c.in_ok-outer.outer.rows.items c.in_ok-inner.inner.rows.items c.in_ok-alone.alone.items (declared tops) (rows_of_members path ms) j d m in
+    IfErr-weaker c.scope_of-3.result _ _
+    (λ e k p at s. at_top path ms (rows_of c.in_ok-alone.alone.items) is a
+    (λ o. k p at s (once_in c.in_ok-all.all.items (declared tops ++ rows_of_members path ms ++ rows_of c.in_ok-alone.alone.items) r o)))
     c.scope_of-3.ensures.twice
