@@ -1,0 +1,5 @@
+pub mod Lists
+pub mod Tables
+pub mod Repeated
+pub mod Indexed
+pub mod Seeking

@@ -1,0 +1,4 @@
+pub mod Entries
+pub mod View
+pub mod Growing
+pub mod Laws
