@@ -25,6 +25,12 @@ pub record IsRepeated (all : List (List ℕ)) (k : ℕ) : Type 0 where
   pub there : IsAt all k name
   pub and_there : IsAt all before name
 
+-- This row declares a name that a row before it declares.
+pub record IsAgain (rows : List code_row.Row) (r : code_row.Row) : Type 0 where
+  pub place : ℕ
+  pub there : slice_get rows place ≡ Some r
+  pub repeated : IsRepeated (names rows) place
+
 -- The map finds each name where it stands, and no other.
 abbrev pub IsIndex : BTreeMap (List ℕ) ℕ → List (List ℕ) → Type 0
 IsIndex index all = (name : List ℕ) (k : ℕ) → (get_by (slice_cmp nat_cmp name) index ≡ Some k) ↔ IsAt all k name

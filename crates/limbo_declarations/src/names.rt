@@ -5,7 +5,7 @@ ghost use Rattle.limbo_declarations.specs.View.{rows_of, view_row};
 ghost use Rattle.std.specs.Ordering.{nat_cmp};
 ghost use Rattle.std.specs.Cmp.Lexicographic.{slice_cmp};
 ghost use Rattle.std.specs.BTreeMap.{get_by};
-ghost use Rattle.limbo_declarations.specs.Names.{names, IsAt, AreOnce, IsRepeated, IsIndex};
+ghost use Rattle.limbo_declarations.specs.Names.{names, IsAt, AreOnce, IsRepeated, IsAgain, IsIndex};
 ghost use Rattle.limbo_declarations.specs.declared.row.Row as code_row;
 ghost use Rattle.limbo_declarations.specs.declared.names.NamesFault.TheVariants.{Twice};
 ghost use Rattle.limbo_declarations.specs.declared.names.RowsFault.TheVariants as rows_fault;
@@ -124,6 +124,7 @@ impl<'a> Names<'a> {
         ensures once { IfOk result (λ _. AreOnce (names rows.entry.items)) }
         ensures stands { IfErr result (λ e. (r : code_row.Row) → e ≡ rows_fault.Twice r → Contains rows.entry.items r) }
         ensures twice { IfErr result (λ e. (r : code_row.Row) → e ≡ rows_fault.Twice r → AreOnce (names rows.entry.items) → ⊥) }
+        ensures again { IfErr result (λ e. (r : code_row.Row) → e ≡ rows_fault.Twice r → IsAgain rows.entry.items r) }
     {
         let texts = texts(alloc, &rows)?;
         match index(alloc, &texts) {
