@@ -7,17 +7,19 @@ use Rattle.std.proofs.lemmas.List.{length-map}
 use Rattle.limbo_declarations.specs.declared.row.Row as code_row
 use Rattle.limbo_declarations.specs.Rows.{Row}
 use Rattle.limbo_declarations.specs.Names.{names, IsAt}
+use Rattle.limbo_declarations.specs.Names as declared
 use Rattle.limbo_declarations.specs.View.{rows_of, view_row}
 use Rattle.limbo_declarations.proofs.Indexes.{once}
 use Rattle.limbo_entries.specs.declared.scope.Scope as code_scope
 use Rattle.limbo_entries.specs.declared.entry.Entry as code_entry
 use Rattle.limbo_entries.specs.declared.table.Table as code_table
-use Rattle.limbo_entries.specs.Entries.{Entry, IsEntry, IsMember, IsTable, AreOnce, inside, IsTwiceIn, HasTwice}
+use Rattle.limbo_entries.specs.Entries.{Entry, IsEntry, IsMember, IsTable, AreOnce, inside, IsTwiceIn, HasTwice, IsAgain}
 use Rattle.limbo_entries.specs.Entries as told
 use Rattle.limbo_entries.specs.Growing.{IsScope, AreScopes, LeadsOutwards, IsTableTo, IsGrown}
 use Rattle.limbo_entries.specs.View.{view_entry, entries_of, placed, key, keys}
 use Rattle.limbo_entries.proofs.Lists.{at_left, at_right, at_cases, single, mapped, from_mapped, place_at}
-use Rattle.limbo_entries.proofs.Tables.{stand, start, more, whole, within_less, is_among}
+use Rattle.limbo_entries.proofs.Tables.{stand, start, more, whole, within_less, is_among, is_there}
+use Rattle.limbo_entries.proofs.Repeated.{not_twice}
 
 abbrev pub Keys : Type 0
 Keys = List (Option ℕ × List ℕ)
@@ -136,6 +138,9 @@ one_place all number s name j k i h g =
     let b = i.none_before name k g in
     omega arith
 
+each_once : (s : code_scope.Scope) → declared.AreOnce (names s.names.rows.items)
+each_once s = once s.names.index (names s.names.rows.items) s.names.found
+
 -- ---- tables that grow
 
 scopes_more :
@@ -160,11 +165,38 @@ scopes_more all scopes n s are many first below j x h = elim (at_cases scopes (s
       (subst (λ (z : code_scope.Scope). IsScope (all ++ behind (Some n) s) (Some n) z) e.1 i)
 ]
 
+rows_more :
+    (es added : List code_entry.Entry) (scopes : List code_scope.Scope) (n : ℕ) (e : code_entry.Entry) (s : code_scope.Scope)
+    → ((j : ℕ) (o : code_entry.Entry) (q : code_scope.Scope) → slice_get es j ≡ Some o → slice_get scopes j ≡ Some q
+    → rows_of q.names.rows.items ≡ inside (view_row o.row))
+    → length scopes ≡ n → slice_get es n ≡ Some e → rows_of s.names.rows.items ≡ inside (view_row e.row)
+    → (j : ℕ) (o : code_entry.Entry) (q : code_scope.Scope) → slice_get (es ++ added) j ≡ Some o → slice_get (scopes ++ s ∷ []) j ≡ Some q
+    → rows_of q.names.rows.items ≡ inside (view_row o.row)
+rows_more es added scopes n e s before many there same j o q h i = elim (at_cases scopes (s ∷ []) j q i) [
+  | inl f ↦ elim (at_cases es added j o h) [
+    | inl g ↦ before j o q g f
+    | inr g ↦
+        absurd
+        (let a = slice_get_within scopes j q f in
+        let b = slice_get_within es n e there in
+        let l = g.1 in
+        omega arith)
+  ]
+  | inr f ↦
+      let p = single s f.0 q f.2 in
+      let m : n ≡ j = let a = f.1 in let b = p.0 in omega arith in
+      let g : slice_get (es ++ added) j ≡ Some e = at_left es added j e (subst (λ (z : ℕ). slice_get es z ≡ Some e) m there) in
+      let t : e ≡ o = same_Some e o (sym g ∙ h) in
+      ap (λ (z : code_scope.Scope). rows_of z.names.rows.items) (sym p.1) ∙ same ∙ ap (λ (z : code_entry.Entry). inside (view_row z.row)) t
+]
+
 -- the first step: the scope of the top level
 pub begun :
     (rows : List code_row.Row) (s : code_scope.Scope) → s.first ≡ 0 → s.names.rows.items ≡ rows
     → IsGrown (rows_of rows) (map (placed None) rows) s [] 0
 begun rows s first same = record {
+  top_rows = ap rows_of same;
+  inner_rows = λ j e s a h. absurd (none-some s h);
   is_table = subst (λ (z : List Entry). IsTableTo (rows_of rows) z 0) (sym (entries_placed None rows)) (start (rows_of rows));
   at_top = subst (λ (z : Keys). IsScope z None s) (sym all_are) (comes [] None s first (λ k name h. none_some h));
   are_scopes = λ j x h. absurd (none-some x h);
@@ -195,6 +227,9 @@ grown top es outermost scopes n e s rows g there inner first same = record {
       (λ k name h. let f = (named_in (Some n) None (names_in s) k name h).0 in absurd (none-some n (sym f))) g.at_top);
   are_scopes = subst (λ (z : Keys). AreScopes z (scopes ++ s ∷ [])) (sym keys_are)
       (scopes_more (keys es) scopes n s g.are_scopes g.as_many (first ∙ sym (length-map es key)) g.none_further);
+  top_rows = g.top_rows;
+  inner_rows =
+      rows_more es (map (placed (Some n)) rows) scopes n e s g.inner_rows g.as_many there (ap rows_of same ∙ inner);
   as_many = length_more;
   none_further = λ j k name h.
       let i = subst (λ (z : Keys). slice_get z k ≡ Some (Some j, name)) keys_are h in
@@ -259,14 +294,16 @@ leads_outwards top es outermost scopes n g j k name h =
     let m = member_of es (Some j) name k h in
     within_less top (entries_of es) k m.entry (g.is_table.only k m.entry m.there) j m.stands
 
--- a name that stands twice inside a declaration of the table
-pub twice_inside :
+-- a name that stands again inside a declaration of the table
+pub again_inside :
     (top : List Row) (es : List code_entry.Entry) (outermost : code_scope.Scope) (scopes : List code_scope.Scope) (n k : ℕ)
-    (e : code_entry.Entry) (rows : List Row)
-    → IsGrown top es outermost scopes n → slice_get es k ≡ Some e → rows ≡ inside (view_row e.row) → IsTwiceIn rows → HasTwice top
-twice_inside top es outermost scopes n k e rows g h s t =
+    (e : code_entry.Entry) (rows : List Row) (r : Row)
+    → IsGrown top es outermost scopes n → slice_get es k ≡ Some e → rows ≡ inside (view_row e.row)
+    → (twice : IsTwiceIn rows) × (twice.other ≡ r) → IsAgain top r
+again_inside top es outermost scopes n k e rows r g h s t =
     let a = is_among top (entries_of es) g.is_table.only k (view_entry e) (mapped view_entry es k e h) in
-    told.inner (view_row e.row) a (subst (λ (z : List Row). IsTwiceIn z) s t)
+    let u = subst (λ (z : List Row). (twice : IsTwiceIn z) × (twice.other ≡ r)) s t in
+    told.inner (view_row e.row) a u.0 u.1
 
 -- the table after its first scope, by what has been there
 pub begun_at :
@@ -283,3 +320,18 @@ pub table_of :
 table_of top es outermost scopes g =
     let m : length (entries_of es) ≡ length es = length-map es view_entry in
     whole top (entries_of es) (length es) g.is_table (omega arith)
+
+-- no scope has a name twice
+pub none_twice :
+    (top : List Row) (es : List code_entry.Entry) (outermost : code_scope.Scope) (scopes : List code_scope.Scope)
+    → IsGrown top es outermost scopes (length es) → HasTwice top → ⊥
+none_twice top es outermost scopes g (told.outermost t) =
+    not_twice outermost.names.rows.items (each_once outermost) (subst (λ (z : List Row). IsTwiceIn z) (sym g.top_rows) t)
+none_twice top es outermost scopes g (told.inner r a t) =
+    let f = is_there top (entries_of es) r (table_of top es outermost scopes g) a in
+    let q = from_mapped view_entry es f.0 f.1 f.2 in
+    let b = slice_get_within es f.0 q.0 q.1 in
+    let p = place_at scopes f.0 (let m = g.as_many in omega arith) in
+    let e : rows_of p.0.names.rows.items ≡ inside r =
+    g.inner_rows f.0 q.0 p.0 q.1 p.1 ∙ ap (λ (z : Entry). inside z.row) q.2 ∙ ap inside f.3 in
+    not_twice p.0.names.rows.items (each_once p.0) (subst (λ (z : List Row). IsTwiceIn z) (sym e) t)

@@ -80,3 +80,8 @@ pub data IsAmong (top : List Row) : Row → Type 0 where
 pub data HasTwice (top : List Row) : Type 0 where
   outermost : IsTwiceIn top → HasTwice top
   inner : (r : Row) → IsAmong top r → IsTwiceIn (inside r) → HasTwice top
+
+-- This row has the name again, behind another of the scope.
+pub data IsAgain (top : List Row) (r : Row) : Type 0 where
+  outermost : (twice : IsTwiceIn top) → twice.other ≡ r → IsAgain top r
+  inner : (o : Row) → IsAmong top o → (twice : IsTwiceIn (inside o)) → twice.other ≡ r → IsAgain top r

@@ -3,6 +3,7 @@ use Rattle.std.specs.Prelude.{◌≡◌, ◌+◌, ◌-◌, ◌<◌, ◌≤◌, �
 use Rattle.std.specs.List.{Contains}
 use Rattle.limbo_declarations.specs.Names.{names, IsAt}
 use Rattle.limbo_declarations.specs.Rows.{Row}
+use Rattle.limbo_declarations.specs.View.{rows_of, view_row}
 use Rattle.limbo_entries.specs.declared.scope.Scope as code_scope
 use Rattle.limbo_entries.specs.declared.entry.Entry as code_entry
 use Rattle.limbo_entries.specs.Entries.{Entry, IsEntry, Stands, inside}
@@ -36,6 +37,9 @@ pub record IsGrown (top : List Row) (es : List code_entry.Entry) (outermost : co
     : Type 0 where
   pub is_table : IsTableTo top (entries_of es) many
   pub at_top : IsScope (keys es) None outermost
+  pub top_rows : rows_of outermost.names.rows.items ≡ top
   pub are_scopes : AreScopes (keys es) scopes
+  pub inner_rows : (j : ℕ) (e : code_entry.Entry) (s : code_scope.Scope) → slice_get es j ≡ Some e → slice_get scopes j ≡ Some s
+      → rows_of s.names.rows.items ≡ inside (view_row e.row)
   pub as_many : length scopes ≡ many
   pub none_further : (j k : ℕ) (name : List ℕ) → slice_get (keys es) k ≡ Some (Some j, name) → j < many

@@ -5,7 +5,7 @@ ghost use Rattle.limbo_declarations.specs.View.{rows_of, view_row};
 ghost use Rattle.limbo_declarations.specs.Rows as told;
 ghost use Rattle.limbo_declarations.specs.declared.row.Row as code_row;
 ghost use Rattle.limbo_declarations.specs.declared.names.RowsFault.TheVariants as rows_fault;
-ghost use Rattle.limbo_entries.specs.Entries.{IsTwiceIn, HasTwice, inside};
+ghost use Rattle.limbo_entries.specs.Entries.{IsTwiceIn, IsAgain, inside};
 ghost use Rattle.limbo_entries.specs.Growing.{IsGrown};
 ghost use Rattle.limbo_entries.specs.View.{placed};
 ghost use Rattle.limbo_entries.specs.declared.scope.Scope as code_scope;
@@ -52,7 +52,7 @@ fn push_scope<'a>(scopes: &mut Vec<Scope<'a>>, scope: Scope<'a>) -> Result<(), A
 /// Adds the declarations of a scope, and says which they are.
 ///
 /// # Errors
-/// Want of memory. `Twice` only where two of the rows declare one name.
+/// Want of memory. `Twice` only where two of the rows declare one name: the second of them.
 pub fn push_rows<'a>(
     alloc: Global,
     entries: &mut Vec<Entry<'a>>,
@@ -62,7 +62,8 @@ pub fn push_rows<'a>(
     ensures entries { IfOk result (λ _. entries.new.items ≡ entries.old.items ++ map (placed within) rows.entry.items) }
     ensures first { IfOk result (λ s. s.first ≡ length entries.old.items) }
     ensures rows { IfOk result (λ s. s.names.rows ≡ rows.entry) }
-    ensures twice { IfErr result (λ e. (r : code_row.Row) → e ≡ rows_fault.Twice r → IsTwiceIn (rows_of rows.entry.items)) }
+    ensures again { IfErr result (λ e. (r : code_row.Row) → e ≡ rows_fault.Twice r
+        → (twice : IsTwiceIn (rows_of rows.entry.items)) × (twice.other ≡ view_row r)) }
 {
     let first = entries.len();
     match Names::new(alloc, rows) {
@@ -86,8 +87,8 @@ fn push_inside<'a>(
         → IsGrown top entries.old.items outermost scopes.old.items number
         → IsGrown top entries.new.items outermost scopes.new.items (number + 1)) }
     ensures more { IfOk result (λ _. length entries.old.items ≤ length entries.new.items) }
-    ensures twice { IfErr result (λ e. (r : code_row.Row) → e ≡ rows_fault.Twice r → (top : List told.Row) (outermost : code_scope.Scope)
-        → IsGrown top entries.old.items outermost scopes.old.items number → HasTwice top) }
+    ensures again { IfErr result (λ e. (r : code_row.Row) → e ≡ rows_fault.Twice r → (top : List told.Row) (outermost : code_scope.Scope)
+        → IsGrown top entries.old.items outermost scopes.old.items number → IsAgain top (view_row r)) }
 {
     let rows = rows_inside(alloc, entries[number as usize].row)?;
     match push_rows(alloc, entries, Some(number), rows) {
@@ -102,7 +103,7 @@ fn push_inside<'a>(
 /// Adds what stands inside the declarations of the top level, and inside what is added, and so on; the scopes are those of all.
 ///
 /// # Errors
-/// Want of memory, and of numbers. `Twice` only where a scope has a name twice.
+/// Want of memory, and of numbers. `Twice` only where a scope has a name twice: the second row of the name.
 pub fn fill<'a>(
     alloc: Global,
     entries: &mut Vec<Entry<'a>>,
@@ -111,8 +112,8 @@ pub fn fill<'a>(
         → IsGrown top entries.old.items outermost [] 0
         → IsGrown top entries.new.items outermost scopes.items (length entries.new.items)) }
     ensures small { IfOk result (λ _. length entries.new.items < 2 ^ 32) }
-    ensures twice { IfErr result (λ e. (r : code_row.Row) → e ≡ rows_fault.Twice r → (top : List told.Row) (outermost : code_scope.Scope)
-        → IsGrown top entries.old.items outermost [] 0 → HasTwice top) }
+    ensures again { IfErr result (λ e. (r : code_row.Row) → e ≡ rows_fault.Twice r → (top : List told.Row) (outermost : code_scope.Scope)
+        → IsGrown top entries.old.items outermost [] 0 → IsAgain top (view_row r)) }
 {
     let mut scopes = Vec::new(alloc);
     for number in 0..u32::MAX {

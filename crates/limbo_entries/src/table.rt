@@ -1,10 +1,10 @@
 //! The table.
 
 ghost use Rattle.std.specs.Prelude.{◌≡◌, ◌+◌, ◌<◌, ◌^◌, ℕ, None, length, List, IfOk, IfErr, IfSome, IfNone};
-ghost use Rattle.limbo_declarations.specs.View.{rows_of};
+ghost use Rattle.limbo_declarations.specs.View.{rows_of, view_row};
 ghost use Rattle.limbo_declarations.specs.declared.row.Row as code_row;
 ghost use Rattle.limbo_declarations.specs.declared.names.RowsFault.TheVariants as rows_fault;
-ghost use Rattle.limbo_entries.specs.Entries.{IsTable, IsEntry, AreOnce, IsMember, HasNone, Finds, HasTwice};
+ghost use Rattle.limbo_entries.specs.Entries.{IsTable, IsEntry, AreOnce, IsMember, HasNone, Finds, HasTwice, IsAgain};
 ghost use Rattle.limbo_entries.specs.Growing.{IsScope, AreScopes, LeadsOutwards};
 ghost use Rattle.limbo_entries.specs.View.{view_entry, entries_of, keys};
 
@@ -35,11 +35,14 @@ impl<'a> Table<'a> {
     /// The table of a top level that has these rows.
     ///
     /// # Errors
-    /// Want of memory, also where there are more declarations than numbers. `Twice` only where a scope has a name twice.
+    /// Want of memory, also where there are more declarations than numbers. `Twice` only where a scope has a name twice: the second row
+    /// of the name. Where a scope has, there is no table.
     pub fn new(alloc: Global, rows: Vec<Row<'a>>) -> Result<Table<'a>, RowsFault<'a>>
         ensures table { IfOk result (λ t. IsTable (rows_of rows.entry.items) (entries_of t.entries.items)) }
         ensures once { IfOk result (λ t. AreOnce (entries_of t.entries.items)) }
+        ensures none_twice { IfOk result (λ _. HasTwice (rows_of rows.entry.items) → ⊥) }
         ensures twice { IfErr result (λ e. (r : code_row.Row) → e ≡ rows_fault.Twice r → HasTwice (rows_of rows.entry.items)) }
+        ensures again { IfErr result (λ e. (r : code_row.Row) → e ≡ rows_fault.Twice r → IsAgain (rows_of rows.entry.items) (view_row r)) }
     {
         let mut entries = Vec::new(alloc);
         let outermost = push_rows(alloc, &mut entries, None, rows)?;

@@ -4,7 +4,8 @@ use Rattle.limbo_declarations.specs.Rows.{Row}
 use Rattle.limbo_declarations.specs.declared.row.Row as code_row
 use Rattle.limbo_declarations.specs.declared.names.RowsFault.TheVariants.{Twice}
 use Rattle.limbo_entries.specs.declared.scope.Scope as code_scope
-use Rattle.limbo_entries.specs.Entries.{HasTwice}
+use Rattle.limbo_entries.specs.Entries.{IsAgain}
+use Rattle.limbo_declarations.specs.View.{view_row}
 use Rattle.limbo_entries.specs.Growing.{IsGrown}
 use Rattle.limbo_entries.proofs.filling.fill.Goals as goal
 
@@ -15,11 +16,11 @@ returns-then-number-len-clause-grown c =
     subst (λ (z : ℕ). IsGrown top c.loop-number.entries.items outermost c.loop-number.scopes.items z) e
     (c.loop-number.invariant.grown top outermost g)
 
-pub returns-in_err-push_inside-clause-twice : goal.returns-in_err-push_inside-clause-twice
-returns-in_err-push_inside-clause-twice c =
+pub returns-in_err-push_inside-clause-again : goal.returns-in_err-push_inside-clause-again
+returns-in_err-push_inside-clause-again c =
     let k : (r : code_row.Row) → c.in_err-push_inside.field-0.0 ≡ Twice r → (top : List Row) (outermost : code_scope.Scope)
-    → IsGrown top c.args.entries.now.items outermost [] 0 → HasTwice top =
-    λ r e top outermost g. c.in_err-push_inside.ensures.twice r e top outermost (c.loop-number.invariant.grown top outermost g) in
+    → IsGrown top c.args.entries.now.items outermost [] 0 → IsAgain top (view_row r) =
+    λ r e top outermost g. c.in_err-push_inside.ensures.again r e top outermost (c.loop-number.invariant.grown top outermost g) in
     let p = err_from_is_err_and c.from_residual.result c.from_residual.ensures.1 in
     rw (p.1, p.2) k
 

@@ -1,5 +1,5 @@
-use Rattle.limbo_entries.proofs.Repeated.{twice}
+use Rattle.limbo_entries.proofs.Repeated.{again_in}
 use Rattle.limbo_entries.proofs.filling.push_rows.Goals as goal
 
-pub returns-in-Err-clause-twice : goal.returns-in-Err-clause-twice
-returns-in-Err-clause-twice c = λ r e. twice c.args.rows.items (c.in-Err.ensures.twice r e)
+pub returns-in-Err-clause-again : goal.returns-in-Err-clause-again
+returns-in-Err-clause-again c = λ r e. again_in c.args.rows.items r (c.in-Err.ensures.again r e)
