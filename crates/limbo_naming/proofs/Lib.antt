@@ -1,0 +1,12 @@
+pub mod Places
+pub mod Parts
+pub mod Unique
+pub mod Circles
+pub mod Saying
+pub mod Trying
+pub mod Types
+pub mod Exprs
+pub mod Lists
+pub mod Searching
+pub mod Stepping
+pub mod Telling

@@ -1,0 +1,9 @@
+pub mod Qualified
+pub mod Naming
+pub mod Depth
+pub mod View
+pub mod Search
+pub mod Seeing
+pub mod Steps
+pub mod Told
+pub mod Laws

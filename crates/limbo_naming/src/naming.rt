@@ -1,0 +1,118 @@
+//! What names name, for those who ask.
+
+ghost use Rattle.std.specs.Prelude.{◌≡◌, ◌<◌, ℕ, List, Option, None, Some, length, IfOk, IfSome, IfNone};
+ghost use Rattle.limbo_tree.specs.View.{view_qual, view_expr};
+ghost use Rattle.limbo_entries.specs.Entries.{Entry, AreOnce};
+ghost use Rattle.limbo_entries.specs.View.{entries_of};
+ghost use Rattle.limbo_naming.specs.Qualified.{Qualified, of_type, of_expr};
+ghost use Rattle.limbo_naming.specs.Naming.{Leads};
+ghost use Rattle.limbo_naming.specs.Search.{AreKnown, AreDone, Says};
+ghost use Rattle.limbo_naming.specs.Told.{Tells, TellsOf, Knows, IsNaming};
+ghost use Rattle.limbo_naming.specs.declared.state.State.{State};
+
+use crate::search::search;
+use crate::sight::Sight;
+use crate::state::{Found, State};
+use limbo_entries::Table;
+use limbo_tree::{Expr, Qual};
+use std::alloc::{AllocError, Global};
+
+/// What a name names.
+#[derive(Clone, Copy)]
+pub enum Named {
+    /// The declaration of this number.
+    Found(u32),
+    /// The name isn't there: refusal 42 where a type is named.
+    Unknown,
+    /// What stands before it has no members or parts, or names go in a circle.
+    Nothing,
+}
+
+/// What the names of a source name: a table of its declarations, and what each of them leads to.
+#[derive(Drop)]
+pub struct Naming<'t, 'a> {
+    table: &'t Table<'a>,
+    implemented: u32,
+    states: Vec<State>,
+}
+
+// What was found, where nothing is left to be found out.
+fn told(found: Found) -> Named
+    ensures { (es : List Entry) (m : ℕ) (states : List State) (scope : Option ℕ) (q : Qualified) → AreKnown es m states → AreDone states
+        → Says es m states scope q found → Tells es m scope q result }
+{
+    match found {
+        Found::Named(found) => Named::Found(found),
+        Found::Unknown => Named::Unknown,
+        _ => Named::Nothing,
+    }
+}
+
+impl<'t, 'a> Naming<'t, 'a> {
+    /// What the names of these declarations name, if the implemented module has this number.
+    ///
+    /// # Errors
+    /// Want of memory.
+    pub fn new(
+        alloc: Global,
+        table: &'t Table<'a>,
+        implemented: u32,
+    ) -> Result<Naming<'t, 'a>, AllocError>
+        requires once { AreOnce (entries_of table.now.entries.items) }
+        ensures names { IfOk result (λ n. IsNaming table.now implemented n) }
+    {
+        let states = search(alloc, table, implemented)?;
+        Ok(Naming {
+            table,
+            implemented,
+            states,
+        })
+    }
+
+    // What is seen from here.
+    fn sight(&self) -> Sight<'_, 'a>
+        ensures table { result.table ≡ self.now.table }
+        ensures implemented { result.implemented ≡ self.now.implemented }
+        ensures states { result.states.now ≡ self.now.states.items }
+    {
+        Sight {
+            table: self.table,
+            implemented: self.implemented,
+            states: &self.states,
+        }
+    }
+
+    /// What the name of a type names in a scope.
+    pub fn type_named(&self, scope: Option<u32>, name: &Qual) -> Named
+        requires names { Knows self.now }
+        ensures named { TellsOf self.now scope (of_type (view_qual name.now)) result }
+    {
+        told(self.sight().qual(scope, name))
+    }
+
+    /// What an expression that is a name names in a scope; none where it is no name.
+    pub fn expr_named(&self, scope: Option<u32>, e: &Expr) -> Option<Named>
+        requires names { Knows self.now }
+        ensures named { IfSome result (λ n. (q : Qualified) × (of_expr (view_expr e.now) ≡ Some q) × TellsOf self.now scope q n) }
+        ensures no_name { IfNone result (of_expr (view_expr e.now) ≡ None) }
+    {
+        match self.sight().expr(scope, e) {
+            None => None,
+            Some(found) => Some(told(found)),
+        }
+    }
+
+    /// What a declaration leads to: itself, or what it stands for; none where names go in a circle or aren't there.
+    pub fn lead(&self, number: u32) -> Option<u32>
+        requires names { Knows self.now }
+        requires there { number < length self.now.table.now.entries.items }
+        ensures leads { IfSome result (λ r. Leads (entries_of self.now.table.now.entries.items) self.now.implemented number r) }
+        ensures nowhere { IfNone result ((r : ℕ) → Leads (entries_of self.now.table.now.entries.items) self.now.implemented number r → ⊥) }
+    {
+        match self.states[number as usize] {
+            State::Done(found) => found,
+            State::NotYet => None,
+            State::Entered => None,
+        }
+    }
+}
