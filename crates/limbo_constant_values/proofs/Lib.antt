@@ -1,0 +1,9 @@
+pub mod Meanings
+pub mod Rounds
+pub mod Sames
+pub mod Answering
+pub mod Needing
+pub mod Valuing
+pub mod Filling
+pub mod Nils
+pub mod Starting

@@ -1,0 +1,6 @@
+pub mod Values
+pub mod Needs
+pub mod Answers
+pub mod Asking
+pub mod Valuing
+pub mod Laws
