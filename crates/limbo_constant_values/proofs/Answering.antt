@@ -1,5 +1,5 @@
 -- What names in an expression mean by the values that are known.
-use Rattle.std.proofs.Common.{◌≡◌, ◌<◌, ◌⊎◌, inl, inr, ℕ, List, [], ◌∷◌, ◌++◌, Bool, true, false, if◌then◌else◌, Option, None, Some, length, option_copied, refl, sym, ap, subst, ◌∙◌, arith}
+use Rattle.std.proofs.Common.{◌≡◌, inl, inr, ℕ, List, [], ◌∷◌, ◌++◌, Bool, true, false, if◌then◌else◌, Option, None, Some, option_copied, refl, sym, ap, subst, ◌∙◌, arith}
 use Rattle.std.specs.Option.{IfSome, IfNone, is_some}
 use Rattle.std.specs.Borrow.{Bor}
 use Rattle.std.specs.List.{Contains}
@@ -8,7 +8,7 @@ use Rattle.limbo_tree.specs.Exprs as tree
 use Rattle.limbo_tree.specs.Exprs.{Expr}
 use Rattle.limbo_constants.specs.declared.constant.Constant as constant
 use Rattle.limbo_entries.specs.Entries.{Entry, AreOnce, Finds}
-use Rattle.limbo_naming.specs.Qualified.{Qualified, Simple, Member, Part, of_expr}
+use Rattle.limbo_naming.specs.Qualified.{Qualified, Simple, of_expr}
 use Rattle.limbo_naming.specs.Naming as naming
 use Rattle.limbo_naming.specs.Naming.{Names, Lacks}
 use Rattle.limbo_naming.proofs.Unique.{one_named, lacks_none}

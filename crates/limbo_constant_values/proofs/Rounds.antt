@@ -1,7 +1,6 @@
 -- A constant that needs itself has no value.
-use Rattle.std.proofs.Common.{◌≡◌, ◌⊎◌, inl, inr, ℕ, List, Option, None, Some, refl, sym, ap, subst, ◌∙◌}
+use Rattle.std.proofs.Common.{◌≡◌, ◌⊎◌, inl, inr, ℕ, List, Option, Some, refl, sym, ap, subst, ◌∙◌}
 use Rattle.std.specs.List.{Contains}
-use Rattle.limbo_tree.specs.Exprs as tree
 use Rattle.limbo_tree.specs.Exprs.{Expr}
 use Rattle.limbo_constants.specs.declared.constant.Constant as constant
 use Rattle.limbo_constants.specs.Asked.{asked}

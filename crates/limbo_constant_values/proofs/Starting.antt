@@ -1,5 +1,5 @@
 -- Initial values.
-use Rattle.std.proofs.Common.{◌≡◌, ◌<◌, ◌⊎◌, inl, inr, ℕ, List, length, Option, None, Some, sym, ap, subst, ◌∙◌}
+use Rattle.std.proofs.Common.{◌≡◌, ◌<◌, inr, ℕ, length, None, Some, sym, ap, subst, ◌∙◌}
 use Rattle.std.proofs.lemmas.Option.{slice_get_within}
 use Rattle.limbo_tree.specs.Exprs as tree
 use Rattle.limbo_tree.specs.Exprs.{Expr}

@@ -1,5 +1,5 @@
 -- Values that are found from those that are known.
-use Rattle.std.proofs.Common.{◌≡◌, ◌<◌, ◌⊎◌, inl, inr, ℕ, List, Option, None, Some, option_map, option_copied, slice_get, slice_set, get_or, length, refl, sym, ap, subst, ◌∙◌, arith}
+use Rattle.std.proofs.Common.{◌≡◌, ◌<◌, ◌⊎◌, inl, inr, ℕ, List, Option, None, Some, option_map, option_copied, slice_set, get_or, length, refl, sym, ap, subst, ◌∙◌, arith}
 use Rattle.std.specs.Prelude.{All}
 use Rattle.std.specs.List.{Contains}
 use Rattle.std.proofs.lemmas.List.{length-set}
@@ -7,7 +7,6 @@ use Rattle.std.proofs.lemmas.List.Elements.{Contains-get_or}
 use Rattle.limbo_tree.specs.Exprs as tree
 use Rattle.limbo_tree.specs.Exprs.{Expr}
 use Rattle.limbo_constants.specs.declared.constant.Constant as constant
-use Rattle.limbo_constants.specs.Constants.{constant_in}
 use Rattle.limbo_constants.specs.Asked.{asked}
 use Rattle.limbo_declarations.specs.Rows as told
 use Rattle.limbo_entries.specs.Entries.{Entry, IsEntry, Finds}
@@ -18,12 +17,11 @@ use Rattle.limbo_naming.specs.Naming.{Names}
 use Rattle.limbo_naming.specs.Told.{Knows}
 use Rattle.limbo_naming.proofs.Lists.{set_there, set_other, set_cases}
 use Rattle.limbo_constant_values.specs.Values.{HasValue, value, Comes, comes, IsMeant, named, counted, counted_value, iota_name, IsNotConstant, no_value}
-use Rattle.limbo_constant_values.specs.Needs.{NeedsValue}
-use Rattle.limbo_constant_values.specs.Answers.{Pair, IsKnown, IsAnswer, of_name, of_counter, answer_in}
+use Rattle.limbo_constant_values.specs.Answers.{IsKnown, IsAnswer, of_name, of_counter, answer_in}
 use Rattle.limbo_constant_values.specs.Asking.{Evaluates}
-use Rattle.limbo_constant_values.specs.Valuing.{Values, AreSound, AreReady, IsDone, Sets}
+use Rattle.limbo_constant_values.specs.Valuing.{Values, AreSound, AreReady, Sets}
 use Rattle.limbo_constant_values.specs.declared.meaning.Place.{Place}
-use Rattle.limbo_constant_values.proofs.Meanings.{found_mean, same_constant, meanings, coming, one_value, one_meaning, same_entry}
+use Rattle.limbo_constant_values.proofs.Meanings.{found_mean, same_constant, meanings, coming, one_value, one_meaning}
 use Rattle.limbo_constant_values.proofs.Answering.{found_there}
 
 counter_is : (iota : Option ℕ) (c : constant.Constant) → option_map counted_value iota ≡ Some c → (i : ℕ) × (iota ≡ Some i) × (counted_value i ≡ c)

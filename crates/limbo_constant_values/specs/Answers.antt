@@ -6,7 +6,6 @@ use Rattle.limbo_tree.specs.Exprs as tree
 use Rattle.limbo_tree.specs.Exprs.{Expr}
 use Rattle.limbo_tree.specs.Parts.{name_in, arrow_in, dot_in}
 use Rattle.limbo_tree.specs.View.{view_expr}
-use Rattle.limbo_constants.specs.Asked.{asked}
 use Rattle.limbo_constants.specs.declared.constant.Constant as constant
 use Rattle.limbo_entries.specs.Entries.{Entry, Finds}
 use Rattle.limbo_naming.specs.Qualified.{Qualified, of_expr}
@@ -49,16 +48,16 @@ abbrev pub IsKnown : List (Option constant.Constant) → ℕ → constant.Consta
 IsKnown values r c = slice_get values r ≡ Some (Some c)
 
 -- By the value of what it names; or by what `iota` counts, where no declaration has that name.
-pub data IsAnswer (es : List Entry) (m : ℕ) (scope : Option ℕ) (counter : Option constant.Constant) (values : List (Option constant.Constant))
-    : Expr → constant.Constant → Type 0 where
-  of_name : (part : Expr) (q : Qualified) (r : ℕ) (c : constant.Constant) → of_expr part ≡ Some q → Names es m scope q r → IsKnown values r c
-      → IsAnswer es m scope counter values part c
+pub data IsAnswer (es : List Entry) (m : ℕ) (scope : Option ℕ) (counter : Option constant.Constant)
+    (values : List (Option constant.Constant)) : Expr → constant.Constant → Type 0 where
+  of_name : (part : Expr) (q : Qualified) (r : ℕ) (c : constant.Constant) → of_expr part ≡ Some q → Names es m scope q r
+      → IsKnown values r c → IsAnswer es m scope counter values part c
   of_counter : (c : constant.Constant) → counter ≡ Some c → ((k : ℕ) → Finds es m iota_name scope k → ⊥)
       → IsAnswer es m scope counter values (tree.Name iota_name) c
 
 -- The list has what each of some parts means, and nothing else.
-pub record AreAnswers (es : List Entry) (m : ℕ) (scope : Option ℕ) (counter : Option constant.Constant) (values : List (Option constant.Constant))
-    (parts : List Expr) (answers : List Pair) : Type 0 where
+pub record AreAnswers (es : List Entry) (m : ℕ) (scope : Option ℕ) (counter : Option constant.Constant)
+    (values : List (Option constant.Constant)) (parts : List Expr) (answers : List Pair) : Type 0 where
   pub sound : (x : Pair) → Contains answers x → IsAnswer es m scope counter values x.0 x.1
   pub complete : (part : Expr) (c : constant.Constant) → Contains parts part → IsAnswer es m scope counter values part c
       → (d : constant.Constant) × (answer_in answers part ≡ Some d)

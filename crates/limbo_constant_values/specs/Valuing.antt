@@ -20,7 +20,8 @@ AreSound n values = (r : ℕ) (c : constant.Constant) → IsKnown values r c →
 
 -- What has a value is known.
 abbrev pub AreComplete : Naming → Values → Type 0
-AreComplete n values = (r : ℕ) (c : constant.Constant) → HasValue (entries_of n.table.now.entries.items) n.implemented r c → IsKnown values r c
+AreComplete n values =
+    (r : ℕ) (c : constant.Constant) → HasValue (entries_of n.table.now.entries.items) n.implemented r c → IsKnown values r c
 
 -- An initial value is `nil` or constant.
 abbrev pub IsInitial : Naming → (k : ℕ) → Type 0

@@ -92,7 +92,8 @@ pub fn check_initial(
     requires naming { IsNaming table.now implemented naming.now }
     requires values { AreValues (entries_of table.now.entries.items) implemented values.now }
     ensures initial { OnOk result (AllInitial (entries_of table.now.entries.items) implemented) }
-    ensures not_constant { IfErr result (λ e. (n : ℕ) → e ≡ NotConstant n → IsNotConstant (entries_of table.now.entries.items) implemented n) }
+    ensures not_constant { IfErr result (λ e. (n : ℕ) → e ≡ NotConstant n
+        → IsNotConstant (entries_of table.now.entries.items) implemented n) }
 {
     for number in 0..table.entries.len() as u32 {
         match check_one(alloc, table, naming, number, values) {

@@ -19,4 +19,4 @@ mod values;
 pub use fault::ValuesFault;
 pub use initial::check_initial;
 pub use laws::one_value;
-pub use values::values;
+pub use values::evaluate_all;

@@ -49,7 +49,8 @@ fn value_at(values: &[Option<Constant>], number: u32) -> Option<&Constant>
 // What `iota` counts, where an expression is that name.
 fn iota_value<'c>(counter: Option<&'c Constant>, e: &Expr) -> Option<&'c Constant>
     ensures some { IfSome result (λ c. (view_expr e.now ≡ tree.Name iota_name) × (option_copied counter.entry ≡ Some c.now)) }
-    ensures none { IfNone result ((c : constant.Constant) → view_expr e.now ≡ tree.Name iota_name → option_copied counter.entry ≡ Some c → ⊥) }
+    ensures none { IfNone result ((c : constant.Constant) → view_expr e.now ≡ tree.Name iota_name
+        → option_copied counter.entry ≡ Some c → ⊥) }
 {
     match name_in(e) {
         None => None,

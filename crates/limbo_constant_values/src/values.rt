@@ -104,7 +104,7 @@ fn none_known(alloc: Global, count: usize) -> Result<Vec<Option<Constant>>, Allo
 ///
 /// # Errors
 /// Want of memory. `NotConstant` exactly where a constant has no value, as it isn't constant, would raise an exception, or needs itself.
-pub fn values(
+pub fn evaluate_all(
     alloc: Global,
     table: &Table,
     naming: &Naming,
@@ -112,7 +112,8 @@ pub fn values(
 ) -> Result<Vec<Option<Constant>>, ValuesFault>
     requires naming { IsNaming table.now implemented naming.now }
     ensures values { IfOk result (λ values. AreValues (entries_of table.now.entries.items) implemented values.items) }
-    ensures not_constant { IfErr result (λ e. (n : ℕ) → e ≡ NotConstant n → IsNotConstant (entries_of table.now.entries.items) implemented n) }
+    ensures not_constant { IfErr result (λ e. (n : ℕ) → e ≡ NotConstant n
+        → IsNotConstant (entries_of table.now.entries.items) implemented n) }
 {
     let needs = all_needs(alloc, table, naming)?;
     let order = match order(alloc, &needs) {

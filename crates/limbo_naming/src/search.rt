@@ -95,7 +95,8 @@ fn advance(
     requires once { AreOnce (entries_of table.now.entries.items) }
     requires some { 0 < length path.old.items }
     requires search { IsSearch (entries_of table.now.entries.items) implemented states.old.items path.old.items }
-    ensures { OnOk result (Advances (entries_of table.now.entries.items) implemented states.old.items path.old.items states.new.items path.new.items) }
+    ensures { OnOk result (Advances (entries_of table.now.entries.items) implemented states.old.items path.old.items
+        states.new.items path.new.items) }
 {
     let top = path[path.len() - 1];
     let found = look(table, implemented, states, top);

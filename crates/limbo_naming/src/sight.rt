@@ -95,7 +95,8 @@ impl<'s, 'a> Sight<'s, 'a> {
     // What a member of a declaration that is named names.
     fn member_from(&self, outer: u32, name: &Text) -> Found
         requires sight { Sees self.now }
-        ensures { (scope : Option ℕ) (q : Qualified) → SaysIn self.now scope q (Named outer) → SaysIn self.now scope (Member q name.now) result }
+        ensures { (scope : Option ℕ) (q : Qualified) → SaysIn self.now scope q (Named outer)
+            → SaysIn self.now scope (Member q name.now) result }
     {
         if outer as usize >= self.table.entries.len() {
             return Found::Nothing;
@@ -113,7 +114,8 @@ impl<'s, 'a> Sight<'s, 'a> {
     // What a part of a declaration that is named names.
     fn part_from(&self, outer: u32, name: &Text) -> Found
         requires sight { Sees self.now }
-        ensures { (scope : Option ℕ) (q : Qualified) → SaysIn self.now scope q (Named outer) → SaysIn self.now scope (Part q name.now) result }
+        ensures { (scope : Option ℕ) (q : Qualified) → SaysIn self.now scope q (Named outer)
+            → SaysIn self.now scope (Part q name.now) result }
     {
         if outer as usize >= self.table.entries.len() {
             return Found::Nothing;

@@ -1,4 +1,4 @@
-use Rattle.std.proofs.Common.{◌≡◌, ◌<◌, ℕ, length, sym, arith}
+use Rattle.std.proofs.Common.{arith}
 use Rattle.limbo_constant_values.proofs.Filling.{as_many_here, told_bad}
 use Rattle.limbo_constant_values.proofs.Starting.{told_initial}
 use Rattle.limbo_constant_values.proofs.initial.check_initial.Goals as goal

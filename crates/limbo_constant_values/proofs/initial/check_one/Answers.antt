@@ -1,4 +1,4 @@
-use Rattle.std.proofs.Common.{◌≡◌, ℕ, Some, None, refl, subst}
+use Rattle.std.proofs.Common.{◌≡◌, ℕ, None, refl, subst}
 use Rattle.limbo_tree.specs.View.{view_expr}
 use Rattle.limbo_entries.specs.View.{entries_of, view_entry}
 use Rattle.limbo_constant_values.specs.Values.{IsNotConstant}

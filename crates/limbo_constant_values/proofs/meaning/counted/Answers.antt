@@ -1,4 +1,4 @@
-use Rattle.std.proofs.Common.{◌≡◌, ◌%◌, ◌/◌, ℕ, ℤ, pos, ap, ◌∙◌, w32, w64, to_z, arith}
+use Rattle.std.proofs.Common.{◌≡◌, ◌%◌, ◌/◌, ℕ, pos, ap, ◌∙◌, w32, w64, arith}
 use Rattle.std.proofs.lemmas.Int.{to_z-of_z, to_z_pos}
 use Rattle.std.proofs.lemmas.Nat.{div-add-mod'}
 use Rattle.limbo_values.specs.declared.number.Kind.TheVariants.{Int}

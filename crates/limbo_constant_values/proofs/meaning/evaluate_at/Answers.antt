@@ -1,4 +1,4 @@
-use Rattle.std.proofs.Common.{◌≡◌, sym, ap, subst, ◌∙◌}
+use Rattle.std.proofs.Common.{sym}
 use Rattle.std.proofs.lemmas.Result.{IfOk-weaker}
 use Rattle.limbo_constant_values.specs.Answers.{answers_of}
 use Rattle.limbo_constant_values.proofs.meaning.evaluate_at.Goals as goal

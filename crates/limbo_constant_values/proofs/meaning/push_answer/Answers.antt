@@ -1,4 +1,4 @@
-use Rattle.std.proofs.Common.{◌≡◌, option_copied, sym, ap, ◌∙◌}
+use Rattle.std.proofs.Common.{option_copied, ap, ◌∙◌}
 use Rattle.limbo_tree.specs.View.{view_expr}
 use Rattle.limbo_entries.specs.View.{entries_of}
 use Rattle.limbo_constant_values.specs.Answers.{answers_of, answer_in}

@@ -1,4 +1,4 @@
-use Rattle.std.proofs.Common.{◌≡◌, ◌∷◌, [], ℕ, subst, sym, arith}
+use Rattle.std.proofs.Common.{ℕ, subst, sym, arith}
 use Rattle.std.proofs.lemmas.List.{length-append}
 use Rattle.limbo_constant_values.specs.Asking.{AreNeedsOf}
 use Rattle.limbo_constant_values.proofs.Needing.{each_pushed}

@@ -1,4 +1,4 @@
-use Rattle.std.proofs.Common.{◌≡◌, ◌<◌, ℕ, Some, None, List, Option, length, sym, ap, ◌∙◌, subst, arith}
+use Rattle.std.proofs.Common.{◌≡◌, ℕ, Some, ap, subst, arith}
 use Rattle.limbo_tree.specs.View.{view_expr}
 use Rattle.limbo_entries.specs.View.{entries_of, view_entry}
 use Rattle.limbo_entries.specs.declared.table.Table.{Table}

@@ -1,16 +1,10 @@
-use Rattle.std.proofs.Common.{◌≡◌, ◌<◌, ℕ, List, Some, Vec, Global, length, slice_get, sym, ap, ◌∙◌, subst, arith}
-use Rattle.limbo_entries.specs.Entries.{Entry}
+use Rattle.std.proofs.Common.{◌≡◌, ℕ, subst, arith}
 use Rattle.limbo_entries.specs.View.{entries_of}
-use Rattle.limbo_entries.specs.declared.table.Table.{Table}
 use Rattle.limbo_order.specs.Order.{NeedsWithin}
 use Rattle.limbo_order.specs.View.{rows}
-use Rattle.limbo_naming.proofs.Places.{as_many}
 use Rattle.limbo_constant_values.specs.Values.{IsNotConstant}
-use Rattle.limbo_constant_values.specs.Asking.{AreNeedsOf}
-use Rattle.limbo_constant_values.specs.Valuing.{AreValues}
-use Rattle.limbo_constant_values.proofs.Needing.{rows_many}
 use Rattle.limbo_constant_values.proofs.Filling.{needs_only, circle, in_table, behind, are_values, as_many_rows, as_many_here, told_bad, told_values}
-use Rattle.limbo_constant_values.proofs.values.values.Goals as goal
+use Rattle.limbo_constant_values.proofs.values.evaluate_all.Goals as goal
 
 pub order-requires-clause-there : goal.order-requires-clause-there
 order-requires-clause-there c =
