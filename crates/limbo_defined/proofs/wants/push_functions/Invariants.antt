@@ -1,0 +1,11 @@
+use Rattle.std.proofs.Common.{◌≡◌, ◌++◌, drop}
+use Rattle.std.specs.Prelude.{option_copied}
+use Rattle.limbo_declarations.specs.View.{rows_of}
+use Rattle.limbo_defined.specs.Wanted.{functions_in}
+use Rattle.limbo_defined.specs.View.{wanted_of}
+use Rattle.limbo_defined.proofs.wants.push_functions.Given as goal
+
+abbrev pub invariant-loop-row : goal.invariant-loop-row
+invariant-loop-row l =
+    wanted_of l.all.items ++ functions_in (option_copied l.adt) (rows_of (drop l.row-index l.rows))
+    ≡ wanted_of l.fn.all.items ++ functions_in (option_copied l.adt) (rows_of l.rows)
