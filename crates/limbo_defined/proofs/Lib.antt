@@ -5,3 +5,5 @@ pub mod Walks
 pub mod Adts
 pub mod Declaring
 pub mod Checking
+pub mod Wanting
+pub mod Placing

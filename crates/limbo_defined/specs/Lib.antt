@@ -4,3 +4,4 @@ pub mod Wanted
 pub mod View
 pub mod Refusals
 pub mod Sets
+pub mod Places

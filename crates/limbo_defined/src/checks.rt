@@ -3,7 +3,7 @@
 ghost use Rattle.std.specs.Prelude.{◌≡◌, ℕ, List, None, Some, true, false, IfOk, IfErr, OnOk, IfSome, IfNone};
 ghost use Rattle.std.specs.List.{Contains};
 ghost use Rattle.limbo_tree.specs.View.{name_of};
-ghost use Rattle.limbo_declarations.specs.Rows as kinds;
+ghost use Rattle.limbo_declarations.specs.declared.row.Row as code_row;
 ghost use Rattle.limbo_declarations.specs.View.{rows_of};
 ghost use Rattle.limbo_top.specs.declared.tops.Definition as code_definition;
 ghost use Rattle.limbo_top.specs.View.{view_definition, definitions_of};
@@ -32,7 +32,7 @@ fn defined_set<'a>(
 ) -> Result<BTreeMap<Text, usize>, DefinedFault<'a>>
     ensures set { IfOk result (λ set. IsSetOf set (told.labels (definitions_of definitions.now))) }
     ensures once { OnOk result (AreDefinedOnce (definitions_of definitions.now)) }
-    ensures refused { IfErr result (λ e. (members rows : List kinds.Row) → IsRefused members rows definitions.now e) }
+    ensures refused { IfErr result (λ e. (members rows : List code_row.Row) → IsRefused members rows definitions.now e) }
 {
     let labels = labels_of(alloc, definitions)?;
     match index(alloc, &labels) {
@@ -54,7 +54,7 @@ fn undefined<'a>(
     set: &BTreeMap<Text, usize>,
     wanted: &[Wanted<'a>],
 ) -> Result<Option<Wanted<'a>>, AllocError>
-    ensures some { IfOk result (λ o. IfSome o (λ w. Contains (wanted_of wanted.now) (view_wanted w)
+    ensures some { IfOk result (λ o. IfSome o (λ w. Contains wanted.now w
         × (get_label set.now (told.label (view_wanted w).name (view_wanted w).part) ≡ None))) }
     ensures none { IfOk result (λ o. IfNone o ((w : wants.Wanted) → Contains (wanted_of wanted.now) w
         → get_label set.now (told.label w.name w.part) ≡ None → ⊥)) }
@@ -120,7 +120,7 @@ pub fn all_defined<'a>(
         (definitions_of definitions.now)) }
     ensures known { OnOk result (AllKnown (rows_of members.now.rows.items) (rows_of rows.now.rows.items)
         (definitions_of definitions.now)) }
-    ensures refused { IfErr result (λ e. IsRefused (rows_of members.now.rows.items) (rows_of rows.now.rows.items) definitions.now e) }
+    ensures refused { IfErr result (λ e. IsRefused members.now.rows.items rows.now.rows.items definitions.now e) }
 {
     let defined = defined_set(alloc, definitions)?;
     if let Some((path, name)) = nested(&rows.rows) {

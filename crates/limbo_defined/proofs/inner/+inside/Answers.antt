@@ -1,8 +1,11 @@
-use Rattle.std.proofs.Common.{ℕ, List, [], ◌+◌, map, inl, inr, sym, subst, arith}
+use Rattle.std.proofs.Common.{ℕ, List, [], ◌+◌, map, inl, inr, ap, sym, subst, ◌∙◌, arith}
 use Rattle.std.proofs.lemmas.Option.{IfSome_then}
 use Rattle.limbo_tree.specs.View.{view_member, view_fn, members_of}
 use Rattle.limbo_declarations.specs.Rows.{Row, rows_of_member}
+use Rattle.limbo_includes.proofs.Lists.{contains_at}
 use Rattle.limbo_defined.specs.Defined.{Holds}
+use Rattle.limbo_defined.specs.Places.{own_names}
+use Rattle.limbo_defined.proofs.Placing.{own_inside, adt_inside, inside_among}
 use Rattle.limbo_defined.proofs.Holding.{none_then, none_plain, holds_left, holds_right, holds_cases, holds_nothing, adt_holds, adt_held}
 use Rattle.limbo_defined.proofs.Walks.{function_rows, adt_rows, var_plain, type_plain, con_plain, next_rows, no_rows, rows_from}
 use Rattle.limbo_defined.proofs.inner.+inside.Goals as goal
@@ -68,3 +71,20 @@ function_in-returns-clause-none t c =
     λ path name h.
     let e = no_rows path c.loop-m.m-index c.args.members.now (omega arith) in
     holds_nothing name [] (subst (λ (z : List Row). Holds name z) e (c.loop-m.invariant.down path name h)) none_plain
+
+pub function_in_member-returns-in-Function-clause-placed : goal.function_in_member-returns-in-Function-clause-placed
+function_in_member-returns-in-Function-clause-placed t c =
+    let a = c.in-Function in
+    let e = ap own_names a.is ∙ sym c.deref.ensures.value in
+    IfSome_then c.first.result c.first.ensures.among (λ n h. own_inside c.args.m.now c.deref.result.now n.now e h)
+
+pub function_in_member-returns-in-Adt-clause-placed : goal.function_in_member-returns-in-Adt-clause-placed
+function_in_member-returns-in-Adt-clause-placed t c =
+    let a = c.in-Adt in
+    IfSome_then c.function_in.result c.function_in.ensures.placed
+    (λ n h. adt_inside c.args.m.now a.name a.members a.pick a.span a.is n.now c.deref-in-Adt.result.now c.deref-in-Adt.ensures.value h)
+
+pub function_in-returns-in-Some-clause-placed : goal.function_in-returns-in-Some-clause-placed
+function_in-returns-in-Some-clause-placed t c =
+    inside_among c.in-Some.name.now c.m-item.result c.args.members.now
+    (contains_at c.args.members.now c.loop-m.m-index c.m-item.result (omega arith) c.m-item.is) c.in-Some.ensures.placed

@@ -3,6 +3,8 @@ use Rattle.limbo_tree.specs.View.{view_member}
 use Rattle.limbo_declarations.specs.Rows.{Row, rows_of_member}
 use Rattle.limbo_defined.specs.Defined.{HasInner}
 use Rattle.limbo_defined.proofs.Holding.{none_plain, no_adt, inner_left, inner_right, inner_cases}
+use Rattle.limbo_includes.proofs.Lists.{contains_at}
+use Rattle.limbo_defined.proofs.Placing.{inner_among}
 use Rattle.limbo_defined.proofs.Walks.{next_rows, no_rows, rows_from}
 use Rattle.limbo_defined.proofs.inner.inner_function.Goals as goal
 
@@ -33,3 +35,8 @@ returns-clause-none c =
     let e = no_rows path c.loop-m.m-index c.args.members.now (omega arith) in
     let i = subst (λ (z : List Row). HasInner z path name) e (c.loop-m.invariant.down path name h) in
     no_adt [] path i.adt i.members none_plain i.has_adt
+
+pub returns-in-Some-clause-placed : goal.returns-in-Some-clause-placed
+returns-in-Some-clause-placed c =
+    inner_among c.in-Some.name.now c.m-item.result c.args.members.now
+    (contains_at c.args.members.now c.loop-m.m-index c.m-item.result (omega arith) c.m-item.is) c.in-Some.ensures.placed

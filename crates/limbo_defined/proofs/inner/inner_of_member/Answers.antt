@@ -4,6 +4,7 @@ use Rattle.limbo_tree.specs.View.{view_member, view_fn, members_of, names_of}
 use Rattle.limbo_declarations.specs.Rows.{Row}
 use Rattle.limbo_defined.specs.Defined.{HasInner}
 use Rattle.limbo_defined.proofs.Holding.{none_then, no_adt, each_no_adt, adt_inner, inner_adt}
+use Rattle.limbo_defined.proofs.Placing as placed
 use Rattle.limbo_defined.proofs.Walks.{function_rows, adt_rows, var_plain, type_plain, con_plain}
 use Rattle.limbo_defined.proofs.inner.inner_of_member.Goals as goal
 
@@ -37,3 +38,9 @@ returns-in-Con-clause-none c = let a = c.in-Con in λ path name h. no_adt _ path
 
 pub returns-in-Type-clause-none : goal.returns-in-Type-clause-none
 returns-in-Type-clause-none c = let a = c.in-Type in λ path name h. no_adt _ path h.adt h.members (type_plain c.args.m.now a.names a.of a.span a.is path) h.has_adt
+
+pub returns-in-Adt-clause-placed : goal.returns-in-Adt-clause-placed
+returns-in-Adt-clause-placed c =
+    let a = c.in-Adt in
+    IfSome_then c.function_in.result c.function_in.ensures.placed
+    (λ n h. placed.adt_inner c.args.m.now a.name a.members a.pick a.span a.is n.now c.deref.result.now c.deref.ensures.value h)

@@ -2,6 +2,8 @@ use Rattle.std.proofs.Common.{◌≡◌, ◌+◌, List, [], ◌∷◌, drop, inl
 use Rattle.limbo_declarations.specs.Rows.{Row}
 use Rattle.limbo_declarations.specs.View.{rows_of, view_row}
 use Rattle.limbo_declarations.proofs.Apart.{drop_more}
+use Rattle.limbo_includes.proofs.Lists.{contains_at}
+use Rattle.limbo_defined.proofs.Placing.{nested_among}
 use Rattle.limbo_top.proofs.Ends.{drop_all}
 use Rattle.limbo_defined.specs.Defined.{IsNested}
 use Rattle.limbo_defined.proofs.Holding.{none_plain, no_adt, nested_left, nested_right, nested_cases}
@@ -35,3 +37,9 @@ returns-clause-none c =
     let e = ap rows_of (drop_all c.loop-row.row-index c.args.rows.now (omega arith)) in
     let i = subst (λ (z : List Row). IsNested z path name) e (c.loop-row.invariant.down path name h) in
     no_adt [] path i.adt i.members none_plain i.has_adt
+
+pub returns-in-Some-clause-placed : goal.returns-in-Some-clause-placed
+returns-in-Some-clause-placed c =
+    let row = c.row-item.result in
+    nested_among c.in-Some.name.now row.path row c.args.rows.now
+    (contains_at c.args.rows.now c.loop-row.row-index row (omega arith) c.row-item.is) c.in-Some.ensures.placed
