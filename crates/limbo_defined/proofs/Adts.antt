@@ -29,13 +29,17 @@ is_adt (code.Case x) ms pick e = absurd cc
 
 -- the row of an adt
 pub row_is :
-    (r : code_row.Row) (ms : Bor (List code_member.Member)) (pick : Option (Bor (List code_variant.Variant))) → r.declared ≡ code.Adt ms pick
-    → view_row r ∷ [] ≡ adt_row r.path.now r.name.now.text (members_of (map view_member ms.now)) (option_map (λ vs. map view_variant vs.now) pick)
+    (r : code_row.Row) (ms : Bor (List code_member.Member)) (pick : Option (Bor (List code_variant.Variant)))
+    → r.declared ≡ code.Adt ms pick
+    → view_row r ∷ [] ≡ adt_row r.path.now r.name.now.text (members_of (map view_member ms.now))
+    (option_map (λ vs. map view_variant vs.now) pick)
 unfolding view_members
-row_is r ms pick e = ap (λ (d : Declared). let x : Row = record { path = r.path.now; name = r.name.now.text; means = view_declared d } in x ∷ []) e
+row_is r ms pick e = ap (λ (d : Declared). let x : Row = record { path = r.path.now; name = r.name.now.text; means = view_declared d } in
+    x ∷ []) e
 
 pub no_nested :
-    (r : code_row.Row) → ((x : Bor (List code_member.Member)) (p : Option (Bor (List code_variant.Variant))) → r.declared ≡ code.Adt x p → ⊥)
+    (r : code_row.Row) → ((x : Bor (List code_member.Member)) (p : Option (Bor (List code_variant.Variant))) → r.declared ≡ code.Adt x p
+    → ⊥)
     → (path name : List ℕ) → IsNested (view_row r ∷ []) path name → ⊥
 no_nested r f path name h =
     let y : Row = record { path = path; name = h.adt; means = Adt h.members h.has_adt.pick } in

@@ -1,5 +1,6 @@
 -- What the labels of definitions and of declarations say of them.
-use Rattle.std.proofs.Common.{◌≡◌, ◌<◌, ◌≤◌, ◌+◌, ℕ, zero, suc, true, ◌⊎◌, inl, inr, List, [], ◌∷◌, length, map, take, get_or, Option, None, Some, refl, sym, ap, subst, ◌∙◌, arith}
+use Rattle.std.proofs.Common.{◌≡◌, ◌<◌, ◌≤◌, ◌+◌, ℕ, zero, suc, true, ◌⊎◌, inl, inr, List, [], ◌∷◌, length, map, take, get_or, Option}
+use Rattle.std.proofs.Common.{None, Some, refl, sym, ap, subst, ◌∙◌, arith}
 use Rattle.std.specs.Prelude.{slice_get, is_some}
 use Rattle.std.specs.List.{Contains}
 use Rattle.std.specs.BTreeMap.{BTreeMap}
@@ -37,7 +38,8 @@ at_map f [] k x h = absurd cc
 at_map f (y ∷ xs) zero x h = let e : y ≡ x = cc in ap (λ z. Some (f z)) e
 at_map f (y ∷ xs) (suc k) x h = at_map f xs k x h
 
-map_at : {A B : Type 0} (f : A → B) (xs : List A) (k : ℕ) (y : B) → slice_get (map f xs) k ≡ Some y → (x : A) × (slice_get xs k ≡ Some x) × (f x ≡ y)
+map_at : {A B : Type 0} (f : A → B) (xs : List A) (k : ℕ) (y : B) → slice_get (map f xs) k ≡ Some y → (x : A) × (slice_get xs k ≡ Some x)
+    × (f x ≡ y)
 map_at f [] k y h = absurd cc
 map_at f (x ∷ xs) zero y h = (x, refl, let e : f x ≡ y = cc in e)
 map_at f (x ∷ xs) (suc k) y h = map_at f xs k y h
@@ -84,7 +86,8 @@ second ds k d r l e =
     let x = map_at label_of (definitions_of ds) r.before r.name r.and_there in
     let y = map_at view_definition ds r.before x.0 x.1 in
     let s : slice_get ds k ≡ Some d = item_at ds k d l e in
-    let t : slice_get (labels (definitions_of ds)) k ≡ Some (label_of (view_definition d)) = at_map label_of (definitions_of ds) k (view_definition d) (at_map view_definition ds k d s) in
+    let t : slice_get (labels (definitions_of ds)) k ≡ Some (label_of (view_definition d)) = at_map label_of (definitions_of ds) k
+    (view_definition d) (at_map view_definition ds k d s) in
     let u : label_of (view_definition d) ≡ r.name = let v = r.there in cc in
     let w : label_of (view_definition y.0) ≡ label_of (view_definition d) = ap label_of y.2 ∙ x.2 ∙ sym u in
     let o = one_label (view_definition y.0).name (view_definition d).name (view_definition y.0).part (view_definition d).part w in
@@ -101,7 +104,8 @@ second ds k d r l e =
       stands = record { in_text = refl; place = refl };
     }
 
-label_defined : (ds : List Definition) (name : List ℕ) (part : Option (List ℕ)) → Contains (labels ds) (label name part) → IsDefined ds name part
+label_defined : (ds : List Definition) (name : List ℕ) (part : Option (List ℕ)) → Contains (labels ds) (label name part)
+    → IsDefined ds name part
 label_defined ds name part c =
     let d = map_contains label_of ds (label name part) c in
     let o = one_label d.0.name name d.0.part part d.2 in
@@ -120,7 +124,8 @@ pub not_defined :
     (set : BTreeMap (List ℕ) ℕ) (ds : List Definition) (name : List ℕ) (part : Option (List ℕ)) → IsSetOf set (labels ds)
     → get_label set (label name part) ≡ None → IsDefined ds name part → ⊥
 not_defined set ds name part h e d =
-    let n : label_of d.definition ≡ label name part = ap (λ (z : List ℕ). label z d.definition.part) d.named ∙ ap (λ (z : Option (List ℕ)). label name z) d.of_part in
+    let n : label_of d.definition ≡ label name part = ap (λ (z : List ℕ). label z d.definition.part) d.named
+    ∙ ap (λ (z : Option (List ℕ)). label name z) d.of_part in
     h.absent (label name part) e (subst (λ (z : List ℕ). Contains (labels ds) z) n (contains_map label_of ds d.definition d.there))
 
 -- ---- declarations
@@ -134,11 +139,15 @@ label_declared :
 label_declared members rows name part c =
     let w = map_contains label_for (wanted_in members rows) (label name part) c in
     let o = one_label w.0.name name w.0.part part w.2 in
-    let h = wanted_declared members rows w.0 w.1 in
-    (w.0.path, subst (λ (z : List ℕ). IsDeclared members rows w.0.path z part) o.0 (subst (λ (z : Option (List ℕ)). IsDeclared members rows w.0.path w.0.name z) o.1 h))
+    let h = wanted_declared members rows w.0 w.1 in (
+      w.0.path,
+      subst (λ (z : List ℕ). IsDeclared members rows w.0.path z part) o.0
+          (subst (λ (z : Option (List ℕ)). IsDeclared members rows w.0.path w.0.name z) o.1 h),
+    )
 
 pub is_declared :
-    (set : BTreeMap (List ℕ) ℕ) (members rows : List Row) (name : List ℕ) (part : Option (List ℕ)) → IsSetOf set (wanted_labels (wanted_in members rows))
+    (set : BTreeMap (List ℕ) ℕ) (members rows : List Row) (name : List ℕ) (part : Option (List ℕ))
+    → IsSetOf set (wanted_labels (wanted_in members rows))
     → (get_label set (label name part) ≡ None → ⊥) → (path : List ℕ) × IsDeclared members rows path name part
 is_declared set members rows name part h f = go (get_label set (label name part)) refl
   where
@@ -147,7 +156,8 @@ is_declared set members rows name part h f = go (get_label set (label name part)
     go (Some k) e = label_declared members rows name part (h.found (label name part) k e)
 
 pub not_declared :
-    (set : BTreeMap (List ℕ) ℕ) (members rows : List Row) (path name : List ℕ) (part : Option (List ℕ)) → IsSetOf set (wanted_labels (wanted_in members rows))
+    (set : BTreeMap (List ℕ) ℕ) (members rows : List Row) (path name : List ℕ) (part : Option (List ℕ))
+    → IsSetOf set (wanted_labels (wanted_in members rows))
     → get_label set (label name part) ≡ None → IsDeclared members rows path name part → ⊥
 not_declared set members rows path name part h e d =
     let w : Wanted = record { path = path; name = name; part = part } in
@@ -155,8 +165,10 @@ not_declared set members rows path name part h e d =
 
 -- an adt's function that is defined is declared
 pub all_known :
-    (set : BTreeMap (List ℕ) ℕ) (members rows : List Row) (ds : List code_definition.Definition) → IsSetOf set (wanted_labels (wanted_in members rows))
-    → ((d : code_definition.Definition) (f : List ℕ) → Contains ds d → (view_definition d).part ≡ Some f → get_label set (label (view_definition d).name (Some f)) ≡ None → ⊥)
+    (set : BTreeMap (List ℕ) ℕ) (members rows : List Row) (ds : List code_definition.Definition)
+    → IsSetOf set (wanted_labels (wanted_in members rows))
+    → ((d : code_definition.Definition) (f : List ℕ) → Contains ds d → (view_definition d).part ≡ Some f
+    → get_label set (label (view_definition d).name (Some f)) ≡ None → ⊥)
     → AllKnown members rows (definitions_of ds)
 all_known set members rows ds h f adt name d =
     let x = map_contains view_definition ds d.definition d.there in

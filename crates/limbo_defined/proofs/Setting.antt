@@ -1,5 +1,6 @@
 -- What a set of labels finds.
-use Rattle.std.proofs.Common.{◌≡◌, ◌<◌, ◌+◌, ℕ, zero, suc, Bool, true, false, cond, List, [], ◌∷◌, ◌++◌, length, take, get_or, Some, None, inl, inr, refl, sym, ap, subst, ◌∙◌, arith}
+use Rattle.std.proofs.Common.{◌≡◌, ◌<◌, ◌+◌, ℕ, zero, suc, Bool, true, false, cond, List, [], ◌∷◌, ◌++◌, length, take, get_or, Some, None}
+use Rattle.std.proofs.Common.{inl, inr, refl, sym, ap, subst, ◌∙◌, arith}
 use Rattle.std.specs.List.{Contains}
 use Rattle.std.specs.Ordering.{nat_cmp, eq_by_cmp}
 use Rattle.std.specs.Cmp.{eq_by_cmp_equiv, Equal-is}
@@ -20,7 +21,8 @@ antisymmetric = slice_cmp-IsAntisymmetric nat_cmp-IsAntisymmetric
 is_name : (n q : List ℕ) → eq_by_cmp (slice_cmp nat_cmp) n q ≡ true → n ≡ q
 is_name n q e = antisymmetric n q ((Equal-is (slice_cmp nat_cmp n q)).0 e)
 
-module _ (old new : BTreeMap (List ℕ) ℕ) (all : List (List ℕ)) (n : List ℕ) (v : ℕ) (h : IsSetOf old all) (u : Updates (slice_cmp nat_cmp) old new n (Some v)) where
+module _ (old new : BTreeMap (List ℕ) ℕ) (all : List (List ℕ)) (n : List ℕ) (v : ℕ) (h : IsSetOf old all)
+    (u : Updates (slice_cmp nat_cmp) old new n (Some v)) where
   found_more : (q : List ℕ) (k : ℕ) → get_label new q ≡ Some k → Contains (all ++ n ∷ []) q
   found_more q k g = go (eq_by_cmp (slice_cmp nat_cmp) n q) refl
     where
@@ -39,7 +41,8 @@ module _ (old new : BTreeMap (List ℕ) ℕ) (all : List (List ℕ)) (n : List �
           let f : get_label new q ≡ get_label old q = u.0 q ∙ ap (λ b. cond b (Some v) (get_label old q)) e in
           elim (Contains-push_cases all n q c) [
             | inl d ↦ h.absent q (sym f ∙ g) d
-            | inr s ↦ absurd (let w : eq_by_cmp (slice_cmp nat_cmp) n q ≡ true = subst (λ (z : List ℕ). eq_by_cmp (slice_cmp nat_cmp) n z ≡ true) s (same_name n) in cc)
+            | inr s ↦ absurd (let w : eq_by_cmp (slice_cmp nat_cmp) n q ≡ true = subst
+                (λ (z : List ℕ). eq_by_cmp (slice_cmp nat_cmp) n z ≡ true) s (same_name n) in cc)
           ]
 
   -- one label more

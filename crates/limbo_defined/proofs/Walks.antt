@@ -1,5 +1,6 @@
 -- The rows of a member by its tree, and of members from one place on.
-use Rattle.std.proofs.Common.{◌≡◌, ◌<◌, ◌≤◌, ◌+◌, ℕ, List, [], ◌++◌, map, drop, length, get_or, Option, None, option_map, Vec, Box, Global, sym, ap, subst, ◌∙◌}
+use Rattle.std.proofs.Common.{◌≡◌, ◌<◌, ◌≤◌, ◌+◌, ℕ, List, [], ◌++◌, map, drop, length, get_or, Option, None, option_map, Vec, Box}
+use Rattle.std.proofs.Common.{Global, sym, ap, subst, ◌∙◌}
 use Rattle.inf_text.specs.declared.span.Span as span
 use Rattle.limbo_tree.specs.declared.name.Name as code_name
 use Rattle.limbo_tree.specs.declared.types.TypeTree as code_type
@@ -18,27 +19,38 @@ use Rattle.limbo_defined.proofs.Holding.{ArePlain, each_plain, counted_plain, ad
 
 pub function_rows :
     (m : code_member.Member) (ns : Vec code_name.Name Global) (f : Box code_fn.FnType Global) (s : span.Span) → m ≡ make.Function ns f s
-    → (p : List ℕ) (all : List code_name.Name) → all ≡ ns.items → rows_of_member p (view_member m) ≡ each p (names_of all) (Function (view_fn f.value))
+    → (p : List ℕ) (all : List code_name.Name) → all ≡ ns.items → rows_of_member p (view_member m) ≡ each p (names_of all)
+    (Function (view_fn f.value))
 function_rows m ns f s e p all a =
-    ap (rows_of_member p) (ap view_member e ∙ view_member-Function ns f s) ∙ ap (λ (z : List code_name.Name). each p (names_of z) (Function (view_fn f.value))) (sym a)
+    ap (rows_of_member p) (ap view_member e ∙ view_member-Function ns f s)
+    ∙ ap (λ (z : List code_name.Name). each p (names_of z) (Function (view_fn f.value))) (sym a)
 
 pub adt_rows :
-    (m : code_member.Member) (n : code_name.Name) (ms : Vec code_member.Member Global) (pick : Option (Vec code_variant.Variant Global)) (s : span.Span)
+    (m : code_member.Member) (n : code_name.Name) (ms : Vec code_member.Member Global) (pick : Option (Vec code_variant.Variant Global))
+    (s : span.Span)
     → m ≡ make.Adt n ms pick s → (p : List ℕ) (all : List code_member.Member) → all ≡ ms.items
-    → rows_of_member p (view_member m) ≡ adt_row p n.text (members_of (map view_member all)) (option_map (λ vs. map view_variant vs.items) pick)
+    → rows_of_member p (view_member m) ≡ adt_row p n.text (members_of (map view_member all))
+    (option_map (λ vs. map view_variant vs.items) pick)
 unfolding view_members
 adt_rows m n ms pick s e p all a =
     ap (rows_of_member p) (ap view_member e ∙ view_member-Adt n ms pick s)
-    ∙ ap (λ (z : List code_member.Member). adt_row p n.text (members_of (map view_member z)) (option_map (λ vs. map view_variant vs.items) pick)) (sym a)
+    ∙ ap (λ (z : List code_member.Member). adt_row p n.text (members_of (map view_member z))
+    (option_map (λ vs. map view_variant vs.items) pick)) (sym a)
 
-pub var_plain : (m : code_member.Member) (ns : Vec code_name.Name Global) (t : Box code_type.TypeTree Global) (s : span.Span) → m ≡ make.Var ns t s → (p : List ℕ) → ArePlain (rows_of_member p (view_member m))
-var_plain m ns t s e p = subst (λ (z : Member). ArePlain (rows_of_member p z)) (sym (ap view_member e ∙ view_member-Var ns t s)) (each_plain p (names_of ns.items) (Variable (view_type t.value) None) tt)
+pub var_plain : (m : code_member.Member) (ns : Vec code_name.Name Global) (t : Box code_type.TypeTree Global) (s : span.Span)
+    → m ≡ make.Var ns t s → (p : List ℕ) → ArePlain (rows_of_member p (view_member m))
+var_plain m ns t s e p = subst (λ (z : Member). ArePlain (rows_of_member p z)) (sym (ap view_member e ∙ view_member-Var ns t s))
+    (each_plain p (names_of ns.items) (Variable (view_type t.value) None) tt)
 
-pub type_plain : (m : code_member.Member) (ns : Vec code_name.Name Global) (t : Box code_type.TypeTree Global) (s : span.Span) → m ≡ make.Type ns t s → (p : List ℕ) → ArePlain (rows_of_member p (view_member m))
-type_plain m ns t s e p = subst (λ (z : Member). ArePlain (rows_of_member p z)) (sym (ap view_member e ∙ view_member-Type ns t s)) (each_plain p (names_of ns.items) (Alias (view_type t.value)) tt)
+pub type_plain : (m : code_member.Member) (ns : Vec code_name.Name Global) (t : Box code_type.TypeTree Global) (s : span.Span)
+    → m ≡ make.Type ns t s → (p : List ℕ) → ArePlain (rows_of_member p (view_member m))
+type_plain m ns t s e p = subst (λ (z : Member). ArePlain (rows_of_member p z)) (sym (ap view_member e ∙ view_member-Type ns t s))
+    (each_plain p (names_of ns.items) (Alias (view_type t.value)) tt)
 
-pub con_plain : (m : code_member.Member) (ns : Vec code_name.Name Global) (v : Box code_expr.Expr Global) (s : span.Span) → m ≡ make.Con ns v s → (p : List ℕ) → ArePlain (rows_of_member p (view_member m))
-con_plain m ns v s e p = subst (λ (z : Member). ArePlain (rows_of_member p z)) (sym (ap view_member e ∙ view_member-Con ns v s)) (counted_plain p (names_of ns.items) 0 (view_expr v.value))
+pub con_plain : (m : code_member.Member) (ns : Vec code_name.Name Global) (v : Box code_expr.Expr Global) (s : span.Span)
+    → m ≡ make.Con ns v s → (p : List ℕ) → ArePlain (rows_of_member p (view_member m))
+con_plain m ns v s e p = subst (λ (z : Member). ArePlain (rows_of_member p z)) (sym (ap view_member e ∙ view_member-Con ns v s))
+    (counted_plain p (names_of ns.items) 0 (view_expr v.value))
 
 -- the rows of members from one place on
 abbrev pub rows_from : (p : List ℕ) → ℕ → List code_member.Member → List Row

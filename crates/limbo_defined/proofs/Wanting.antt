@@ -19,7 +19,8 @@ plain_functions adt (r ∷ rs) h =
     ap (λ (z : List Wanted). z ++ functions_in adt rs) (no_function r.path adt r.name r.means (h r (contains_here r rs)))
     ∙ plain_functions adt rs (λ q c. h q (contains_there r q rs c))
 
-pub each_functions : (p : List ℕ) (adt : Option (List ℕ)) (ns : List (List ℕ)) (f : FnType) → functions_in adt (each p ns (Function f)) ≡ map (of_name p adt) ns
+pub each_functions : (p : List ℕ) (adt : Option (List ℕ)) (ns : List (List ℕ)) (f : FnType)
+    → functions_in adt (each p ns (Function f)) ≡ map (of_name p adt) ns
 each_functions p adt [] f = refl
 each_functions p adt (n ∷ ns) f = ap (λ ws. of_name p adt n ∷ ws) (each_functions p adt ns f)
 
@@ -45,10 +46,12 @@ functions_step old new ws adt all one rest s n h =
     ∙ ap (λ (z : List Wanted). old ++ z) (sym (functions_append adt one rest) ∙ ap (functions_in adt) (sym s)) ∙ h
 
 pub places_step :
-    (old new ws : List Place) (p : List ℕ) (adt : Option (List ℕ)) (k : ℕ) (ms : List code_member.Member) (m : code_member.Member) → k < length ms → m ≡ get_or ms k m
+    (old new ws : List Place) (p : List ℕ) (adt : Option (List ℕ)) (k : ℕ) (ms : List code_member.Member) (m : code_member.Member)
+    → k < length ms → m ≡ get_or ms k m
     → new ≡ old ++ map (place p adt) (own_names m) → old ++ places_in p adt (drop k ms) ≡ ws → new ++ places_in p adt (drop (k + 1) ms) ≡ ws
 places_step old new ws p adt k ms m l e n h =
     let rest = places_in p adt (drop (k + 1) ms) in
     let s : places_in p adt (drop k ms) ≡ map (place p adt) (own_names m) ++ rest =
     ap (places_in p adt) (drop_more ms k m l) ∙ ap (λ (z : code_member.Member). map (place p adt) (own_names z) ++ rest) (sym e) in
-    ap (λ (z : List Place). z ++ rest) n ∙ append_assoc old (map (place p adt) (own_names m)) rest ∙ ap (λ (z : List Place). old ++ z) (sym s) ∙ h
+    ap (λ (z : List Place). z ++ rest) n ∙ append_assoc old (map (place p adt) (own_names m)) rest
+    ∙ ap (λ (z : List Place). old ++ z) (sym s) ∙ h

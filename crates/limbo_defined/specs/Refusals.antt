@@ -41,14 +41,17 @@ pub data IsLacking (members rows : List code_row.Row) (ds : List Definition) : (
       → IsLacking members rows ds path.now n.span
 
 -- What is defined there is a function of an adt, and no adt of that name declares it.
-pub record IsUndeclared (members rows : List code_row.Row) (ds : List code_definition.Definition) (path : Bor (List ℕ)) (at : Span) : Type 0 where
+pub record IsUndeclared (members rows : List code_row.Row) (ds : List code_definition.Definition) (path : Bor (List ℕ)) (at : Span)
+    : Type 0 where
   pub definition : code_definition.Definition
   pub there : Contains ds definition
   pub function : List ℕ
   pub of_adt : (view_definition definition).part ≡ Some function
-  pub undeclared : (source : List ℕ) → IsDeclared (rows_of members) (rows_of rows) source (view_definition definition).name (Some function) → ⊥
+  pub undeclared : (source : List ℕ)
+      → IsDeclared (rows_of members) (rows_of rows) source (view_definition definition).name (Some function) → ⊥
   pub stands : StandsAt definition path at
 
+-- What each refusal of a source says, by the rows of the implemented module's members and of the top level, and the definitions.
 abbrev pub IsRefused : (members rows : List code_row.Row) → List code_definition.Definition → DefinedFault → Type 0
 IsRefused members rows ds NoMemory = Unit {0}
 IsRefused members rows ds (Twice path at) = IsSecond ds path at

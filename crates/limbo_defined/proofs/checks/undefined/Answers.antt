@@ -16,7 +16,8 @@ loop-w-preserved c =
     elim (next_taken view_wanted c.args.wanted.now c.loop-w.w-index x w (omega arith) c.w-item.is h) [
       | inl d ↦ c.loop-w.invariant w d e
       | inr s ↦
-          let q : get_label set (label (view_wanted x).name (view_wanted x).part) ≡ None = subst (λ (z : Wanted). get_label set (label z.name z.part) ≡ None) (sym s) e in
+          let q : get_label set (label (view_wanted x).name (view_wanted x).part) ≡ None = subst
+          (λ (z : Wanted). get_label set (label z.name z.part) ≡ None) (sym s) e in
           still_some c.look_up.result c.if-is_none.ensures (c.look_up.ensures ∙ ap (get_label set) c.in_ok-text.ensures ∙ q)
     ]
 

@@ -14,36 +14,47 @@ pub function_in_member-returns-in-Function-clause-some : goal.function_in_member
 function_in_member-returns-in-Function-clause-some t c =
     let a = c.in-Function in
     IfSome_then c.first.result c.first.ensures.some
-    (λ n h path. subst (λ (z : List Row). Holds n.now.text z) (sym (function_rows c.args.m.now a.names a.of a.span a.is path c.deref.result.now c.deref.ensures.value)) (h path (view_fn a.of.value)))
+    (λ n h path. subst (λ (z : List Row). Holds n.now.text z)
+    (sym (function_rows c.args.m.now a.names a.of a.span a.is path c.deref.result.now c.deref.ensures.value))
+    (h path (view_fn a.of.value)))
 
 pub function_in_member-returns-in-Function-clause-none : goal.function_in_member-returns-in-Function-clause-none
 function_in_member-returns-in-Function-clause-none t c =
     let a = c.in-Function in
     none_then c.first.result c.first.ensures.none
-    (λ f path name h. f path name (view_fn a.of.value) (subst (λ (z : List Row). Holds name z) (function_rows c.args.m.now a.names a.of a.span a.is path c.deref.result.now c.deref.ensures.value) h))
+    (λ f path name h. f path name (view_fn a.of.value)
+    (subst (λ (z : List Row). Holds name z) (function_rows c.args.m.now a.names a.of a.span a.is path c.deref.result.now
+    c.deref.ensures.value) h))
 
 pub function_in_member-returns-in-Adt-clause-none : goal.function_in_member-returns-in-Adt-clause-none
 function_in_member-returns-in-Adt-clause-none t c =
     let a = c.in-Adt in
-    let x = λ (path : List ℕ). adt_rows c.args.m.now a.name a.members a.pick a.span a.is path c.deref-in-Adt.result.now c.deref-in-Adt.ensures.value in
+    let x = λ (path : List ℕ). adt_rows c.args.m.now a.name a.members a.pick a.span a.is path c.deref-in-Adt.result.now
+    c.deref-in-Adt.ensures.value in
     none_then c.function_in.result c.function_in.ensures.none
-    (λ f path name h. f path name (adt_held name path a.name.text (members_of (map view_member c.deref-in-Adt.result.now)) _ (subst (λ (z : List Row). Holds name z) (x path) h)))
+    (λ f path name h. f path name (adt_held name path a.name.text (members_of (map view_member c.deref-in-Adt.result.now)) _
+    (subst (λ (z : List Row). Holds name z) (x path) h)))
 
 pub function_in_member-returns-in-Adt-clause-some : goal.function_in_member-returns-in-Adt-clause-some
 function_in_member-returns-in-Adt-clause-some t c =
     let a = c.in-Adt in
-    let x = λ (path : List ℕ). adt_rows c.args.m.now a.name a.members a.pick a.span a.is path c.deref-in-Adt.result.now c.deref-in-Adt.ensures.value in
+    let x = λ (path : List ℕ). adt_rows c.args.m.now a.name a.members a.pick a.span a.is path c.deref-in-Adt.result.now
+    c.deref-in-Adt.ensures.value in
     IfSome_then c.function_in.result c.function_in.ensures.some
-    (λ n h path. subst (λ (z : List Row). Holds n.now.text z) (sym (x path)) (adt_holds n.now.text path a.name.text (members_of (map view_member c.deref-in-Adt.result.now)) _ (h path)))
+    (λ n h path. subst (λ (z : List Row). Holds n.now.text z) (sym (x path))
+    (adt_holds n.now.text path a.name.text (members_of (map view_member c.deref-in-Adt.result.now)) _ (h path)))
 
 pub function_in_member-returns-in-Var-clause-none : goal.function_in_member-returns-in-Var-clause-none
-function_in_member-returns-in-Var-clause-none t c = let a = c.in-Var in λ path name h. holds_nothing name _ h (var_plain c.args.m.now a.names a.of a.span a.is path)
+function_in_member-returns-in-Var-clause-none t c = let a = c.in-Var in λ path name h. holds_nothing name _ h
+    (var_plain c.args.m.now a.names a.of a.span a.is path)
 
 pub function_in_member-returns-in-Con-clause-none : goal.function_in_member-returns-in-Con-clause-none
-function_in_member-returns-in-Con-clause-none t c = let a = c.in-Con in λ path name h. holds_nothing name _ h (con_plain c.args.m.now a.names a.value a.span a.is path)
+function_in_member-returns-in-Con-clause-none t c = let a = c.in-Con in λ path name h. holds_nothing name _ h
+    (con_plain c.args.m.now a.names a.value a.span a.is path)
 
 pub function_in_member-returns-in-Type-clause-none : goal.function_in_member-returns-in-Type-clause-none
-function_in_member-returns-in-Type-clause-none t c = let a = c.in-Type in λ path name h. holds_nothing name _ h (type_plain c.args.m.now a.names a.of a.span a.is path)
+function_in_member-returns-in-Type-clause-none t c = let a = c.in-Type in λ path name h. holds_nothing name _ h
+    (type_plain c.args.m.now a.names a.of a.span a.is path)
 
 pub function_in-returns-in-Some-clause-some : goal.function_in-returns-in-Some-clause-some
 function_in-returns-in-Some-clause-some t c =
@@ -51,7 +62,8 @@ function_in-returns-in-Some-clause-some t c =
     let s = next_rows path c.loop-m.m-index c.args.members.now c.m-item.result (omega arith) c.m-item.is in
     let n = c.in-Some.name.now.text in
     c.loop-m.invariant.up path n
-    (subst (λ (z : List Row). Holds n z) (sym s) (holds_left n (rows_of_member path (view_member c.m-item.result)) (rows_from path (c.loop-m.m-index + 1) c.args.members.now) (c.in-Some.ensures.some path)))
+    (subst (λ (z : List Row). Holds n z) (sym s) (holds_left n (rows_of_member path (view_member c.m-item.result))
+    (rows_from path (c.loop-m.m-index + 1) c.args.members.now) (c.in-Some.ensures.some path)))
 
 pub function_in-loop-m-preserved : goal.function_in-loop-m-preserved
 function_in-loop-m-preserved t c =
@@ -59,11 +71,13 @@ function_in-loop-m-preserved t c =
     let one = λ (path : List ℕ). rows_of_member path (view_member c.m-item.result) in
     let rest = λ (path : List ℕ). rows_from path (c.loop-m.m-index + 1) c.args.members.now in
     record {
-      up = λ path name h. c.loop-m.invariant.up path name (subst (λ (z : List Row). Holds name z) (sym (s path)) (holds_right name (one path) (rest path) h));
-      down = λ path name h. elim (holds_cases name (one path) (rest path) (subst (λ (z : List Row). Holds name z) (s path) (c.loop-m.invariant.down path name h))) [
-        | inl f ↦ absurd (c.in_default.ensures.none path name f)
-        | inr f ↦ f
-      ];
+      up = λ path name h. c.loop-m.invariant.up path name
+          (subst (λ (z : List Row). Holds name z) (sym (s path)) (holds_right name (one path) (rest path) h));
+      down = λ path name h. elim (holds_cases name (one path) (rest path)
+          (subst (λ (z : List Row). Holds name z) (s path) (c.loop-m.invariant.down path name h))) [
+            | inl f ↦ absurd (c.in_default.ensures.none path name f)
+            | inr f ↦ f
+          ];
     }
 
 pub function_in-returns-clause-none : goal.function_in-returns-clause-none

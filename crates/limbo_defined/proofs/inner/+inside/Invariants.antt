@@ -6,6 +6,8 @@ use Rattle.limbo_defined.proofs.inner.+inside.Given as goal
 
 abbrev pub invariant-function_in-loop-m : goal.invariant-function_in-loop-m
 invariant-function_in-loop-m l = record {
-  up : (path name : List ℕ) → Holds name (rows_of_members path (members_of (map view_member (drop l.m-index l.members)))) → Holds name (rows_of_members path (members_of (map view_member l.members)));
-  down : (path name : List ℕ) → Holds name (rows_of_members path (members_of (map view_member l.members))) → Holds name (rows_of_members path (members_of (map view_member (drop l.m-index l.members))));
+  up : (path name : List ℕ) → Holds name (rows_of_members path (members_of (map view_member (drop l.m-index l.members))))
+      → Holds name (rows_of_members path (members_of (map view_member l.members)));
+  down : (path name : List ℕ) → Holds name (rows_of_members path (members_of (map view_member l.members)))
+      → Holds name (rows_of_members path (members_of (map view_member (drop l.m-index l.members))));
 }

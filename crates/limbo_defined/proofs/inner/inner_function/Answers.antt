@@ -14,7 +14,9 @@ returns-in-Some-clause-some c =
     let s = next_rows path c.loop-m.m-index c.args.members.now c.m-item.result (omega arith) c.m-item.is in
     let n = c.in-Some.name.now.text in
     c.loop-m.invariant.up path n
-    (subst (λ (z : List Row). HasInner z path n) (sym s) (inner_left (rows_of_member path (view_member c.m-item.result)) (rows_from path (c.loop-m.m-index + 1) c.args.members.now) path n (c.in-Some.ensures.some path)))
+    (subst (λ (z : List Row). HasInner z path n) (sym s)
+    (inner_left (rows_of_member path (view_member c.m-item.result)) (rows_from path (c.loop-m.m-index + 1) c.args.members.now) path n
+    (c.in-Some.ensures.some path)))
 
 pub loop-m-preserved : goal.loop-m-preserved
 loop-m-preserved c =
@@ -22,11 +24,13 @@ loop-m-preserved c =
     let one = λ (path : List ℕ). rows_of_member path (view_member c.m-item.result) in
     let rest = λ (path : List ℕ). rows_from path (c.loop-m.m-index + 1) c.args.members.now in
     record {
-      up = λ path name h. c.loop-m.invariant.up path name (subst (λ (z : List Row). HasInner z path name) (sym (s path)) (inner_right (one path) (rest path) path name h));
-      down = λ path name h. elim (inner_cases (one path) (rest path) path name (subst (λ (z : List Row). HasInner z path name) (s path) (c.loop-m.invariant.down path name h))) [
-        | inl f ↦ absurd (c.in_default.ensures.none path name f)
-        | inr f ↦ f
-      ];
+      up = λ path name h. c.loop-m.invariant.up path name
+          (subst (λ (z : List Row). HasInner z path name) (sym (s path)) (inner_right (one path) (rest path) path name h));
+      down = λ path name h. elim (inner_cases (one path) (rest path) path name
+          (subst (λ (z : List Row). HasInner z path name) (s path) (c.loop-m.invariant.down path name h))) [
+            | inl f ↦ absurd (c.in_default.ensures.none path name f)
+            | inr f ↦ f
+          ];
     }
 
 pub returns-clause-none : goal.returns-clause-none

@@ -6,6 +6,8 @@ use Rattle.limbo_defined.proofs.inner.inner_function.Given as goal
 
 abbrev pub invariant-loop-m : goal.invariant-loop-m
 invariant-loop-m l = record {
-  up : (path name : List ℕ) → HasInner (rows_of_members path (members_of (map view_member (drop l.m-index l.members)))) path name → HasInner (rows_of_members path (members_of (map view_member l.members))) path name;
-  down : (path name : List ℕ) → HasInner (rows_of_members path (members_of (map view_member l.members))) path name → HasInner (rows_of_members path (members_of (map view_member (drop l.m-index l.members)))) path name;
+  up : (path name : List ℕ) → HasInner (rows_of_members path (members_of (map view_member (drop l.m-index l.members)))) path name
+      → HasInner (rows_of_members path (members_of (map view_member l.members))) path name;
+  down : (path name : List ℕ) → HasInner (rows_of_members path (members_of (map view_member l.members))) path name
+      → HasInner (rows_of_members path (members_of (map view_member (drop l.m-index l.members)))) path name;
 }

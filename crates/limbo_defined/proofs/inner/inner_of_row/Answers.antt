@@ -13,14 +13,16 @@ returns-in-Adt-clause-some c =
     let r = c.args.row in
     let ms = members_of (map view_member c.in-Adt.members.now) in
     IfSome_then c.inner_function.result c.inner_function.ensures.some
-    (λ n h. subst (λ (z : List Row). IsNested z r.path.now n.now.text) (sym (row_is r c.in-Adt.members c.in-Adt.pick c.in-Adt.is)) (adt_nested n.now.text r.path.now r.name.now.text ms _ (h r.path.now)))
+    (λ n h. subst (λ (z : List Row). IsNested z r.path.now n.now.text) (sym (row_is r c.in-Adt.members c.in-Adt.pick c.in-Adt.is))
+    (adt_nested n.now.text r.path.now r.name.now.text ms _ (h r.path.now)))
 
 pub returns-in-Adt-clause-none : goal.returns-in-Adt-clause-none
 returns-in-Adt-clause-none c =
     let r = c.args.row in
     let ms = members_of (map view_member c.in-Adt.members.now) in
     none_then c.inner_function.result c.inner_function.ensures.none
-    (λ f path name h. f path name (nested_adt name r.path.now r.name.now.text ms _ path (subst (λ (z : List Row). IsNested z path name) (row_is r c.in-Adt.members c.in-Adt.pick c.in-Adt.is) h)))
+    (λ f path name h. f path name (nested_adt name r.path.now r.name.now.text ms _ path
+    (subst (λ (z : List Row). IsNested z path name) (row_is r c.in-Adt.members c.in-Adt.pick c.in-Adt.is) h)))
 
 pub returns-in_default-clause-none : goal.returns-in_default-clause-none
 returns-in_default-clause-none c = no_nested c.args.row c.in_default.not-Adt

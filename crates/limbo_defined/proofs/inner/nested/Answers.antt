@@ -13,22 +13,27 @@ pub returns-in-Some-clause-some : goal.returns-in-Some-clause-some
 returns-in-Some-clause-some c =
     let row = c.row-item.result in
     let rest = rows_of (drop (c.loop-row.row-index + 1) c.args.rows.now) in
-    let s : rows_of (drop c.loop-row.row-index c.args.rows.now) ≡ view_row row ∷ rest = drop_more view_row c.loop-row.row-index c.args.rows.now row (omega arith) c.row-item.is in
+    let s : rows_of (drop c.loop-row.row-index c.args.rows.now) ≡ view_row row ∷ rest = drop_more view_row c.loop-row.row-index
+    c.args.rows.now row (omega arith) c.row-item.is in
     let n = c.in-Some.name.now.text in
     c.loop-row.invariant.up row.path.now n
-    (subst (λ (z : List Row). IsNested z row.path.now n) (sym s) (nested_left (view_row row ∷ []) rest row.path.now n c.in-Some.ensures.some))
+    (subst (λ (z : List Row). IsNested z row.path.now n) (sym s)
+    (nested_left (view_row row ∷ []) rest row.path.now n c.in-Some.ensures.some))
 
 pub loop-row-preserved : goal.loop-row-preserved
 loop-row-preserved c =
     let row = c.row-item.result in
     let rest = rows_of (drop (c.loop-row.row-index + 1) c.args.rows.now) in
-    let s : rows_of (drop c.loop-row.row-index c.args.rows.now) ≡ view_row row ∷ rest = drop_more view_row c.loop-row.row-index c.args.rows.now row (omega arith) c.row-item.is in
+    let s : rows_of (drop c.loop-row.row-index c.args.rows.now) ≡ view_row row ∷ rest = drop_more view_row c.loop-row.row-index
+    c.args.rows.now row (omega arith) c.row-item.is in
     record {
-      up = λ path name h. c.loop-row.invariant.up path name (subst (λ (z : List Row). IsNested z path name) (sym s) (nested_right (view_row row ∷ []) rest path name h));
-      down = λ path name h. elim (nested_cases (view_row row ∷ []) rest path name (subst (λ (z : List Row). IsNested z path name) s (c.loop-row.invariant.down path name h))) [
-        | inl f ↦ absurd (c.in_default.ensures.none path name f)
-        | inr f ↦ f
-      ];
+      up = λ path name h. c.loop-row.invariant.up path name
+          (subst (λ (z : List Row). IsNested z path name) (sym s) (nested_right (view_row row ∷ []) rest path name h));
+      down = λ path name h. elim (nested_cases (view_row row ∷ []) rest path name
+          (subst (λ (z : List Row). IsNested z path name) s (c.loop-row.invariant.down path name h))) [
+            | inl f ↦ absurd (c.in_default.ensures.none path name f)
+            | inr f ↦ f
+          ];
     }
 
 pub returns-clause-none : goal.returns-clause-none

@@ -14,6 +14,9 @@ loop-m-preserved c =
     let k = c.loop-m.m-index in
     let m = c.m-item.result in
     record {
-      wanted = functions_step (wanted_of c.loop-m.all.items) (wanted_of c.push_member.new.all.items) _ adt (rows_from p k ms) (rows_of_member p (view_member m)) (rows_from p (k + 1) ms) (next_rows p k ms m (omega arith) c.m-item.is) c.in_ok-push_member.ensures.wanted c.loop-m.invariant.wanted;
-      places = places_step (places_of c.loop-m.all.items) (places_of c.push_member.new.all.items) _ p adt k ms m (omega arith) c.m-item.is c.in_ok-push_member.ensures.places c.loop-m.invariant.places;
+      wanted = functions_step (wanted_of c.loop-m.all.items) (wanted_of c.push_member.new.all.items) _ adt (rows_from p k ms)
+          (rows_of_member p (view_member m)) (rows_from p (k + 1) ms) (next_rows p k ms m (omega arith) c.m-item.is)
+          c.in_ok-push_member.ensures.wanted c.loop-m.invariant.wanted;
+      places = places_step (places_of c.loop-m.all.items) (places_of c.push_member.new.all.items) _ p adt k ms m (omega arith) c.m-item.is
+          c.in_ok-push_member.ensures.places c.loop-m.invariant.places;
     }
