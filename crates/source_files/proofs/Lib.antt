@@ -1,2 +1,4 @@
 pub mod Sources
 pub mod Names
+pub mod Readers
+pub mod Depths

@@ -38,3 +38,10 @@ IsRefusal told before now (fault.Parse path f span) = (bytes : List ℕ) × Give
 abbrev pub IsRefusalOf : List ℕ → TextFault → FilesFault → Type 0
 IsRefusalOf path f e =
     (told : Told) (bytes : List ℕ) (before now : ℕ) → Gives told path bytes → IsTextFault bytes f → IsRefusal told before now e
+
+-- What stands at a path is no included text, and why: a refusal that is kept while others are read.
+abbrev pub IsBlamed : Told → FilesFault → Type 0
+IsBlamed told fault.NoMemory = ⊥
+IsBlamed told (fault.Failed path) = ⊥
+IsBlamed told (fault.Lex path f) = (bytes : List ℕ) × Gives told path bytes × IsUnlexed bytes f
+IsBlamed told (fault.Parse path f span) = (bytes : List ℕ) × Gives told path bytes × IsUnparsed bytes f

@@ -9,9 +9,13 @@
 
 mod built_in;
 mod fault;
+mod level;
 mod opening;
+mod reader;
+mod reading;
 mod text;
 mod tree;
 
 pub use fault::FilesFault;
+pub use reading::read_included;
 pub use tree::tree_at;

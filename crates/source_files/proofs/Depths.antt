@@ -1,0 +1,281 @@
+-- What is read depth by depth.
+use Rattle.std.proofs.Common.{◌≡◌, ℕ, zero, suc, ◌<◌, ◌≤◌, ◌⊎◌, inl, inr, true, false, List, [], ◌∷◌, length, get_or, Option, None, Some, IsSome, Vec, Global, refl, sym, ap, subst, ◌∙◌, arith}
+use Rattle.std.specs.Prelude.{slice_get}
+use Rattle.std.specs.List.{Contains, list_any}
+use Rattle.std.specs.Ordering.{nat_cmp}
+use Rattle.std.specs.Cmp.Lexicographic.{slice_cmp}
+use Rattle.std.specs.BTreeSet.{BTreeSet, IsEmpty}
+use Rattle.std.specs.BTreeMap.{is_at}
+use Rattle.std.proofs.lemmas.Option.{same_Some, none-some, slice_get_within, slice_get-get_or}
+use Rattle.inf_ports.specs.Outside.{Told}
+use Rattle.inf_text.specs.declared.span.Span.{Span}
+use Rattle.limbo_tree.specs.declared.source.Top.{Top}
+use Rattle.limbo_tree.specs.declared.source.Top.TheVariants.{Include, Declare, Define}
+use Rattle.limbo_includes.specs.declared.included.Included.{Included}
+use Rattle.limbo_includes.specs.Includes.{target, tops_at, Leads, to_given, to_included, most}
+use Rattle.source_files.specs.declared.reader.Reader.{Reader}
+use Rattle.std.specs.Option.{IfSome}
+use Rattle.source_files.specs.Files.{IsMissing, IsBlamed, IsRefusal}
+use Rattle.source_files.specs.declared.fault.FilesFault.{FilesFault}
+use Rattle.source_files.specs.declared.fault.FilesFault.TheVariants as fault
+use Rattle.source_files.specs.Reading.{targets, is_asked, depth_at, source_of, IsAnswered, IsReading, IsKept, IsNew, Later, AsksAll, IsRead, IsReadWhole}
+use Rattle.source_files.specs.Levels.{IsDone, IsLevel, IsAmid, ReadsFrom, ReadsAll}
+use Rattle.source_files.proofs.Readers.{tops_of}
+
+-- ---- refusals
+
+pub refusal_wider : (told : Told) (before middle now : ℕ) (e : FilesFault) → before ≤ middle → IsRefusal told middle now e → IsRefusal told before now e
+refusal_wider told before middle now fault.NoMemory h i = tt
+refusal_wider told before middle now (fault.Failed path) h i = omega arith
+refusal_wider told before middle now (fault.Lex path f) h i = i
+refusal_wider told before middle now (fault.Parse path f span) h i = i
+
+pub blamed_refusal : (told : Told) (before now : ℕ) (e : FilesFault) → IsBlamed told e → IsRefusal told before now e
+blamed_refusal told before now fault.NoMemory i = tt
+blamed_refusal told before now (fault.Failed path) i = absurd i
+blamed_refusal told before now (fault.Lex path f) i = i
+blamed_refusal told before now (fault.Parse path f span) i = i
+
+-- ---- one text's includes
+
+pub done_later : (path : List ℕ) (tops : List Top) (n depth : ℕ) (old new : Reader) → IsDone path tops n old → Later depth old new → IsDone path tops n new
+done_later path tops n depth old new d l = record {
+  asked = λ q c. l.asked q (d.asked q c);
+  near = λ q i t c e p. elim (l.each i t e) [
+    | inl k ↦ subst (λ (z : ℕ). z ≤ suc n) k.depth (d.near q i t c k.there p)
+    | inr w ↦
+        let a : is_asked old t.path ≡ true = subst (λ (z : List ℕ). is_asked old z ≡ true) (sym p) (d.asked q c) in
+        absurd (let f = w.fresh in cc)
+  ];
+}
+
+-- what all that a text names being asked for says
+pub done_of :
+    (told : Told) (first : List ℕ) (source : List Top) (path : List ℕ) (tops : List Top) (n depth : ℕ) (r : Reader) → depth ≡ suc n
+    → ((q : List ℕ) → Contains (targets path tops) q → is_asked r q ≡ true) → IsReading told first source depth r → IsDone path tops n r
+done_of told first source path tops n depth r d a g = record {
+  asked = a;
+  near = λ q i t c e p. let b = g.bounded i in omega arith;
+}
+
+pub reads_from :
+    (told : Told) (index depth : ℕ) (t : Included) (named : List (List ℕ)) (old new : Reader) → slice_get old.texts.items index ≡ Some t
+    → named ≡ targets t.path t.tree.tops.items → AsksAll told named depth old new → ReadsFrom told index depth old new
+reads_from told index depth t named old new e same a = record {
+  longer = a.longer;
+  reads = λ first source u eu d r.
+      let l = (r.entry index t e).leads in
+      let k = a.reading first source (depth_at old index) t.path t.tree.tops.items l d (λ q c. subst (λ (z : List (List ℕ)). Contains z q) same c) r in
+      let f = done_of told first source t.path t.tree.tops.items (depth_at old index) depth new d (λ q c. a.asks q (subst (λ (z : List (List ℕ)). Contains z q) (sym same) c)) k.0 in
+      let s : Some t ≡ Some u = sym e ∙ eu in
+      (k.0, k.1, subst (λ (z : Included). IsDone z.path z.tree.tops.items (depth_at old index) new) (same_Some t u s) f);
+}
+
+-- ---- the given source
+
+-- nothing was read yet
+pub record IsFresh (r : Reader) : Type 0 where
+  pub texts : r.texts.items ≡ []
+  pub depths : r.depths.items ≡ []
+  pub asked : IsEmpty r.asked
+  pub refused : r.refused ≡ None
+
+nothing_asked : (r : Reader) → IsFresh r → (q : List ℕ) → is_asked r q ≡ true → ⊥
+nothing_asked r f q h =
+    let e : is_asked r q ≡ false = ap (λ (ks : List (List ℕ)). list_any (is_at (slice_cmp nat_cmp q)) ks) f.asked in cc
+
+nothing_there : (r : Reader) → IsFresh r → (i : ℕ) (t : Included) → slice_get r.texts.items i ≡ Some t → ⊥
+nothing_there r f i t e = none-some t (subst (λ (z : List Included). slice_get z i ≡ Some t) f.texts e)
+
+fresh_reading : (told : Told) (first : List ℕ) (source : List Top) (r : Reader) → IsFresh r → IsReading told first source 1 r
+fresh_reading told first source r f = record {
+  same_length = ap length f.depths ∙ sym (ap length f.texts);
+  bounded = λ i. subst (λ (z : List ℕ). get_or z i 0 ≤ 1) (sym f.depths) (omega arith);
+  entry = λ i t e. absurd (nothing_there r f i t e);
+  answered = λ q h. absurd (nothing_asked r f q h);
+  blamed = subst (λ (z : Option FilesFault). IfSome z (λ e. IsBlamed told e)) (sym f.refused) tt;
+}
+
+pub first_level :
+    (told : Told) (first : List ℕ) (source : List Top) (named : List (List ℕ)) (old new : Reader) → IsFresh old
+    → named ≡ targets first source → AsksAll told named 1 old new → IsLevel told first source 1 0 new
+first_level told first source named old new f same a =
+    let k = a.reading first source 0 first source to_given refl (λ q c. subst (λ (z : List (List ℕ)). Contains z q) same c) (fresh_reading told first source old f) in
+    record {
+      reading = k.0;
+      done = record {
+        given = done_of told first source first source 0 1 new refl (λ q c. a.asks q (subst (λ (z : List (List ℕ)). Contains z q) (sym same) c)) k.0;
+        each = λ i t b e. absurd (omega arith);
+      };
+      last = λ i t e b. elim (k.1.each i t e) [
+        | inl s ↦ absurd (nothing_there old f i t s.there)
+        | inr n ↦ n.at_depth
+      ];
+    }
+
+-- ---- one depth
+
+pub amid_begins : (told : Told) (first : List ℕ) (source : List Top) (depth begin : ℕ) (r : Reader) → (end : ℕ) → end ≡ length r.texts.items
+    → IsLevel told first source depth begin r → IsAmid told first source depth begin end r
+amid_begins told first source depth begin r end w l = record {
+  reading = record {
+    same_length = l.reading.same_length;
+    bounded = λ i. let b = l.reading.bounded i in omega arith;
+    entry = l.reading.entry;
+    answered = l.reading.answered;
+    blamed = l.reading.blamed;
+  };
+  done = l.done;
+  middle = λ i t e b h. l.last i t e b;
+  last = λ i t e h. let b = slice_get_within r.texts.items i t e in absurd (omega arith);
+}
+
+below_or_at : (i index : ℕ) → i < suc index → (i < index) ⊎ (i ≡ index)
+below_or_at i index h = grind arith
+
+there_at : {X : Type 0} (xs : List X) (i : ℕ) → i < length xs → (x : X) × (slice_get xs i ≡ Some x)
+there_at [] i h = absurd (omega arith)
+there_at (x ∷ xs) zero h = (x, refl)
+there_at (x ∷ xs) (suc i) h = there_at xs i (omega arith)
+
+pub amid_goes : (told : Told) (first : List ℕ) (source : List Top) (depth index end : ℕ) (old new : Reader) → IsAmid told first source depth index end old
+    → index < end → end ≤ length old.texts.items → ReadsFrom told index (suc depth) old new → IsAmid told first source depth (suc index) end new
+amid_goes told first source depth index end old new a h w f = record {
+  reading = k.0;
+  done = record {
+    given = done_later first source 0 (suc depth) old new a.done.given k.1;
+    each = λ i t b e. each i t (below_or_at i index b) (k.1.each i t e);
+  };
+  middle = λ i t e b c. elim (k.1.each i t e) [
+    | inl s ↦ sym s.depth ∙ a.middle i t s.there (omega arith) c
+    | inr n ↦ let x = n.behind in absurd (omega arith)
+  ];
+  last = λ i t e b. elim (k.1.each i t e) [
+    | inl s ↦ sym s.depth ∙ a.last i t s.there b
+    | inr n ↦ n.at_depth
+  ];
+}
+  where
+    t : (t : Included) × (slice_get old.texts.items index ≡ Some t)
+    t = there_at old.texts.items index (omega arith)
+
+    at : depth_at old index ≡ depth
+    at = a.middle index t.0 t.1 (omega arith) h
+
+    k : IsReading told first source (suc depth) new × Later (suc depth) old new × IsDone t.0.path t.0.tree.tops.items (depth_at old index) new
+    k = f.reads first source t.0 t.1 (ap suc (sym at)) a.reading
+
+    each : (i : ℕ) (u : Included) → (i < index) ⊎ (i ≡ index) → IsKept new old i u ⊎ IsNew (suc depth) old new i u → IsDone u.path u.tree.tops.items (depth_at new i) new
+    each i u b (inr n) = let x = n.behind in absurd (elim b [ inl l ↦ omega arith | inr l ↦ omega arith ])
+    each i u (inl b) (inl s) =
+        subst (λ (z : ℕ). IsDone u.path u.tree.tops.items z new) s.depth
+        (done_later u.path u.tree.tops.items (depth_at old i) (suc depth) old new (a.done.each i u b s.there) k.1)
+    each i u (inr b) (inl s) =
+        let e : slice_get old.texts.items i ≡ Some t.0 = subst (λ (z : ℕ). slice_get old.texts.items z ≡ Some t.0) (sym b) t.1 in
+        let x : t.0 ≡ u = same_Some t.0 u (sym e ∙ s.there) in
+        let d : depth_at old index ≡ depth_at new i = ap (λ (z : ℕ). depth_at old z) (sym b) ∙ s.depth in
+        subst (λ (z : ℕ). IsDone u.path u.tree.tops.items z new) d (subst (λ (z : Included). IsDone z.path z.tree.tops.items (depth_at old index) new) x k.2)
+
+pub amid_ends : (told : Told) (first : List ℕ) (source : List Top) (depth index end : ℕ) (r : Reader) → end ≤ index
+    → IsAmid told first source depth index end r → IsLevel told first source (suc depth) end r
+amid_ends told first source depth index end r h a = record {
+  reading = a.reading;
+  done = record { given = a.done.given; each = λ i t b e. a.done.each i t (omega arith) e };
+  last = a.last;
+}
+
+-- ---- the whole
+
+-- A text that is led to was read, or is the given one.
+record IsHeld (r : Reader) (n : ℕ) (path : List ℕ) (tops : List Top) : Type 0 where
+  pub place : ℕ
+  pub text : Included
+  pub there : slice_get r.texts.items place ≡ Some text
+  pub same_path : text.path ≡ path
+  pub same_tops : text.tree.tops.items ≡ tops
+  pub near : depth_at r place ≤ n
+
+target_named : (path : List ℕ) (tops : List Top) (name : List ℕ) (at : Span) → Contains tops (Include name at) → Contains (targets path tops) (target path name)
+target_named path [] name at c = let l = c.1 in absurd (omega arith)
+target_named path (Declare d ∷ tops) name at (zero, l, e) = absurd (cc)
+target_named path (Declare d ∷ tops) name at (suc k, l, e) = target_named path tops name at (k, omega arith, e)
+target_named path (Define f ∷ tops) name at (zero, l, e) = absurd (cc)
+target_named path (Define f ∷ tops) name at (suc k, l, e) = target_named path tops name at (k, omega arith, e)
+target_named path (Include m a ∷ tops) name at (zero, l, e) = let x : m ≡ name = (cc) in (zero, omega arith, ap (λ (z : List ℕ). target path z) x)
+target_named path (Include m a ∷ tops) name at (suc k, l, e) =
+    let c = target_named path tops name at (k, omega arith, e) in
+    let b = c.1 in (suc c.0, omega arith, c.2)
+
+done_weaker : (path : List ℕ) (tops : List Top) (m n : ℕ) (r : Reader) → m ≤ n → IsDone path tops m r → IsDone path tops n r
+done_weaker path tops m n r h d = record {
+  asked = d.asked;
+  near = λ q i t c e p. let b = d.near q i t c e p in omega arith;
+}
+
+below_or_from : (i begin : ℕ) → (i < begin) ⊎ (begin ≤ i)
+below_or_from i begin = grind arith
+
+-- all texts of less than the depth are done
+module _ (told : Told) (first : List ℕ) (source : List Top) (depth begin : ℕ) (r : Reader) (l : IsLevel told first source depth begin r) where
+  held_done : (n : ℕ) (path : List ℕ) (tops : List Top) → n < depth → ((path ≡ first) × (tops ≡ source)) ⊎ IsHeld r n path tops → IsDone path tops n r
+  held_done n path tops h (inl s) =
+      subst (λ (z : List ℕ). IsDone z tops n r) (sym s.0)
+      (subst (λ (z : List Top). IsDone first z n r) (sym s.1) (done_weaker first source 0 n r (omega arith) l.done.given))
+  held_done n path tops h (inr k) =
+      subst (λ (z : List ℕ). IsDone z tops n r) k.same_path
+      (subst (λ (z : List Top). IsDone k.text.path z n r) k.same_tops
+      (done_weaker k.text.path k.text.tree.tops.items (depth_at r k.place) n r k.near (l.done.each k.place k.text (before k (below_or_from k.place begin)) k.there)))
+    where
+      before : (k : IsHeld r n path tops) → (k.place < begin) ⊎ (begin ≤ k.place) → k.place < begin
+      before k (inl b) = b
+      before k (inr b) = let e = l.last k.place k.text k.there b in let w = k.near in absurd (omega arith)
+
+  led_held : (n : ℕ) (path : List ℕ) (tops : List Top) → Leads (source_of first source r) n path tops → n ≤ depth
+      → ((path ≡ first) × (tops ≡ source)) ⊎ IsHeld r n path tops
+  led_held _ _ _ to_given h = inl (refl, refl)
+  led_held _ _ _ (to_included n path name at tops inner k c e) h =
+      let d = held_done n path tops (omega arith) (led_held n path tops k (omega arith)) in
+      let i = tops_of r.texts.items (target path name) inner e in
+      inr (record {
+        place = i.place;
+        text = i.text;
+        there = i.there;
+        same_path = i.path;
+        same_tops = i.tops;
+        near = d.near (target path name) i.place i.text (target_named path tops name at c) i.there i.path;
+      })
+
+  -- what is named less deep than the depth is answered
+  all_answered : (n : ℕ) (path : List ℕ) (tops : List Top) (q : List ℕ) → Leads (source_of first source r) n path tops → n < depth
+      → Contains (targets path tops) q → IsAnswered told r q
+  all_answered n path tops q k h c = l.reading.answered q ((held_done n path tops h (led_held n path tops k (omega arith))).asked q c)
+
+pub level_whole :
+    (told : Told) (first : List ℕ) (source : List Top) (begin : ℕ) (r : Reader) → IsLevel told first source most begin r → r.refused ≡ None
+    → IsReadWhole told (source_of first source r)
+level_whole told first source begin r l none = λ n path tops q k h c. pick q (all_answered told first source most begin r l n path tops q k h c)
+  where
+    pick : (q : List ℕ) → IsAnswered told r q → ((inner : List Top) × (tops_at r.texts.items q ≡ Some inner)) ⊎ IsMissing told q
+    pick q (inl s) = absurd (let b : IsSome {T = FilesFault} None = subst (λ (z : Option FilesFault). IsSome z) none s in cc)
+    pick q (inr a) = a
+
+pub level_read :
+    (told : Told) (first : List ℕ) (source : List Top) (begin : ℕ) (r : Reader) → IsLevel told first source most begin r
+    → (t : Included) → Contains r.texts.items t → IsRead told (source_of first source r) t
+level_read told first source begin r l t c =
+    let e : slice_get r.texts.items c.0 ≡ Some t = slice_get-get_or r.texts.items c.0 t c.1 ∙ ap (λ (z : Included). Some z) c.2 in
+    let i = l.reading.entry c.0 t e in
+    record { depth = depth_at r c.0; shallow = l.reading.bounded c.0; leads = i.leads; spelled = i.spelled }
+
+-- The whole reading, from a reader that has read nothing.
+pub levels_read :
+    (told after : Told) (first : List ℕ) (source : List Top) (named : List (List ℕ)) (texts : Vec Included Global) (depths : Vec ℕ Global)
+    (asked : BTreeSet (List ℕ)) (middle new : Reader) → texts.items ≡ [] → depths.items ≡ [] → IsEmpty asked → named ≡ targets first source
+    → after ≡ told → AsksAll told named 1 (record { texts = texts; depths = depths; asked = asked; refused = None }) middle
+    → ReadsAll after most middle new → (begin : ℕ) × IsLevel told first source most begin new
+levels_read told after first source named texts depths asked middle new et ed ea same kept a l =
+    let f : IsFresh (record { texts = texts; depths = depths; asked = asked; refused = None }) =
+    record { texts = et; depths = ed; asked = ea; refused = refl } in
+    let b = first_level told first source named (record { texts = texts; depths = depths; asked = asked; refused = None }) middle f same a in
+    let m = subst (λ (z : Told). ReadsAll z most middle new) kept l in
+    (m.begin, m.reads first source b)

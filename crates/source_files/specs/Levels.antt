@@ -1,0 +1,53 @@
+-- What is known as the texts are read, one depth after the other.
+use Rattle.std.specs.Prelude.{◌≡◌, ℕ, suc, ◌≤◌, ◌<◌, List, true, length, Some, slice_get}
+use Rattle.std.specs.List.{Contains}
+use Rattle.inf_ports.specs.Outside.{Told}
+use Rattle.limbo_tree.specs.declared.source.Top.{Top}
+use Rattle.limbo_includes.specs.declared.included.Included.{Included}
+use Rattle.source_files.specs.declared.reader.Reader.{Reader}
+use Rattle.source_files.specs.Reading.{targets, is_asked, depth_at, IsReading, Later}
+
+-- All that a text of this depth names was asked for, and no text at such a path has a depth greater by more than one.
+pub record IsDone (path : List ℕ) (tops : List Top) (depth : ℕ) (r : Reader) : Type 0 where
+  pub asked : (q : List ℕ) → Contains (targets path tops) q → is_asked r q ≡ true
+  pub near : (q : List ℕ) (i : ℕ) (t : Included) → Contains (targets path tops) q → slice_get r.texts.items i ≡ Some t → t.path ≡ q
+      → depth_at r i ≤ suc depth
+
+-- The given source is done, and so are the first of the texts, this many.
+pub record IsDoneTo (first : List ℕ) (source : List Top) (count : ℕ) (r : Reader) : Type 0 where
+  pub given : IsDone first source 0 r
+  pub each : (i : ℕ) (t : Included) → i < count → slice_get r.texts.items i ≡ Some t → IsDone t.path t.tree.tops.items (depth_at r i) r
+
+-- All texts of less than this depth are done; those of this depth stand from here on.
+pub record IsLevel (told : Told) (first : List ℕ) (source : List Top) (depth begin : ℕ) (r : Reader) : Type 0 where
+  pub reading : IsReading told first source depth r
+  pub done : IsDoneTo first source begin r
+  pub last : (i : ℕ) (t : Included) → slice_get r.texts.items i ≡ Some t → begin ≤ i → depth_at r i ≡ depth
+
+-- The same within a level: the texts that stand before the index are done; those of this depth end at `end`, and after them stand
+-- those of the next depth.
+pub record IsAmid (told : Told) (first : List ℕ) (source : List Top) (depth index end : ℕ) (r : Reader) : Type 0 where
+  pub reading : IsReading told first source (suc depth) r
+  pub done : IsDoneTo first source index r
+  pub middle : (i : ℕ) (t : Included) → slice_get r.texts.items i ≡ Some t → index ≤ i → i < end → depth_at r i ≡ depth
+  pub last : (i : ℕ) (t : Included) → slice_get r.texts.items i ≡ Some t → end ≤ i → depth_at r i ≡ suc depth
+
+-- What a text of the depth before names was read.
+pub record ReadsFrom (told : Told) (index depth : ℕ) (old new : Reader) : Type 0 where
+  pub longer : length old.texts.items ≤ length new.texts.items
+  pub reads :
+      (first : List ℕ) (source : List Top) (t : Included) → slice_get old.texts.items index ≡ Some t → depth ≡ suc (depth_at old index)
+      → IsReading told first source depth old
+      → IsReading told first source depth new × Later depth old new × IsDone t.path t.tree.tops.items (depth_at old index) new
+
+-- What the texts of the depth before name was read; those of this depth stand from `end` on.
+pub record Raises (told : Told) (begin end depth : ℕ) (old new : Reader) : Type 0 where
+  pub raises :
+      (first : List ℕ) (source : List Top) (before : ℕ) → depth ≡ suc before → IsLevel told first source before begin old
+      → IsLevel told first source depth end new
+
+-- From the texts to which one include leads, all are read up to the deepest.
+pub record ReadsAll (told : Told) (deepest : ℕ) (old new : Reader) : Type 0 where
+  pub begin : ℕ
+  pub reads :
+      (first : List ℕ) (source : List Top) → IsLevel told first source 1 0 old → IsLevel told first source deepest begin new
