@@ -12,15 +12,15 @@ use Rattle.inf_text.specs.declared.span.Span.{Span}
 use Rattle.limbo_tree.specs.declared.source.Top.{Top}
 use Rattle.limbo_tree.specs.declared.source.Top.TheVariants.{Include, Declare, Define}
 use Rattle.limbo_includes.specs.declared.included.Included.{Included}
-use Rattle.limbo_includes.specs.Includes.{target, tops_at, Leads, to_given, to_included, most}
+use Rattle.limbo_includes.specs.Includes.{target, tops_at, Leads, to_given, to_included, most, Given}
 use Rattle.source_files.specs.declared.reader.Reader.{Reader}
 use Rattle.std.specs.Option.{IfSome}
-use Rattle.source_files.specs.Files.{IsMissing, IsBlamed, IsRefusal}
+use Rattle.source_files.specs.Files.{IsMissing, IsBlamed, IsRefusal, AtPath}
 use Rattle.source_files.specs.declared.fault.FilesFault.{FilesFault}
 use Rattle.source_files.specs.declared.fault.FilesFault.TheVariants as fault
-use Rattle.source_files.specs.Reading.{targets, is_asked, depth_at, source_of, IsAnswered, IsReading, IsKept, IsNew, Later, AsksAll, IsRead, IsReadWhole}
+use Rattle.source_files.specs.Reading.{targets, is_asked, depth_at, source_of, IsReached, IsReachable, IsOfAsked, IsNamedBy, IsAnswered, IsReading, IsKept, IsNew, Later, AsksAll, IsRead, IsReadWhole}
 use Rattle.source_files.specs.Levels.{IsDone, IsLevel, IsAmid, ReadsFrom, ReadsAll}
-use Rattle.source_files.proofs.Readers.{tops_of}
+use Rattle.source_files.proofs.Readers.{tops_of, at_path_weaker}
 
 -- ---- refusals
 
@@ -93,7 +93,9 @@ fresh_reading told first source r f = record {
   bounded = λ i. subst (λ (z : List ℕ). get_or z i 0 ≤ 1) (sym f.depths) (omega arith);
   entry = λ i t e. absurd (nothing_there r f i t e);
   answered = λ q h. absurd (nothing_asked r f q h);
+  reached = λ q h. absurd (nothing_asked r f q h);
   blamed = subst (λ (z : Option FilesFault). IfSome z (λ e. IsBlamed told e)) (sym f.refused) tt;
+  owned = subst (λ (z : Option FilesFault). IfSome z (IsOfAsked r)) (sym f.refused) tt;
 }
 
 pub first_level :
@@ -115,6 +117,16 @@ first_level told first source named old new f same a =
 
 -- ---- one depth
 
+reached_deeper : (g : Given) (m n : ℕ) (q : List ℕ) → m ≤ n → IsReached g m q → IsReached g n q
+reached_deeper g m n q h i = record {
+  depth = i.depth;
+  path = i.path;
+  tops = i.tops;
+  leads = i.leads;
+  above = let b = i.above in omega arith;
+  named = i.named;
+}
+
 pub amid_begins : (told : Told) (first : List ℕ) (source : List Top) (depth begin : ℕ) (r : Reader) → (end : ℕ) → end ≡ length r.texts.items
     → IsLevel told first source depth begin r → IsAmid told first source depth begin end r
 amid_begins told first source depth begin r end w l = record {
@@ -123,7 +135,9 @@ amid_begins told first source depth begin r end w l = record {
     bounded = λ i. let b = l.reading.bounded i in omega arith;
     entry = l.reading.entry;
     answered = l.reading.answered;
+    reached = λ q h. reached_deeper (source_of first source r) depth (suc depth) q (omega arith) (l.reading.reached q h);
     blamed = l.reading.blamed;
+    owned = l.reading.owned;
   };
   done = l.done;
   middle = λ i t e b h. l.last i t e b;
@@ -183,6 +197,67 @@ amid_ends told first source depth index end r h a = record {
   done = record { given = a.done.given; each = λ i t b e. a.done.each i t (omega arith) e };
   last = a.last;
 }
+
+reading_texts :
+    (told : Told) (first : List ℕ) (source : List Top) (bound : ℕ) (r : Reader) → bound ≤ most → IsReading told first source bound r
+    → (t : Included) → Contains r.texts.items t → IsRead told (source_of first source r) t
+reading_texts told first source bound r h l t c =
+    let e : slice_get r.texts.items c.0 ≡ Some t = slice_get-get_or r.texts.items c.0 t c.1 ∙ ap (λ (z : Included). Some z) c.2 in
+    let i = l.entry c.0 t e in
+    let b = l.bounded c.0 in
+    record { depth = depth_at r c.0; shallow = omega (arith, b, h); leads = i.leads; spelled = i.spelled }
+
+-- The refusal that ends the reading within a depth.
+pub amid_refused :
+    (told : Told) (first : List ℕ) (source : List Top) (depth index end : ℕ) (r : Reader) (e : FilesFault) → suc depth ≤ most → index < end
+    → IsAmid told first source depth index end r → AtPath (IsNamedBy r index) e → AtPath (IsReachable told first source) e
+amid_refused told first source depth index end r e h b a = at_path_weaker (IsNamedBy r index) (IsReachable told first source) e reach
+  where
+    reach : (q : List ℕ) → IsNamedBy r index q → IsReachable told first source q
+    reach q (t, there, named) = record {
+      included = r.texts.items;
+      read = reading_texts told first source (suc depth) r h a.reading;
+      reached = record {
+        depth = depth_at r index;
+        path = t.path;
+        tops = t.tree.tops.items;
+        leads = (a.reading.entry index t there).leads;
+        above = let d = a.middle index t there (omega arith) b in omega arith;
+        named = named;
+      };
+    }
+
+-- The refusal that is kept to the end.
+pub level_refused :
+    (told : Told) (first : List ℕ) (source : List Top) (begin : ℕ) (r : Reader) (e : FilesFault) → IsLevel told first source most begin r
+    → r.refused ≡ Some e → AtPath (IsReachable told first source) e
+level_refused told first source begin r e l is =
+    at_path_weaker (λ q. is_asked r q ≡ true) (IsReachable told first source) e
+    (λ q h. record {
+      included = r.texts.items;
+      read = reading_texts told first source most r (omega arith) l.reading;
+      reached = l.reading.reached q h;
+    })
+    (subst (λ (z : Option FilesFault). IfSome z (IsOfAsked r)) is l.reading.owned)
+
+-- The refusal that ends the reading of the texts that the given source names.
+pub first_refused :
+    (told : Told) (first : List ℕ) (source : List Top) (named : List (List ℕ)) (e : FilesFault) → named ≡ targets first source
+    → AtPath (Contains named) e → AtPath (IsReachable told first source) e
+first_refused told first source named e same =
+    at_path_weaker (Contains named) (IsReachable told first source) e
+    (λ q c. record {
+      included = [];
+      read = λ t k. let b = k.1 in absurd (omega arith);
+      reached = record {
+        depth = 0;
+        path = first;
+        tops = source;
+        leads = to_given;
+        above = omega arith;
+        named = subst (λ (z : List (List ℕ)). Contains z q) same c;
+      };
+    })
 
 -- ---- the whole
 
@@ -262,20 +337,23 @@ level_whole told first source begin r l none = λ n path tops q k h c. pick q (a
 pub level_read :
     (told : Told) (first : List ℕ) (source : List Top) (begin : ℕ) (r : Reader) → IsLevel told first source most begin r
     → (t : Included) → Contains r.texts.items t → IsRead told (source_of first source r) t
-level_read told first source begin r l t c =
-    let e : slice_get r.texts.items c.0 ≡ Some t = slice_get-get_or r.texts.items c.0 t c.1 ∙ ap (λ (z : Included). Some z) c.2 in
-    let i = l.reading.entry c.0 t e in
-    record { depth = depth_at r c.0; shallow = l.reading.bounded c.0; leads = i.leads; spelled = i.spelled }
+level_read told first source begin r l = reading_texts told first source most r (omega arith) l.reading
 
--- The whole reading, from a reader that has read nothing.
-pub levels_read :
-    (told after : Told) (first : List ℕ) (source : List Top) (named : List (List ℕ)) (texts : Vec Included Global) (depths : Vec ℕ Global)
-    (asked : BTreeSet (List ℕ)) (middle new : Reader) → texts.items ≡ [] → depths.items ≡ [] → IsEmpty asked → named ≡ targets first source
-    → after ≡ told → AsksAll told named 1 (record { texts = texts; depths = depths; asked = asked; refused = None }) middle
-    → ReadsAll after most middle new → (begin : ℕ) × IsLevel told first source most begin new
-levels_read told after first source named texts depths asked middle new et ed ea same kept a l =
+-- What the given source names was read, by a reader that had read nothing.
+pub source_read :
+    (told : Told) (first : List ℕ) (source : List Top) (named : List (List ℕ)) (texts : Vec Included Global) (depths : Vec ℕ Global)
+    (asked : BTreeSet (List ℕ)) (middle : Reader) → texts.items ≡ [] → depths.items ≡ [] → IsEmpty asked → named ≡ targets first source
+    → AsksAll told named 1 (record { texts = texts; depths = depths; asked = asked; refused = None }) middle
+    → IsLevel told first source 1 0 middle
+source_read told first source named texts depths asked middle et ed ea same a =
     let f : IsFresh (record { texts = texts; depths = depths; asked = asked; refused = None }) =
     record { texts = et; depths = ed; asked = ea; refused = refl } in
-    let b = first_level told first source named (record { texts = texts; depths = depths; asked = asked; refused = None }) middle f same a in
-    let m = subst (λ (z : Told). ReadsAll z most middle new) kept l in
-    (m.begin, m.reads first source b)
+    first_level told first source named (record { texts = texts; depths = depths; asked = asked; refused = None }) middle f same a
+
+-- All was read, from there on.
+pub all_read :
+    (told after : Told) (first : List ℕ) (source : List Top) (middle new : Reader) → IsLevel told first source 1 0 middle → after ≡ told
+    → ReadsAll after most middle new → (begin : ℕ) × IsLevel told first source most begin new
+all_read told after first source middle new l kept a =
+    let m = subst (λ (z : Told). ReadsAll z most middle new) kept a in
+    (m.begin, m.reads first source l)

@@ -19,9 +19,10 @@ use Rattle.limbo_tree.specs.declared.source.Top.TheVariants.{Include, Declare, D
 use Rattle.limbo_includes.specs.declared.included.Included.{Included}
 use Rattle.limbo_includes.specs.Includes.{is_same, target, tops_at, Leads, to_given, to_included}
 use Rattle.source_files.specs.declared.reader.Reader.{Reader}
-use Rattle.source_files.specs.Files.{IsMissing, IsBlamed, IsSpelled, IsRefusal}
+use Rattle.source_files.specs.Files.{IsMissing, IsBlamed, IsSpelled, IsRefusal, AtPath}
 use Rattle.source_files.specs.declared.fault.FilesFault.{FilesFault}
-use Rattle.source_files.specs.Reading.{targets, is_asked, depth_at, source_of, IsAnswered, IsReading, IsKept, Later, Settles, stays, grows, Asks, Adds, Keeps, Marks}
+use Rattle.source_files.specs.declared.fault.FilesFault.TheVariants as fault
+use Rattle.source_files.specs.Reading.{targets, is_asked, depth_at, source_of, IsReached, IsOfAsked, IsAnswered, IsReading, IsKept, Later, Settles, stays, grows, Asks, Adds, Keeps, Marks}
 
 -- ---- lists that grow at their end
 
@@ -96,6 +97,22 @@ leads_more first source old new f _ _ _ to_given = to_given
 leads_more first source old new f _ _ _ (to_included n path name at tops inner l c e) =
     to_included n path name at tops inner (leads_more first source old new f n path tops l) c (f (target path name) inner e)
 
+pub at_path_weaker : (P Q : List ℕ → Type 0) (e : FilesFault) → ((p : List ℕ) → P p → Q p) → AtPath P e → AtPath Q e
+at_path_weaker P Q fault.NoMemory f i = tt
+at_path_weaker P Q (fault.Failed p) f i = f p i
+at_path_weaker P Q (fault.Lex p x) f i = f p i
+at_path_weaker P Q (fault.Parse p x span) f i = f p i
+
+-- a refusal that is kept while more is asked for
+owned_later :
+    (old new : Reader) (o p : Option FilesFault) → p ≡ o → ((q : List ℕ) → is_asked old q ≡ true → is_asked new q ≡ true)
+    → IfSome o (IsOfAsked old) → IfSome p (IsOfAsked new)
+owned_later old new o p e f i = subst (λ (z : Option FilesFault). IfSome z (IsOfAsked new)) (sym e) (pick o i)
+  where
+    pick : (o : Option FilesFault) → IfSome o (IsOfAsked old) → IfSome o (IsOfAsked new)
+    pick None i = tt
+    pick (Some x) i = at_path_weaker (λ q. is_asked old q ≡ true) (λ q. is_asked new q ≡ true) x f i
+
 -- what is asked for next, by a text that is led to
 module _ (told : Told) (first : List ℕ) (source : List Top) (path : List ℕ) (depth : ℕ) (old new : Reader) (a : Asks told path depth old new) (r : IsReading told first source depth old) where
   widen :
@@ -104,6 +121,18 @@ module _ (told : Told) (first : List ℕ) (source : List Top) (path : List ℕ) 
   widen f q (inl s) = inl (a.refused s)
   widen f q (inr (inl (x, e))) = inr (inl (x, f q x e))
   widen f q (inr (inr m)) = inr (inr m)
+
+  reach :
+      ((p : List ℕ) (x : List Top) → tops_at old.texts.items p ≡ Some x → tops_at new.texts.items p ≡ Some x)
+      → (q : List ℕ) → IsReached (source_of first source old) depth q → IsReached (source_of first source new) depth q
+  reach f q i = record {
+    depth = i.depth;
+    path = i.path;
+    tops = i.tops;
+    leads = leads_more first source old new f i.depth i.path i.tops i.leads;
+    above = i.above;
+    named = i.named;
+  }
 
   -- what is known of a new entry
   record IsOwn (i : ℕ) (t : Included) : Type 0 where
@@ -115,8 +144,8 @@ module _ (told : Told) (first : List ℕ) (source : List Top) (path : List ℕ) 
       ((p : List ℕ) (x : List Top) → tops_at old.texts.items p ≡ Some x → tops_at new.texts.items p ≡ Some x)
       → length new.depths.items ≡ length new.texts.items → ((i : ℕ) → depth_at new i ≤ depth)
       → ((i : ℕ) (t : Included) → slice_get new.texts.items i ≡ Some t → IsKept new old i t ⊎ IsOwn i t)
-      → IsAnswered told new path → IsReading told first source depth new
-  reading_from f s b c w = record {
+      → IsReached (source_of first source old) depth path → IsAnswered told new path → IsReading told first source depth new
+  reading_from f s b c h w = record {
     same_length = s;
     bounded = b;
     entry = λ i t e. elim (c i t e) [
@@ -131,21 +160,26 @@ module _ (told : Told) (first : List ℕ) (source : List Top) (path : List ℕ) 
           }
       | inr o ↦ record { leads = o.leads; spelled = o.spelled; asked = subst (λ (z : List ℕ). is_asked new z ≡ true) (sym o.here) a.asks }
     ];
-    answered = λ q h. elim (a.only q h) [
+    answered = λ q i. elim (a.only q i) [
       | inl o ↦ widen f q (r.answered q o)
       | inr e ↦ subst (λ (z : List ℕ). IsAnswered told new z) (sym e) w
     ];
+    reached = λ q i. elim (a.only q i) [
+      | inl o ↦ reach f q (r.reached q o)
+      | inr e ↦ subst (λ (z : List ℕ). IsReached (source_of first source new) depth z) (sym e) (reach f path h)
+    ];
     blamed = a.blamed r.blamed;
+    owned = a.owned r.owned;
   }
 
   -- no text was added
   reading_stays :
-      new.texts.items ≡ old.texts.items → new.depths.items ≡ old.depths.items → (is_asked old path ≡ true) ⊎ (IsSome new.refused ⊎ IsMissing told path)
+      IsReached (source_of first source old) depth path → new.texts.items ≡ old.texts.items → new.depths.items ≡ old.depths.items → (is_asked old path ≡ true) ⊎ (IsSome new.refused ⊎ IsMissing told path)
       → IsReading told first source depth new × Later depth old new
-  reading_stays te de s = (
+  reading_stays h te de s = (
     reading_from same (ap length de ∙ r.same_length ∙ ap length (sym te)) (λ i. subst (λ (z : List ℕ). get_or z i 0 ≤ depth) (sym de) (r.bounded i))
         (λ i t e. inl (record { there = subst (λ (z : List Included). slice_get z i ≡ Some t) te e; depth = ap (λ (z : List ℕ). get_or z i 0) (sym de) }))
-        (now s),
+        h (now s),
     record {
       asked = a.mono;
       kept = λ i t e. record { there = subst (λ (z : List Included). slice_get z i ≡ Some t) (sym te) e; depth = ap (λ (z : List ℕ). get_or z i 0) de };
@@ -164,16 +198,16 @@ module _ (told : Told) (first : List ℕ) (source : List Top) (path : List ℕ) 
 
   -- a text was added, which a text names that one include fewer leads to
   reading_grows :
-      (n : ℕ) (p : List ℕ) (tops : List Top) → Leads (source_of first source old) n p tops → depth ≡ suc n
+      IsReached (source_of first source old) depth path → (n : ℕ) (p : List ℕ) (tops : List Top) → Leads (source_of first source old) n p tops → depth ≡ suc n
       → (name : List ℕ) (at : Span) → Contains tops (Include name at) → path ≡ target p name
       → (tree : Source) → is_asked old path ≡ false
       → new.texts.items ≡ old.texts.items ++ record { path = path; tree = tree } ∷ []
       → new.depths.items ≡ old.depths.items ++ depth ∷ [] → IsSpelled told path (view_source tree)
       → IsReading told first source depth new × Later depth old new
-  reading_grows n p tops l d name at c q tree fresh te de spelled = (
+  reading_grows h n p tops l d name at c q tree fresh te de spelled = (
     reading_from more (ap length de ∙ length-append old.depths.items (depth ∷ []) ∙ ap (λ (z : ℕ). z + 1) r.same_length ∙ sym (length-append old.texts.items (t ∷ [])) ∙ ap length (sym te))
         (λ i. subst (λ (z : List ℕ). get_or z i 0 ≤ depth) (sym de) (bounded_more old.depths.items depth i (r.bounded i)))
-        cases
+        cases h
         (inr (inl (tree.tops.items, own))),
     record {
       asked = a.mono;
@@ -243,6 +277,7 @@ asks_seen told path depth old new m = record {
   settled = stays (ap (λ (z : Vec Included Global). z.items) m.texts) (ap (λ (z : Vec ℕ Global). z.items) m.depths) (inl m.before);
   refused = subst (λ (z : Option FilesFault). IsSome z) (sym m.refused);
   blamed = subst (λ (z : Option FilesFault). IfSome z (λ e. IsBlamed told e)) (sym m.refused);
+  owned = owned_later old new old.refused new.refused m.refused m.mono;
 }
 
 pub asks_missing : (told : Told) (path : List ℕ) (depth : ℕ) (old new : Reader) → Marks path true old new → IsMissing told path → Asks told path depth old new
@@ -253,6 +288,7 @@ asks_missing told path depth old new m i = record {
   settled = stays (ap (λ (z : Vec Included Global). z.items) m.texts) (ap (λ (z : Vec ℕ Global). z.items) m.depths) (inr (inr i));
   refused = subst (λ (z : Option FilesFault). IsSome z) (sym m.refused);
   blamed = subst (λ (z : Option FilesFault). IfSome z (λ e. IsBlamed told e)) (sym m.refused);
+  owned = owned_later old new old.refused new.refused m.refused m.mono;
 }
 
 pub asks_kept :
@@ -267,12 +303,13 @@ asks_kept told path depth old mid new tree m k s =
       settled = grows tree m.before (k.texts ∙ ap (λ (z : Vec Included Global). z.items ++ record { path = path; tree = tree } ∷ []) m.texts) (k.depths ∙ ap (λ (z : Vec ℕ Global). z.items ++ depth ∷ []) m.depths) s;
       refused = subst (λ (z : Option FilesFault). IsSome z) (sym (k.refused ∙ m.refused));
       blamed = subst (λ (z : Option FilesFault). IfSome z (λ e. IsBlamed told e)) (sym (k.refused ∙ m.refused));
+      owned = owned_later old new old.refused new.refused (k.refused ∙ m.refused) (λ q h. asked q ∙ m.mono q h);
     }
 
 pub asks_refused :
     (told : Told) (path : List ℕ) (depth : ℕ) (old mid new : Reader) (f : FilesFault) (before now : ℕ) → Marks path true old mid
-    → Keeps f mid new → IsRefusal told before now f → Asks told path depth old new
-asks_refused told path depth old mid new f before now m k i =
+    → Keeps f mid new → IsRefusal told before now f → AtPath (λ p. p ≡ path) f → Asks told path depth old new
+asks_refused told path depth old mid new f before now m k i own =
     let asked : (q : List ℕ) → is_asked new q ≡ is_asked mid q = λ q. ap (λ (z : BTreeSet (List ℕ)). contains (slice_cmp nat_cmp) z q) k.asked in
     record {
       asks = asked path ∙ m.asks;
@@ -280,6 +317,9 @@ asks_refused told path depth old mid new f before now m k i =
       only = λ q h. m.only q (sym (asked q) ∙ h);
       settled = stays (ap (λ (z : Vec Included Global). z.items) (k.texts ∙ m.texts)) (ap (λ (z : Vec ℕ Global). z.items) (k.depths ∙ m.depths)) (inr (inl k.some));
       refused = λ s. k.some;
+      owned = λ b. k.owned
+          (at_path_weaker (λ q. q ≡ path) (λ q. is_asked mid q ≡ true) f (λ q e. subst (λ (z : List ℕ). is_asked mid z ≡ true) (sym e) m.asks) own)
+          (owned_later old mid old.refused mid.refused m.refused m.mono b);
       blamed = λ b. k.blamed told before now i (subst (λ (z : Option FilesFault). IfSome z (λ e. IsBlamed told e)) (sym m.refused) b);
     }
 
@@ -310,11 +350,14 @@ pub reading_asks :
     → Contains (targets p tops) path → IsReading told first source depth new × Later depth old new
 reading_asks told first source path depth old new a r n p tops l d c = pick a.settled
   where
+    h : IsReached (source_of first source old) depth path
+    h = record { depth = n; path = p; tops = tops; leads = l; above = omega arith; named = c }
+
     pick : Settles told path depth old new → IsReading told first source depth new × Later depth old new
-    pick (stays te de s) = reading_stays told first source path depth old new a r te de s
+    pick (stays te de s) = reading_stays told first source path depth old new a r h te de s
     pick (grows tree fresh te de s) =
         let i = named_include p tops path c in
-        reading_grows told first source path depth old new a r n p tops l d i.name i.at i.stands i.is tree fresh te de s
+        reading_grows told first source path depth old new a r h n p tops l d i.name i.at i.stands i.is tree fresh te de s
 
 unasked : (old mid : Reader) (p : List ℕ) → ((q : List ℕ) → is_asked old q ≡ true → is_asked mid q ≡ true) → is_asked mid p ≡ false → is_asked old p ≡ false
 unasked old mid p f h = pick (is_asked old p) refl

@@ -39,6 +39,13 @@ abbrev pub IsRefusalOf : List ℕ → TextFault → FilesFault → Type 0
 IsRefusalOf path f e =
     (told : Told) (bytes : List ℕ) (before now : ℕ) → Gives told path bytes → IsTextFault bytes f → IsRefusal told before now e
 
+-- A refusal is of the text at a path of which this holds; want of memory is of none.
+abbrev pub AtPath : (List ℕ → Type 0) → FilesFault → Type 0
+AtPath P fault.NoMemory = Unit {0}
+AtPath P (fault.Failed path) = P path
+AtPath P (fault.Lex path f) = P path
+AtPath P (fault.Parse path f span) = P path
+
 -- What stands at a path is no included text, and why: a refusal that is kept while others are read.
 abbrev pub IsBlamed : Told → FilesFault → Type 0
 IsBlamed told fault.NoMemory = ⊥

@@ -4,8 +4,11 @@ use Rattle.std.specs.List.{Contains}
 use Rattle.inf_ports.specs.Outside.{Told}
 use Rattle.limbo_tree.specs.declared.source.Top.{Top}
 use Rattle.limbo_includes.specs.declared.included.Included.{Included}
+use Rattle.limbo_includes.specs.Includes.{most}
+use Rattle.source_files.specs.Files.{AtPath}
+use Rattle.source_files.specs.declared.fault.FilesFault.{FilesFault}
 use Rattle.source_files.specs.declared.reader.Reader.{Reader}
-use Rattle.source_files.specs.Reading.{targets, is_asked, depth_at, IsReading, Later}
+use Rattle.source_files.specs.Reading.{targets, is_asked, depth_at, IsReachable, IsReading, Later}
 
 -- All that a text of this depth names was asked for, and no text at such a path has a depth greater by more than one.
 pub record IsDone (path : List ℕ) (tops : List Top) (depth : ℕ) (r : Reader) : Type 0 where
@@ -51,3 +54,14 @@ pub record ReadsAll (told : Told) (deepest : ℕ) (old new : Reader) : Type 0 wh
   pub begin : ℕ
   pub reads :
       (first : List ℕ) (source : List Top) → IsLevel told first source 1 0 old → IsLevel told first source deepest begin new
+
+-- The refusal that ends a level is of a text that includes lead to, where the level is none of the too deep.
+abbrev pub RaisesTo : Told → ℕ → ℕ → Reader → FilesFault → Type 0
+RaisesTo told begin depth old e =
+    (first : List ℕ) (source : List Top) (before : ℕ) → depth ≡ suc before → depth ≤ most → IsLevel told first source before begin old
+    → AtPath (IsReachable told first source) e
+
+-- The refusal that ends the reading of all levels.
+abbrev pub ReadsTo : Told → Reader → FilesFault → Type 0
+ReadsTo told old e =
+    (first : List ℕ) (source : List Top) → IsLevel told first source 1 0 old → AtPath (IsReachable told first source) e

@@ -13,7 +13,7 @@ use Rattle.limbo_tree.specs.View.{view_source}
 use Rattle.limbo_includes.specs.declared.included.Included.{Included}
 use Rattle.limbo_includes.specs.Includes.{target, tops_at, Given, Leads, most}
 use Rattle.source_files.specs.declared.reader.Reader.{Reader}
-use Rattle.source_files.specs.Files.{IsMissing, IsSpelled, IsBlamed, IsRefusal}
+use Rattle.source_files.specs.Files.{IsMissing, IsSpelled, IsBlamed, IsRefusal, AtPath}
 use Rattle.source_files.specs.declared.fault.FilesFault.{FilesFault}
 
 -- The paths of the texts that includes name, in order.
@@ -36,6 +36,21 @@ IsReadWhole told g =
     (n : ℕ) (path : List ℕ) (tops : List Top) (q : List ℕ) → Leads g n path tops → n < most → Contains (targets path tops) q
     → ((inner : List Top) × (tops_at g.included q ≡ Some inner)) ⊎ IsMissing told q
 
+-- An include names this path, in a text to which fewer includes than this lead.
+pub record IsReached (g : Given) (most_above : ℕ) (q : List ℕ) : Type 0 where
+  pub depth : ℕ
+  pub path : List ℕ
+  pub tops : List Top
+  pub leads : Leads g depth path tops
+  pub above : depth < most_above
+  pub named : Contains (targets path tops) q
+
+-- An include names this path, in a text to which fewer than the most includes lead, through texts that were read.
+pub record IsReachable (told : Told) (first : List ℕ) (source : List Top) (q : List ℕ) : Type 0 where
+  pub included : List Included
+  pub read : (t : Included) → Contains included t → IsRead told (record { path = first; source = source; included = included }) t
+  pub reached : IsReached (record { path = first; source = source; included = included }) most q
+
 -- ---- the reader
 
 abbrev pub is_asked : Reader → List ℕ → Bool
@@ -57,12 +72,22 @@ pub record IsEntry (told : Told) (first : List ℕ) (source : List Top) (r : Rea
 abbrev pub IsAnswered : Told → Reader → List ℕ → Type 0
 IsAnswered told r path = IsSome r.refused ⊎ (((inner : List Top) × (tops_at r.texts.items path ≡ Some inner)) ⊎ IsMissing told path)
 
+-- A refusal of a text that was asked for.
+abbrev pub IsOfAsked : Reader → FilesFault → Type 0
+IsOfAsked r e = AtPath (λ p. is_asked r p ≡ true) e
+
+-- The text with this number names the path.
+abbrev pub IsNamedBy : Reader → ℕ → List ℕ → Type 0
+IsNamedBy r i q = (t : Included) × (slice_get r.texts.items i ≡ Some t) × Contains (targets t.path t.tree.tops.items) q
+
 pub record IsReading (told : Told) (first : List ℕ) (source : List Top) (bound : ℕ) (r : Reader) : Type 0 where
   pub same_length : length r.depths.items ≡ length r.texts.items
   pub bounded : (i : ℕ) → depth_at r i ≤ bound
   pub entry : (i : ℕ) (t : Included) → slice_get r.texts.items i ≡ Some t → IsEntry told first source r i t
   pub answered : (path : List ℕ) → is_asked r path ≡ true → IsAnswered told r path
+  pub reached : (path : List ℕ) → is_asked r path ≡ true → IsReached (source_of first source r) bound path
   pub blamed : IfSome r.refused (λ e. IsBlamed told e)
+  pub owned : IfSome r.refused (IsOfAsked r)
 
 -- The same entry.
 pub record IsKept (old new : Reader) (i : ℕ) (t : Included) : Type 0 where
@@ -98,6 +123,7 @@ pub record Asks (told : Told) (path : List ℕ) (depth : ℕ) (old new : Reader)
   pub settled : Settles told path depth old new
   pub refused : IsSome old.refused → IsSome new.refused
   pub blamed : IfSome old.refused (λ e. IsBlamed told e) → IfSome new.refused (λ e. IsBlamed told e)
+  pub owned : IfSome old.refused (IsOfAsked old) → IfSome new.refused (IsOfAsked new)
 
 -- The same of several paths, which one text names.
 pub record AsksAll (told : Told) (named : List (List ℕ)) (depth : ℕ) (old new : Reader) : Type 0 where
@@ -124,6 +150,7 @@ pub record Keeps (f : FilesFault) (old new : Reader) : Type 0 where
   pub some : IsSome new.refused
   pub blamed : (told : Told) (before now : ℕ) → IsRefusal told before now f
       → IfSome old.refused (λ e. IsBlamed told e) → IfSome new.refused (λ e. IsBlamed told e)
+  pub owned : IsOfAsked old f → IfSome old.refused (IsOfAsked old) → IfSome new.refused (IsOfAsked new)
 
 -- A path is asked for: it is new, or was asked for before.
 pub record Marks (path : List ℕ) (fresh : Bool) (old new : Reader) : Type 0 where

@@ -1,8 +1,9 @@
 //! The texts of one depth after the other.
 
 ghost use Rattle.std.specs.Prelude.{◌≡◌, ◌<◌, ◌≤◌, length, IfOk, IfErr, OnOk};
-ghost use Rattle.source_files.specs.Files.{IsRefusal};
-ghost use Rattle.source_files.specs.Levels.{ReadsFrom, Raises, ReadsAll};
+ghost use Rattle.source_files.specs.Files.{AtPath, IsRefusal};
+ghost use Rattle.source_files.specs.Reading.{IsNamedBy};
+ghost use Rattle.source_files.specs.Levels.{ReadsFrom, Raises, RaisesTo, ReadsAll, ReadsTo};
 
 use crate::fault::FilesFault;
 use crate::reader::{Reader, named_in, read_all};
@@ -23,6 +24,7 @@ fn read_from<H: HostTree>(
     requires { index < length reader.old.texts.items }
     ensures reads { OnOk result (ReadsFrom (H.told files.old) index depth reader.old reader.new) }
     ensures refused { IfErr result (λ e. IsRefusal (H.told files.old) (H.faults files.old) (H.faults files.new) e) }
+    ensures own { IfErr result (AtPath (λ p. IsNamedBy reader.old index p)) }
     ensures kept { H.told files.new ≡ H.told files.old }
     ensures later { H.faults files.old ≤ H.faults files.new }
 {
@@ -41,6 +43,7 @@ fn read_level<H: HostTree>(
 ) -> Result<usize, FilesFault>
     ensures raises { IfOk result (λ end. Raises (H.told files.old) begin end depth reader.old reader.new) }
     ensures refused { IfErr result (λ e. IsRefusal (H.told files.old) (H.faults files.old) (H.faults files.new) e) }
+    ensures own { IfErr result (RaisesTo (H.told files.old) begin depth reader.old) }
     ensures kept { H.told files.new ≡ H.told files.old }
     ensures later { H.faults files.old ≤ H.faults files.new }
 {
@@ -62,6 +65,7 @@ pub(crate) fn read_levels<H: HostTree>(
 ) -> Result<(), FilesFault>
     ensures reads { OnOk result (ReadsAll (H.told files.old) MOST reader.old reader.new) }
     ensures refused { IfErr result (λ e. IsRefusal (H.told files.old) (H.faults files.old) (H.faults files.new) e) }
+    ensures own { IfErr result (ReadsTo (H.told files.old) reader.old) }
     ensures kept { H.told files.new ≡ H.told files.old }
     ensures later { H.faults files.old ≤ H.faults files.new }
 {

@@ -22,5 +22,5 @@ returns-in-Err-clause-asks g c =
     (subst (λ (b : Bool). Marks c.in_ok-clone.field-0 b c.args.reader.now c.ask.new.reader) c.if-not-branch.false c.in_ok-ask.ensures.marked) in
     on_ok_weaker c.refuse.result
     (λ k. asks_refused (g.H.HostTree.told c.args.files.now) c.args.path.now c.args.depth c.args.reader.now c.ask.new.reader c.refuse.new.reader c.in-Err.fault
-    (g.H.HostTree.faults c.args.files.now) (g.H.HostTree.faults c.tree_at.new.files) m k c.in-Err.ensures.refused)
+    (g.H.HostTree.faults c.args.files.now) (g.H.HostTree.faults c.tree_at.new.files) m k c.in-Err.ensures.refused c.in-Err.ensures.own)
     c.refuse.ensures.kept
