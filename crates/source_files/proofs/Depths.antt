@@ -92,6 +92,7 @@ fresh_reading told first source r f = record {
   same_length = ap length f.depths ∙ sym (ap length f.texts);
   bounded = λ i. subst (λ (z : List ℕ). get_or z i 0 ≤ 1) (sym f.depths) (omega arith);
   entry = λ i t e. absurd (nothing_there r f i t e);
+  once = λ i j t u e d p. absurd (nothing_there r f i t e);
   answered = λ q h. absurd (nothing_asked r f q h);
   reached = λ q h. absurd (nothing_asked r f q h);
   blamed = subst (λ (z : Option FilesFault). IfSome z (λ e. IsBlamed told e)) (sym f.refused) tt;
@@ -134,6 +135,7 @@ amid_begins told first source depth begin r end w l = record {
     same_length = l.reading.same_length;
     bounded = λ i. let b = l.reading.bounded i in omega arith;
     entry = l.reading.entry;
+    once = l.reading.once;
     answered = l.reading.answered;
     reached = λ q h. reached_deeper (source_of first source r) depth (suc depth) q (omega arith) (l.reading.reached q h);
     blamed = l.reading.blamed;

@@ -22,7 +22,7 @@ use Rattle.source_files.specs.declared.reader.Reader.{Reader}
 use Rattle.source_files.specs.Files.{IsMissing, IsBlamed, IsSpelled, IsRefusal, AtPath}
 use Rattle.source_files.specs.declared.fault.FilesFault.{FilesFault}
 use Rattle.source_files.specs.declared.fault.FilesFault.TheVariants as fault
-use Rattle.source_files.specs.Reading.{targets, is_asked, depth_at, source_of, IsReached, IsOfAsked, IsAnswered, IsReading, IsKept, Later, Settles, stays, grows, Asks, Adds, Keeps, Marks}
+use Rattle.source_files.specs.Reading.{targets, is_asked, depth_at, source_of, IsReached, IsReadOnce, IsOfAsked, IsAnswered, IsReading, IsKept, Later, Settles, stays, grows, Asks, Adds, Keeps, Marks}
 
 -- ---- lists that grow at their end
 
@@ -144,8 +144,9 @@ module _ (told : Told) (first : List ℕ) (source : List Top) (path : List ℕ) 
       ((p : List ℕ) (x : List Top) → tops_at old.texts.items p ≡ Some x → tops_at new.texts.items p ≡ Some x)
       → length new.depths.items ≡ length new.texts.items → ((i : ℕ) → depth_at new i ≤ depth)
       → ((i : ℕ) (t : Included) → slice_get new.texts.items i ≡ Some t → IsKept new old i t ⊎ IsOwn i t)
+      → IsReadOnce new.texts.items
       → IsReached (source_of first source old) depth path → IsAnswered told new path → IsReading told first source depth new
-  reading_from f s b c h w = record {
+  reading_from f s b c x h w = record {
     same_length = s;
     bounded = b;
     entry = λ i t e. elim (c i t e) [
@@ -160,6 +161,7 @@ module _ (told : Told) (first : List ℕ) (source : List Top) (path : List ℕ) 
           }
       | inr o ↦ record { leads = o.leads; spelled = o.spelled; asked = subst (λ (z : List ℕ). is_asked new z ≡ true) (sym o.here) a.asks }
     ];
+    once = x;
     answered = λ q i. elim (a.only q i) [
       | inl o ↦ widen f q (r.answered q o)
       | inr e ↦ subst (λ (z : List ℕ). IsAnswered told new z) (sym e) w
@@ -179,7 +181,7 @@ module _ (told : Told) (first : List ℕ) (source : List Top) (path : List ℕ) 
   reading_stays h te de s = (
     reading_from same (ap length de ∙ r.same_length ∙ ap length (sym te)) (λ i. subst (λ (z : List ℕ). get_or z i 0 ≤ depth) (sym de) (r.bounded i))
         (λ i t e. inl (record { there = subst (λ (z : List Included). slice_get z i ≡ Some t) te e; depth = ap (λ (z : List ℕ). get_or z i 0) (sym de) }))
-        h (now s),
+        (subst IsReadOnce (sym te) r.once) h (now s),
     record {
       asked = a.mono;
       kept = λ i t e. record { there = subst (λ (z : List Included). slice_get z i ≡ Some t) (sym te) e; depth = ap (λ (z : List ℕ). get_or z i 0) de };
@@ -207,7 +209,7 @@ module _ (told : Told) (first : List ℕ) (source : List Top) (path : List ℕ) 
   reading_grows h n p tops l d name at c q tree fresh te de spelled = (
     reading_from more (ap length de ∙ length-append old.depths.items (depth ∷ []) ∙ ap (λ (z : ℕ). z + 1) r.same_length ∙ sym (length-append old.texts.items (t ∷ [])) ∙ ap length (sym te))
         (λ i. subst (λ (z : List ℕ). get_or z i 0 ≤ depth) (sym de) (bounded_more old.depths.items depth i (r.bounded i)))
-        cases h
+        cases once h
         (inr (inl (tree.tops.items, own))),
     record {
       asked = a.mono;
@@ -256,6 +258,24 @@ module _ (told : Told) (first : List ℕ) (source : List Top) (path : List ℕ) 
           let e : tops_at new.texts.items (target p name) ≡ Some tree.tops.items = subst (λ (z : List ℕ). tops_at new.texts.items z ≡ Some tree.tops.items) q own in
           subst (λ (z : List ℕ). Leads (source_of first source new) depth z tree.tops.items) (sym q)
           (subst (λ (z : ℕ). Leads (source_of first source new) z (target p name) tree.tops.items) (sym d) (to_included n p name at tops tree.tops.items m c e))
+
+      -- the entry that has a path is the old one of that path, or the new one
+      unlike : (i : ℕ) (u v : Included) → slice_get old.texts.items i ≡ Some u → t ≡ v → u.path ≡ v.path → ⊥
+      unlike i u v e s p =
+          let b : is_asked old path ≡ true = subst (λ (z : List ℕ). is_asked old z ≡ true) (p ∙ ap (λ (z : Included). z.path) (sym s)) (r.entry i u e).asked in
+          let f = fresh in cc
+
+      once : IsReadOnce new.texts.items
+      once i j u v e d p =
+          pick (get_cases old.texts.items t u i (subst (λ (z : List Included). slice_get z i ≡ Some u) te e))
+          (get_cases old.texts.items t v j (subst (λ (z : List Included). slice_get z j ≡ Some v) te d))
+        where
+          pick : (slice_get old.texts.items i ≡ Some u) ⊎ ((i ≡ length old.texts.items) × (t ≡ u))
+              → (slice_get old.texts.items j ≡ Some v) ⊎ ((j ≡ length old.texts.items) × (t ≡ v)) → i ≡ j
+          pick (inl k) (inl m) = r.once i j u v k m p
+          pick (inl k) (inr m) = absurd (unlike i u v k m.1 p)
+          pick (inr k) (inl m) = absurd (unlike j v u m k.1 (sym p))
+          pick (inr k) (inr m) = k.0 ∙ sym m.0
 
       cases : (i : ℕ) (u : Included) → slice_get new.texts.items i ≡ Some u → IsKept new old i u ⊎ IsOwn i u
       cases i u e = elim (get_cases old.texts.items t u i (subst (λ (z : List Included). slice_get z i ≡ Some u) te e)) [

@@ -51,6 +51,11 @@ pub record IsReachable (told : Told) (first : List ℕ) (source : List Top) (q :
   pub read : (t : Included) → Contains included t → IsRead told (record { path = first; source = source; included = included }) t
   pub reached : IsReached (record { path = first; source = source; included = included }) most q
 
+-- No path has two texts.
+abbrev pub IsReadOnce : List Included → Type 0
+IsReadOnce texts =
+    (i j : ℕ) (t u : Included) → slice_get texts i ≡ Some t → slice_get texts j ≡ Some u → t.path ≡ u.path → i ≡ j
+
 -- ---- the reader
 
 abbrev pub is_asked : Reader → List ℕ → Bool
@@ -84,6 +89,7 @@ pub record IsReading (told : Told) (first : List ℕ) (source : List Top) (bound
   pub same_length : length r.depths.items ≡ length r.texts.items
   pub bounded : (i : ℕ) → depth_at r i ≤ bound
   pub entry : (i : ℕ) (t : Included) → slice_get r.texts.items i ≡ Some t → IsEntry told first source r i t
+  pub once : IsReadOnce r.texts.items
   pub answered : (path : List ℕ) → is_asked r path ≡ true → IsAnswered told r path
   pub reached : (path : List ℕ) → is_asked r path ≡ true → IsReached (source_of first source r) bound path
   pub blamed : IfSome r.refused (λ e. IsBlamed told e)

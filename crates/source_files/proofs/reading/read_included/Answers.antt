@@ -83,3 +83,15 @@ returns-clause-whole g c =
     let l = all_read told (g.H.HostTree.told c.read_all.new.files) c.args.path.now c.args.source.now.tops.items c.read_all.new.reader new m
     c.in_ok-read_all.ensures.kept c.in_ok-read_levels.ensures.reads in
     level_whole told c.args.path.now c.args.source.now.tops.items l.0 new l.1 c.in-None.is
+
+pub returns-clause-once : goal.returns-clause-once
+returns-clause-once g c =
+    let told = g.H.HostTree.told c.args.files.now in
+    let new = c.read_levels.new.reader in
+    let named : c.as_slice-2.result.now ≡ targets c.args.path.now c.args.source.now.tops.items =
+    c.as_slice-2.ensures.value ∙ c.in_ok-named.ensures ∙ ap (λ (z : List Top). targets c.args.path.now z) c.as_slice.ensures.value in
+    let m = source_read told c.args.path.now c.args.source.now.tops.items c.as_slice-2.result.now c.new.result c.new-2.result c.new-3.result
+    c.read_all.new.reader c.new.ensures.items c.new-2.ensures.items c.new-3.ensures.empty named c.in_ok-read_all.ensures.asks in
+    let l = all_read told (g.H.HostTree.told c.read_all.new.files) c.args.path.now c.args.source.now.tops.items c.read_all.new.reader new m
+    c.in_ok-read_all.ensures.kept c.in_ok-read_levels.ensures.reads in
+    l.1.reading.once
