@@ -15,12 +15,13 @@ use Rattle.limbo_includes.specs.declared.included.Included.{Included}
 use Rattle.limbo_includes.specs.Includes.{target, tops_at, Leads, to_given, to_included, most, Given}
 use Rattle.source_files.specs.declared.reader.Reader.{Reader}
 use Rattle.std.specs.Option.{IfSome}
-use Rattle.source_files.specs.Files.{IsMissing, IsBlamed, IsRefusal, AtPath}
+use Rattle.source_files.specs.Files.{IsMissing, IsBlamed, IsRefusal, AtPath, AtText}
 use Rattle.source_files.specs.declared.fault.FilesFault.{FilesFault}
 use Rattle.source_files.specs.declared.fault.FilesFault.TheVariants as fault
-use Rattle.source_files.specs.Reading.{targets, is_asked, depth_at, source_of, IsReached, IsReachable, IsOfAsked, IsNamedBy, IsAnswered, IsReading, IsKept, IsNew, Later, AsksAll, IsRead, IsReadWhole}
-use Rattle.source_files.specs.Levels.{IsDone, IsLevel, IsAmid, ReadsFrom, ReadsAll}
-use Rattle.source_files.proofs.Readers.{tops_of, at_path_weaker}
+use Rattle.source_files.specs.Reading.{targets, is_asked, depth_at, source_of, IsReached, IsReachable, IsOfAsked, IsNamedBy, IsAnswered, IsReading, IsKept, IsNew, Later, AsksAll, IsRead, IsReadWhole, IsFirst}
+use Rattle.source_files.specs.Levels.{IsDone, IsLevel, IsAmid, ReadsFrom, ReadsAll, IsSettled, IsNamedAt, IsFirstKept}
+use Rattle.source_files.proofs.Readers.{tops_of, at_path_weaker, at_text}
+use Rattle.source_files.proofs.Firsts.{some_weaker, first_wider, amid_blame, source_blame}
 
 -- ---- refusals
 
@@ -63,6 +64,10 @@ pub reads_from :
     → named ≡ targets t.path t.tree.tops.items → AsksAll told named depth old new → ReadsFrom told index depth old new
 reads_from told index depth t named old new e same a = record {
   longer = a.longer;
+  firm = a.firm;
+  fresh = λ none. some_weaker new.refused (AtPath (Contains named)) (AtPath (IsNamedBy old index))
+      (λ f i. at_path_weaker (Contains named) (IsNamedBy old index) f (λ q k. (t, e, subst (λ (z : List (List ℕ)). Contains z q) same k)) i)
+      (a.fresh none);
   reads = λ first source u eu d r.
       let l = (r.entry index t e).leads in
       let k = a.reading first source (depth_at old index) t.path t.tree.tops.items l d (λ q c. subst (λ (z : List (List ℕ)). Contains z q) same c) r in
@@ -106,6 +111,7 @@ first_level told first source named old new f same a =
     let k = a.reading first source 0 first source to_given refl (λ q c. subst (λ (z : List (List ℕ)). Contains z q) same c) (fresh_reading told first source old f) in
     record {
       reading = k.0;
+      blame = source_blame told first source named old new f.refused same a;
       done = record {
         given = done_of told first source first source 0 1 new refl (λ q c. a.asks q (subst (λ (z : List (List ℕ)). Contains z q) (sym same) c)) k.0;
         each = λ i t b e. absurd (omega arith);
@@ -141,6 +147,8 @@ amid_begins told first source depth begin r end w l = record {
     blamed = l.reading.blamed;
     owned = l.reading.owned;
   };
+  blame = some_weaker r.refused (IsFirstKept told first source depth r) (IsFirstKept told first source (suc depth) r)
+      (first_wider told first source depth r) l.blame;
   done = l.done;
   middle = λ i t e b h. l.last i t e b;
   last = λ i t e h. let b = slice_get_within r.texts.items i t e in absurd (omega arith);
@@ -158,6 +166,7 @@ pub amid_goes : (told : Told) (first : List ℕ) (source : List Top) (depth inde
     → index < end → end ≤ length old.texts.items → ReadsFrom told index (suc depth) old new → IsAmid told first source depth (suc index) end new
 amid_goes told first source depth index end old new a h w f = record {
   reading = k.0;
+  blame = amid_blame told first source depth index end old new a h k.1 f.firm f.fresh;
   done = record {
     given = done_later first source 0 (suc depth) old new a.done.given k.1;
     each = λ i t b e. each i t (below_or_at i index b) (k.1.each i t e);
@@ -196,6 +205,7 @@ pub amid_ends : (told : Told) (first : List ℕ) (source : List Top) (depth inde
     → IsAmid told first source depth index end r → IsLevel told first source (suc depth) end r
 amid_ends told first source depth index end r h a = record {
   reading = a.reading;
+  blame = a.blame;
   done = record { given = a.done.given; each = λ i t b e. a.done.each i t (omega arith) e };
   last = a.last;
 }
@@ -359,3 +369,31 @@ pub all_read :
 all_read told after first source middle new l kept a =
     let m = subst (λ (z : Told). ReadsAll z most middle new) kept a in
     (m.begin, m.reads first source l)
+
+-- The refusal that is kept to the end is of a text than which none that was refused is named by less deep texts.
+pub level_first :
+    (told : Told) (first : List ℕ) (source : List Top) (begin : ℕ) (r : Reader) (e : FilesFault) → IsLevel told first source most begin r
+    → r.refused ≡ Some e → AtText (IsFirst told first source) e
+level_first told first source begin r e l is =
+    at_text (IsFirst told first source) e (at_path_weaker (IsNamedAt (source_of first source r) k.depth) (IsFirst told first source) e
+    (λ q n. record {
+      included = r.texts.items;
+      read = reading_texts told first source most r (omega arith) l.reading;
+      reached = record { depth = k.depth; path = n.path; tops = n.tops; leads = n.leads; above = k.above; named = n.named };
+      whole = λ m path tops p leads h c. whole m path tops p h c (led_held told first source most begin r l m path tops leads (let b = k.above in omega arith));
+    })
+    k.named)
+  where
+    k : IsFirstKept told first source most r e
+    k = subst (λ (z : Option FilesFault). IfSome z (IsFirstKept told first source most r)) is l.blame
+
+    whole :
+        (m : ℕ) (path : List ℕ) (tops : List Top) (p : List ℕ) → m < k.depth → Contains (targets path tops) p
+        → ((path ≡ first) × (tops ≡ source)) ⊎ IsHeld r m path tops → IsSettled told r p
+    whole m path tops p h c (inl s) =
+        k.clear.given p (omega arith)
+        (subst (λ (z : List ℕ). Contains (targets z source) p) s.0 (subst (λ (z : List Top). Contains (targets path z) p) s.1 c))
+    whole m path tops p h c (inr x) =
+        k.clear.each x.place x.text p x.there (let b = x.near in omega arith)
+        (subst (λ (z : List ℕ). Contains (targets z x.text.tree.tops.items) p) (sym x.same_path)
+        (subst (λ (z : List Top). Contains (targets path z) p) (sym x.same_tops) c))

@@ -19,7 +19,7 @@ use Rattle.limbo_tree.specs.declared.source.Top.TheVariants.{Include, Declare, D
 use Rattle.limbo_includes.specs.declared.included.Included.{Included}
 use Rattle.limbo_includes.specs.Includes.{is_same, target, tops_at, Leads, to_given, to_included}
 use Rattle.source_files.specs.declared.reader.Reader.{Reader}
-use Rattle.source_files.specs.Files.{IsMissing, IsBlamed, IsSpelled, IsRefusal, AtPath}
+use Rattle.source_files.specs.Files.{IsMissing, IsBlamed, IsSpelled, IsRefusal, AtPath, AtText}
 use Rattle.source_files.specs.declared.fault.FilesFault.{FilesFault}
 use Rattle.source_files.specs.declared.fault.FilesFault.TheVariants as fault
 use Rattle.source_files.specs.Reading.{targets, is_asked, depth_at, source_of, IsReached, IsReadOnce, IsOfAsked, IsAnswered, IsReading, IsKept, Later, Settles, stays, grows, Asks, Adds, Keeps, Marks}
@@ -102,6 +102,18 @@ at_path_weaker P Q fault.NoMemory f i = tt
 at_path_weaker P Q (fault.Failed p) f i = f p i
 at_path_weaker P Q (fault.Lex p x) f i = f p i
 at_path_weaker P Q (fault.Parse p x span) f i = f p i
+
+pub at_text : (P : List ℕ → Type 0) (e : FilesFault) → AtPath P e → AtText P e
+at_text P fault.NoMemory i = tt
+at_text P (fault.Failed p) i = tt
+at_text P (fault.Lex p x) i = i
+at_text P (fault.Parse p x span) i = i
+
+pub no_text : (P : List ℕ → Type 0) (e : FilesFault) → AtText (λ p. ⊥) e → AtText P e
+no_text P fault.NoMemory i = tt
+no_text P (fault.Failed p) i = tt
+no_text P (fault.Lex p x) i = absurd i
+no_text P (fault.Parse p x span) i = absurd i
 
 -- a refusal that is kept while more is asked for
 owned_later :
@@ -298,6 +310,8 @@ asks_seen told path depth old new m = record {
   refused = subst (λ (z : Option FilesFault). IsSome z) (sym m.refused);
   blamed = subst (λ (z : Option FilesFault). IfSome z (λ e. IsBlamed told e)) (sym m.refused);
   owned = owned_later old new old.refused new.refused m.refused m.mono;
+  firm = λ e h. m.refused ∙ h;
+  fresh = λ h. subst (λ (z : Option FilesFault). IfSome z (AtPath (λ p. p ≡ path))) (sym (m.refused ∙ h)) tt;
 }
 
 pub asks_missing : (told : Told) (path : List ℕ) (depth : ℕ) (old new : Reader) → Marks path true old new → IsMissing told path → Asks told path depth old new
@@ -309,6 +323,8 @@ asks_missing told path depth old new m i = record {
   refused = subst (λ (z : Option FilesFault). IsSome z) (sym m.refused);
   blamed = subst (λ (z : Option FilesFault). IfSome z (λ e. IsBlamed told e)) (sym m.refused);
   owned = owned_later old new old.refused new.refused m.refused m.mono;
+  firm = λ e h. m.refused ∙ h;
+  fresh = λ h. subst (λ (z : Option FilesFault). IfSome z (AtPath (λ p. p ≡ path))) (sym (m.refused ∙ h)) tt;
 }
 
 pub asks_kept :
@@ -324,6 +340,8 @@ asks_kept told path depth old mid new tree m k s =
       refused = subst (λ (z : Option FilesFault). IsSome z) (sym (k.refused ∙ m.refused));
       blamed = subst (λ (z : Option FilesFault). IfSome z (λ e. IsBlamed told e)) (sym (k.refused ∙ m.refused));
       owned = owned_later old new old.refused new.refused (k.refused ∙ m.refused) (λ q h. asked q ∙ m.mono q h);
+      firm = λ e h. k.refused ∙ m.refused ∙ h;
+      fresh = λ h. subst (λ (z : Option FilesFault). IfSome z (AtPath (λ p. p ≡ path))) (sym (k.refused ∙ m.refused ∙ h)) tt;
     }
 
 pub asks_refused :
@@ -337,6 +355,8 @@ asks_refused told path depth old mid new f before now m k i own =
       only = λ q h. m.only q (sym (asked q) ∙ h);
       settled = stays (ap (λ (z : Vec Included Global). z.items) (k.texts ∙ m.texts)) (ap (λ (z : Vec ℕ Global). z.items) (k.depths ∙ m.depths)) (inr (inl k.some));
       refused = λ s. k.some;
+      firm = λ e h. k.firm e (m.refused ∙ h);
+      fresh = λ h. subst (λ (z : Option FilesFault). IfSome z (AtPath (λ p. p ≡ path))) (sym (k.fresh (m.refused ∙ h))) own;
       owned = λ b. k.owned
           (at_path_weaker (λ q. q ≡ path) (λ q. is_asked mid q ≡ true) f (λ q e. subst (λ (z : List ℕ). is_asked mid z ≡ true) (sym e) m.asks) own)
           (owned_later old mid old.refused mid.refused m.refused m.mono b);
@@ -446,3 +466,19 @@ asks_longer told path depth old new a = pick a.settled
 pub taken_cases : {X : Type 0} (xs : List X) (i : ℕ) (x y : X) → i < length xs → x ≡ get_or xs i x → Contains (take (i + 1) xs) y → Contains (take i xs) y ⊎ (x ≡ y)
 taken_cases {X} xs i x y l e c =
     Contains-push_cases (take i xs) x y (subst (λ (z : List X). Contains z y) (take_more xs i x l ∙ ap (λ (z : X). take i xs ++ z ∷ []) (sym e)) c)
+
+-- the first refusal of a text that is kept is of what is asked for
+pub fresh_then :
+    (named : List (List ℕ)) (path : List ℕ) (b c : Option FilesFault) → Contains named path → IfSome b (AtPath (Contains named))
+    → ((e : FilesFault) → b ≡ Some e → c ≡ Some e) → (b ≡ None → IfSome c (AtPath (λ p. p ≡ path))) → IfSome c (AtPath (Contains named))
+fresh_then named path b c k h firm fresh = pick b refl
+  where
+    here : (o : Option FilesFault) → IfSome o (AtPath (λ p. p ≡ path)) → IfSome o (AtPath (Contains named))
+    here None i = tt
+    here (Some e) i = at_path_weaker (λ p. p ≡ path) (Contains named) e (λ p s. subst (Contains named) (sym s) k) i
+
+    pick : (o : Option FilesFault) → b ≡ o → IfSome c (AtPath (Contains named))
+    pick None s = here c (fresh s)
+    pick (Some e) s =
+        subst (λ (z : Option FilesFault). IfSome z (AtPath (Contains named))) (sym (firm e s))
+        (subst (λ (z : Option FilesFault). IfSome z (AtPath (Contains named))) s h)

@@ -46,6 +46,13 @@ AtPath P (fault.Failed path) = P path
 AtPath P (fault.Lex path f) = P path
 AtPath P (fault.Parse path f span) = P path
 
+-- The same of a refusal that is a text's own; a read that failed is of none.
+abbrev pub AtText : (List ℕ → Type 0) → FilesFault → Type 0
+AtText P fault.NoMemory = Unit {0}
+AtText P (fault.Failed path) = Unit {0}
+AtText P (fault.Lex path f) = P path
+AtText P (fault.Parse path f span) = P path
+
 -- What stands at a path is no included text, and why: a refusal that is kept while others are read.
 abbrev pub IsBlamed : Told → FilesFault → Type 0
 IsBlamed told fault.NoMemory = ⊥

@@ -1,5 +1,5 @@
 -- What is known while the files are read.
-use Rattle.std.specs.Prelude.{◌++◌, ◌≡◌, ◌⊎◌, ℕ, suc, ◌≤◌, ◌<◌, Bool, true, false, not, List, [], ◌∷◌, length, IsSome, Some, slice_get, slice_index_or}
+use Rattle.std.specs.Prelude.{◌++◌, ◌≡◌, ◌⊎◌, ℕ, suc, ◌≤◌, ◌<◌, Bool, true, false, not, List, [], ◌∷◌, length, IsSome, None, Some, slice_get, slice_index_or}
 use Rattle.std.specs.Option.{IfSome}
 use Rattle.std.specs.List.{Contains}
 use Rattle.std.specs.Ordering.{nat_cmp}
@@ -30,11 +30,15 @@ pub record IsRead (told : Told) (g : Given) (t : Included) : Type 0 where
   pub leads : Leads g depth t.path t.tree.tops.items
   pub spelled : IsSpelled told t.path (view_source t.tree)
 
--- Each include that stands less deep than the deepest names an entry, or a path at which no text stands.
-abbrev pub IsReadWhole : Told → Given → Type 0
-IsReadWhole told g =
-    (n : ℕ) (path : List ℕ) (tops : List Top) (q : List ℕ) → Leads g n path tops → n < most → Contains (targets path tops) q
+-- Each include names an entry, or a path at which no text stands, if it stands in a text to which fewer includes than this lead.
+abbrev pub IsReadTo : ℕ → Told → Given → Type 0
+IsReadTo depth told g =
+    (n : ℕ) (path : List ℕ) (tops : List Top) (q : List ℕ) → Leads g n path tops → n < depth → Contains (targets path tops) q
     → ((inner : List Top) × (tops_at g.included q ≡ Some inner)) ⊎ IsMissing told q
+
+-- So does each that stands less deep than the deepest.
+abbrev pub IsReadWhole : Told → Given → Type 0
+IsReadWhole = IsReadTo most
 
 -- An include names this path, in a text to which fewer includes than this lead.
 pub record IsReached (g : Given) (most_above : ℕ) (q : List ℕ) : Type 0 where
@@ -50,6 +54,13 @@ pub record IsReachable (told : Told) (first : List ℕ) (source : List Top) (q :
   pub included : List Included
   pub read : (t : Included) → Contains included t → IsRead told (record { path = first; source = source; included = included }) t
   pub reached : IsReached (record { path = first; source = source; included = included }) most q
+
+-- The same; and what less deep texts name was read, and none of it refused.
+pub record IsFirst (told : Told) (first : List ℕ) (source : List Top) (q : List ℕ) : Type 0 where
+  pub included : List Included
+  pub read : (t : Included) → Contains included t → IsRead told (record { path = first; source = source; included = included }) t
+  pub reached : IsReached (record { path = first; source = source; included = included }) most q
+  pub whole : IsReadTo reached.depth told (record { path = first; source = source; included = included })
 
 -- No path has two texts.
 abbrev pub IsReadOnce : List Included → Type 0
@@ -130,11 +141,15 @@ pub record Asks (told : Told) (path : List ℕ) (depth : ℕ) (old new : Reader)
   pub refused : IsSome old.refused → IsSome new.refused
   pub blamed : IfSome old.refused (λ e. IsBlamed told e) → IfSome new.refused (λ e. IsBlamed told e)
   pub owned : IfSome old.refused (IsOfAsked old) → IfSome new.refused (IsOfAsked new)
+  pub firm : (e : FilesFault) → old.refused ≡ Some e → new.refused ≡ Some e
+  pub fresh : old.refused ≡ None → IfSome new.refused (AtPath (λ p. p ≡ path))
 
 -- The same of several paths, which one text names.
 pub record AsksAll (told : Told) (named : List (List ℕ)) (depth : ℕ) (old new : Reader) : Type 0 where
   pub longer : length old.texts.items ≤ length new.texts.items
   pub asks : (q : List ℕ) → Contains named q → is_asked new q ≡ true
+  pub firm : (e : FilesFault) → old.refused ≡ Some e → new.refused ≡ Some e
+  pub fresh : old.refused ≡ None → IfSome new.refused (AtPath (Contains named))
   pub reading :
       (first : List ℕ) (source : List Top) (n : ℕ) (path : List ℕ) (tops : List Top)
       → Leads (source_of first source old) n path tops → depth ≡ suc n
@@ -157,6 +172,8 @@ pub record Keeps (f : FilesFault) (old new : Reader) : Type 0 where
   pub blamed : (told : Told) (before now : ℕ) → IsRefusal told before now f
       → IfSome old.refused (λ e. IsBlamed told e) → IfSome new.refused (λ e. IsBlamed told e)
   pub owned : IsOfAsked old f → IfSome old.refused (IsOfAsked old) → IfSome new.refused (IsOfAsked new)
+  pub firm : (e : FilesFault) → old.refused ≡ Some e → new.refused ≡ Some e
+  pub fresh : old.refused ≡ None → new.refused ≡ Some f
 
 -- A path is asked for: it is new, or was asked for before.
 pub record Marks (path : List ℕ) (fresh : Bool) (old new : Reader) : Type 0 where

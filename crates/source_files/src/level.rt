@@ -1,7 +1,7 @@
 //! The texts of one depth after the other.
 
 ghost use Rattle.std.specs.Prelude.{◌≡◌, ◌<◌, ◌≤◌, length, IfOk, IfErr, OnOk};
-ghost use Rattle.source_files.specs.Files.{AtPath, IsRefusal};
+ghost use Rattle.source_files.specs.Files.{AtPath, AtText, IsRefusal};
 ghost use Rattle.source_files.specs.Reading.{IsNamedBy};
 ghost use Rattle.source_files.specs.Levels.{ReadsFrom, Raises, RaisesTo, ReadsAll, ReadsTo};
 
@@ -25,6 +25,7 @@ fn read_from<H: HostTree>(
     ensures reads { OnOk result (ReadsFrom (H.told files.old) index depth reader.old reader.new) }
     ensures refused { IfErr result (λ e. IsRefusal (H.told files.old) (H.faults files.old) (H.faults files.new) e) }
     ensures own { IfErr result (AtPath (λ p. IsNamedBy reader.old index p)) }
+    ensures ends { IfErr result (AtText (λ p. ⊥)) }
     ensures kept { H.told files.new ≡ H.told files.old }
     ensures later { H.faults files.old ≤ H.faults files.new }
 {
@@ -44,6 +45,7 @@ fn read_level<H: HostTree>(
     ensures raises { IfOk result (λ end. Raises (H.told files.old) begin end depth reader.old reader.new) }
     ensures refused { IfErr result (λ e. IsRefusal (H.told files.old) (H.faults files.old) (H.faults files.new) e) }
     ensures own { IfErr result (RaisesTo (H.told files.old) begin depth reader.old) }
+    ensures ends { IfErr result (AtText (λ p. ⊥)) }
     ensures kept { H.told files.new ≡ H.told files.old }
     ensures later { H.faults files.old ≤ H.faults files.new }
 {
@@ -66,6 +68,7 @@ pub(crate) fn read_levels<H: HostTree>(
     ensures reads { OnOk result (ReadsAll (H.told files.old) MOST reader.old reader.new) }
     ensures refused { IfErr result (λ e. IsRefusal (H.told files.old) (H.faults files.old) (H.faults files.new) e) }
     ensures own { IfErr result (ReadsTo (H.told files.old) reader.old) }
+    ensures ends { IfErr result (AtText (λ p. ⊥)) }
     ensures kept { H.told files.new ≡ H.told files.old }
     ensures later { H.faults files.old ≤ H.faults files.new }
 {

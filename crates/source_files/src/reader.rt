@@ -3,7 +3,7 @@
 ghost use Rattle.std.specs.Prelude.{◌≡◌, ◌≤◌, ◌++◌, ◌∷◌, [], IfOk, IfErr, OnOk, IfSome};
 ghost use Rattle.std.specs.List.{Contains};
 ghost use Rattle.inf_ports.specs.Outside.{Told};
-ghost use Rattle.source_files.specs.Files.{AtPath, IsRefusal};
+ghost use Rattle.source_files.specs.Files.{AtPath, AtText, IsRefusal};
 ghost use Rattle.source_files.specs.Reading.{targets, Asks, AsksAll, Adds, Keeps, Marks};
 
 use crate::fault::FilesFault;
@@ -56,6 +56,7 @@ fn keep(reader: &mut Reader, path: Text, tree: Source, depth: u32) -> Result<(),
 fn refuse(reader: &mut Reader, fault: FilesFault) -> Result<(), FilesFault>
     ensures kept { OnOk result (Keeps fault reader.old reader.new) }
     ensures refused { IfErr result (λ e. e ≡ fault) }
+    ensures ends { IfErr result (AtText (λ p. ⊥)) }
 {
     match fault {
         FilesFault::NoMemory => return Err(fault),
@@ -88,6 +89,7 @@ fn read_one<H: HostTree>(
     ensures asks { OnOk result (Asks (H.told files.old) path.now depth reader.old reader.new) }
     ensures refused { IfErr result (λ e. IsRefusal (H.told files.old) (H.faults files.old) (H.faults files.new) e) }
     ensures own { IfErr result (AtPath (λ p. p ≡ path.now)) }
+    ensures ends { IfErr result (AtText (λ p. ⊥)) }
     ensures kept { H.told files.new ≡ H.told files.old }
     ensures later { H.faults files.old ≤ H.faults files.new }
 {
@@ -112,6 +114,7 @@ pub(crate) fn read_all<H: HostTree>(
     ensures asks { OnOk result (AsksAll (H.told files.old) named.now depth reader.old reader.new) }
     ensures refused { IfErr result (λ e. IsRefusal (H.told files.old) (H.faults files.old) (H.faults files.new) e) }
     ensures own { IfErr result (AtPath (λ p. Contains named.now p)) }
+    ensures ends { IfErr result (AtText (λ p. ⊥)) }
     ensures kept { H.told files.new ≡ H.told files.old }
     ensures later { H.faults files.old ≤ H.faults files.new }
 {

@@ -3,8 +3,8 @@
 ghost use Rattle.std.specs.Prelude.{◌≡◌, ◌≤◌, IfOk, IfErr};
 ghost use Rattle.std.specs.List.{Contains};
 ghost use Rattle.limbo_includes.specs.declared.included.Included.{Included};
-ghost use Rattle.source_files.specs.Files.{AtPath, IsRefusal};
-ghost use Rattle.source_files.specs.Reading.{IsReachable, IsRead, IsReadOnce, IsReadWhole};
+ghost use Rattle.source_files.specs.Files.{AtPath, AtText, IsRefusal};
+ghost use Rattle.source_files.specs.Reading.{IsFirst, IsReachable, IsRead, IsReadOnce, IsReadWhole};
 
 use crate::fault::FilesFault;
 use crate::level::read_levels;
@@ -37,6 +37,7 @@ pub fn read_included<H: HostTree>(
     ensures once { IfOk result (λ texts. IsReadOnce texts.items) }
     ensures refused { IfErr result (λ e. IsRefusal (H.told files.old) (H.faults files.old) (H.faults files.new) e) }
     ensures own { IfErr result (AtPath (IsReachable (H.told files.old) path.now source.now.tops.items)) }
+    ensures first { IfErr result (AtText (IsFirst (H.told files.old) path.now source.now.tops.items)) }
     ensures kept { H.told files.new ≡ H.told files.old }
     ensures later { H.faults files.old ≤ H.faults files.new }
 {

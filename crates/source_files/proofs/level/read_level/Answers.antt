@@ -1,7 +1,7 @@
 use Rattle.std.proofs.Common.{refl, length, ◌≡◌, ◌∙◌, ◌+◌, suc, ℕ, sym, subst, arith}
 use Rattle.std.proofs.lemmas.Result.{err_from_is_err_and}
 use Rattle.inf_ports.specs.Outside.{Told}
-use Rattle.source_files.specs.Files.{IsRefusal, AtPath}
+use Rattle.source_files.specs.Files.{IsRefusal}
 use Rattle.source_files.specs.Levels.{ReadsFrom, RaisesTo, IsLevel, IsAmid}
 use Rattle.source_files.proofs.Depths.{refusal_wider, amid_begins, amid_goes, amid_ends, amid_refused}
 use Rattle.source_files.proofs.level.read_level.Goals as goal

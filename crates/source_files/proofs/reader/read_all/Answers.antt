@@ -3,7 +3,7 @@ use Rattle.std.proofs.lemmas.List.{take_all}
 use Rattle.std.specs.List.{Contains}
 use Rattle.inf_ports.specs.Outside.{Told}
 use Rattle.source_files.specs.Reading.{Asks, is_asked}
-use Rattle.source_files.proofs.Readers.{reading_asks, leads_more, later_then, asks_longer, taken_cases}
+use Rattle.source_files.proofs.Readers.{fresh_then, reading_asks, leads_more, later_then, asks_longer, taken_cases}
 use Rattle.source_files.proofs.reader.read_all.Goals as goal
 
 pub loop-path-preserved : goal.loop-path-preserved
@@ -22,6 +22,8 @@ loop-path-preserved g c =
         | inl o ↦ a.mono q (k.asks q o)
         | inr e ↦ subst (λ (z : List ℕ). is_asked new z ≡ true) e a.asks
       ];
+      firm = λ e h. a.firm e (k.firm e h);
+      fresh = λ h. fresh_then c.args.named.now x mid.refused new.refused (c.loop-path.path-index, omega arith, sym c.path-item.is) (k.fresh h) a.firm a.fresh;
       reading = λ first source n p tops l d f r.
           let b = k.reading first source n p tops l d f r in
           let s = reading_asks told first source x c.args.depth mid new a b.0 n p tops (leads_more first source c.args.reader.now mid b.1.tops n p tops l) d (f x (c.loop-path.path-index, omega arith, sym c.path-item.is)) in
@@ -34,5 +36,7 @@ returns-clause-asks g c =
     record {
       longer = k.longer;
       asks = λ q h. k.asks q (subst (λ (z : List (List ℕ)). Contains z q) (sym (take_all c.loop-path.path-index c.args.named.now (omega arith))) h);
+      firm = k.firm;
+      fresh = k.fresh;
       reading = k.reading;
     }

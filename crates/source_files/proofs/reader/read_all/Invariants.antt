@@ -1,4 +1,7 @@
-use Rattle.std.proofs.Common.{◌≡◌, ◌≤◌, List, ℕ, suc, true, take, length}
+use Rattle.source_files.specs.declared.fault.FilesFault.{FilesFault}
+use Rattle.source_files.specs.Files.{AtPath}
+use Rattle.std.specs.Option.{IfSome}
+use Rattle.std.proofs.Common.{None, Some, ◌≡◌, ◌≤◌, List, ℕ, suc, true, take, length}
 use Rattle.std.specs.List.{Contains}
 use Rattle.limbo_tree.specs.declared.source.Top.{Top}
 use Rattle.limbo_includes.specs.Includes.{Leads}
@@ -11,6 +14,8 @@ invariant-loop-path g l = record {
   later : g.H.HostTree.faults l.fn.files ≤ g.H.HostTree.faults l.files;
   longer : length l.fn.reader.texts.items ≤ length l.reader.texts.items;
   asks : (q : List ℕ) → Contains (take l.path-index l.named) q → is_asked l.reader q ≡ true;
+  firm : (e : FilesFault) → l.fn.reader.refused ≡ Some e → l.reader.refused ≡ Some e;
+  fresh : l.fn.reader.refused ≡ None → IfSome l.reader.refused (AtPath (Contains l.named));
   reading :
       (first : List ℕ) (source : List Top) (n : ℕ) (path : List ℕ) (tops : List Top)
       → Leads (source_of first source l.fn.reader) n path tops → l.depth ≡ suc n

@@ -1,13 +1,14 @@
-use Rattle.std.proofs.Common.{◌≡◌, ◌∙◌, List, None, Some, Option, ap, subst}
+use Rattle.std.proofs.Common.{◌≡◌, ◌∙◌, List, Option, ap, subst}
 use Rattle.std.proofs.lemmas.Result.{err_from_is_err_and}
 use Rattle.std.specs.Option.{IfSome}
 use Rattle.inf_ports.specs.Outside.{Told}
 use Rattle.limbo_tree.specs.declared.source.Top.{Top}
 use Rattle.source_files.specs.declared.fault.FilesFault.{FilesFault}
 use Rattle.source_files.specs.Files.{AtPath, IsBlamed}
-use Rattle.source_files.specs.Reading.{targets, IsReachable}
+use Rattle.source_files.specs.Reading.{targets, IsFirst, IsReachable}
 use Rattle.source_files.specs.Levels.{ReadsTo}
-use Rattle.source_files.proofs.Depths.{blamed_refusal, level_whole, level_read, level_refused, first_refused, source_read, all_read}
+use Rattle.source_files.proofs.Readers.{no_text}
+use Rattle.source_files.proofs.Depths.{blamed_refusal, level_whole, level_read, level_refused, level_first, first_refused, source_read, all_read}
 use Rattle.source_files.proofs.reading.read_included.Goals as goal
 
 pub returns-in_err-read_all-clause-own : goal.returns-in_err-read_all-clause-own
@@ -34,6 +35,20 @@ returns-in_err-read_levels-clause-own g c =
     let p = err_from_is_err_and c.from_residual-in_err-read_levels.result c.from_residual-in_err-read_levels.ensures.1 in
     rw (p.1, p.2) own
 
+pub returns-in_err-read_all-clause-first : goal.returns-in_err-read_all-clause-first
+returns-in_err-read_all-clause-first g c =
+    let told = g.H.HostTree.told c.args.files.now in
+    let own = no_text (IsFirst told c.args.path.now c.args.source.now.tops.items) c.in_err-read_all.field-0.0 c.in_err-read_all.ensures.ends in
+    let p = err_from_is_err_and c.from_residual-in_err-read_all.result c.from_residual-in_err-read_all.ensures.1 in
+    rw (p.1, p.2) own
+
+pub returns-in_err-read_levels-clause-first : goal.returns-in_err-read_levels-clause-first
+returns-in_err-read_levels-clause-first g c =
+    let told = g.H.HostTree.told c.args.files.now in
+    let own = no_text (IsFirst told c.args.path.now c.args.source.now.tops.items) c.in_err-read_levels.field-0.0 c.in_err-read_levels.ensures.ends in
+    let p = err_from_is_err_and c.from_residual-in_err-read_levels.result c.from_residual-in_err-read_levels.ensures.1 in
+    rw (p.1, p.2) own
+
 pub returns-in-Some-clause-own : goal.returns-in-Some-clause-own
 returns-in-Some-clause-own g c =
     let told = g.H.HostTree.told c.args.files.now in
@@ -45,6 +60,18 @@ returns-in-Some-clause-own g c =
     let l = all_read told (g.H.HostTree.told c.read_all.new.files) c.args.path.now c.args.source.now.tops.items c.read_all.new.reader new m
     c.in_ok-read_all.ensures.kept c.in_ok-read_levels.ensures.reads in
     level_refused told c.args.path.now c.args.source.now.tops.items l.0 new c.in-Some.fault l.1 c.in-Some.is
+
+pub returns-in-Some-clause-first : goal.returns-in-Some-clause-first
+returns-in-Some-clause-first g c =
+    let told = g.H.HostTree.told c.args.files.now in
+    let new = c.read_levels.new.reader in
+    let named : c.as_slice-2.result.now ≡ targets c.args.path.now c.args.source.now.tops.items =
+    c.as_slice-2.ensures.value ∙ c.in_ok-named.ensures ∙ ap (λ (z : List Top). targets c.args.path.now z) c.as_slice.ensures.value in
+    let m = source_read told c.args.path.now c.args.source.now.tops.items c.as_slice-2.result.now c.new.result c.new-2.result c.new-3.result
+    c.read_all.new.reader c.new.ensures.items c.new-2.ensures.items c.new-3.ensures.empty named c.in_ok-read_all.ensures.asks in
+    let l = all_read told (g.H.HostTree.told c.read_all.new.files) c.args.path.now c.args.source.now.tops.items c.read_all.new.reader new m
+    c.in_ok-read_all.ensures.kept c.in_ok-read_levels.ensures.reads in
+    level_first told c.args.path.now c.args.source.now.tops.items l.0 new c.in-Some.fault l.1 c.in-Some.is
 
 pub returns-in-Some-clause-refused : goal.returns-in-Some-clause-refused
 returns-in-Some-clause-refused g c =
