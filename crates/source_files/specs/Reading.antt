@@ -36,7 +36,7 @@ IsReadTo depth told g =
     (n : ℕ) (path : List ℕ) (tops : List Top) (q : List ℕ) → Leads g n path tops → n < depth → Contains (targets path tops) q
     → ((inner : List Top) × (tops_at g.included q ≡ Some inner)) ⊎ IsMissing told q
 
--- So does each that stands less deep than the deepest.
+-- So does each that doesn't stand too deep.
 abbrev pub IsReadWhole : Told → Given → Type 0
 IsReadWhole = IsReadTo most
 
@@ -55,7 +55,7 @@ pub record IsReachable (told : Told) (first : List ℕ) (source : List Top) (q :
   pub read : (t : Included) → Contains included t → IsRead told (record { path = first; source = source; included = included }) t
   pub reached : IsReached (record { path = first; source = source; included = included }) most q
 
--- The same; and what less deep texts name was read, and none of it refused.
+-- The same; and what the texts name to which fewer includes lead was read, or is missing: none of it is refused.
 pub record IsFirst (told : Told) (first : List ℕ) (source : List Top) (q : List ℕ) : Type 0 where
   pub included : List Included
   pub read : (t : Included) → Contains included t → IsRead told (record { path = first; source = source; included = included }) t

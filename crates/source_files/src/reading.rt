@@ -21,7 +21,7 @@ use std::collections::BTreeSet;
 ///
 /// # Errors
 /// `Failed` where a file's read failed; that ends the reading. `Lex` and `Parse` where a text is no included text: the first such
-/// text that was read, after all were read. Want of memory.
+/// text that was read, after all were read, so none that less deep texts name. Want of memory.
 pub fn read_included<H: HostTree>(
     alloc: Global,
     path: &Text,
