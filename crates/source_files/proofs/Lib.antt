@@ -1,2 +1,5 @@
 pub mod Sources
 pub mod Names
+pub mod Readers
+pub mod Depths
+pub mod Firsts

@@ -38,3 +38,24 @@ IsRefusal told before now (fault.Parse path f span) = (bytes : List ℕ) × Give
 abbrev pub IsRefusalOf : List ℕ → TextFault → FilesFault → Type 0
 IsRefusalOf path f e =
     (told : Told) (bytes : List ℕ) (before now : ℕ) → Gives told path bytes → IsTextFault bytes f → IsRefusal told before now e
+
+-- A refusal is of the text at a path of which this holds; want of memory is of none.
+abbrev pub AtPath : (List ℕ → Type 0) → FilesFault → Type 0
+AtPath P fault.NoMemory = Unit {0}
+AtPath P (fault.Failed path) = P path
+AtPath P (fault.Lex path f) = P path
+AtPath P (fault.Parse path f span) = P path
+
+-- The same of a refusal that is a text's own; a read that failed is of none.
+abbrev pub AtText : (List ℕ → Type 0) → FilesFault → Type 0
+AtText P fault.NoMemory = Unit {0}
+AtText P (fault.Failed path) = Unit {0}
+AtText P (fault.Lex path f) = P path
+AtText P (fault.Parse path f span) = P path
+
+-- What stands at a path is no included text, and why: a refusal that is kept while others are read.
+abbrev pub IsBlamed : Told → FilesFault → Type 0
+IsBlamed told fault.NoMemory = ⊥
+IsBlamed told (fault.Failed path) = ⊥
+IsBlamed told (fault.Lex path f) = (bytes : List ℕ) × Gives told path bytes × IsUnlexed bytes f
+IsBlamed told (fault.Parse path f span) = (bytes : List ℕ) × Gives told path bytes × IsUnparsed bytes f

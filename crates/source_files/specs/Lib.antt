@@ -1,2 +1,4 @@
 pub mod Texts
 pub mod Files
+pub mod Reading
+pub mod Levels

@@ -1,7 +1,7 @@
 //! The bytes at a path.
 
 ghost use Rattle.std.specs.Prelude.{◌≡◌, ◌≤◌, IfOk, IfErr, IfSome, IfNone};
-ghost use Rattle.source_files.specs.Files.{Gives, IsMissing, IsRefusal};
+ghost use Rattle.source_files.specs.Files.{Gives, AtPath, IsMissing, IsRefusal};
 
 use crate::built_in::built_in;
 use crate::fault::FilesFault;
@@ -21,6 +21,7 @@ pub(crate) fn bytes_at<H: HostTree>(
     ensures found { IfOk result (λ o. IfSome o (λ bytes. Gives (H.told files.old) path.now bytes.items)) }
     ensures missing { IfOk result (λ o. IfNone o (IsMissing (H.told files.old) path.now)) }
     ensures failed { IfErr result (λ e. IsRefusal (H.told files.old) (H.faults files.old) (H.faults files.new) e) }
+    ensures own { IfErr result (AtPath (λ p. p ≡ path.now)) }
     ensures kept { H.told files.new ≡ H.told files.old }
     ensures later { H.faults files.old ≤ H.faults files.new }
 {

@@ -2,7 +2,7 @@
 
 ghost use Rattle.std.specs.Prelude.{◌≡◌, ◌≤◌, IfOk, IfErr, IfSome, IfNone};
 ghost use Rattle.limbo_tree.specs.View.{view_source};
-ghost use Rattle.source_files.specs.Files.{IsMissing, IsSpelled, IsRefusal, IsRefusalOf};
+ghost use Rattle.source_files.specs.Files.{AtPath, IsMissing, IsSpelled, IsRefusal, IsRefusalOf};
 
 use crate::fault::FilesFault;
 use crate::opening::bytes_at;
@@ -14,7 +14,8 @@ use std::alloc::Global;
 
 // The refusal of the text at a path.
 fn refusal(path: &Text, fault: TextFault) -> FilesFault
-    ensures { IsRefusalOf path.now fault result }
+    ensures refused { IsRefusalOf path.now fault result }
+    ensures own { AtPath (λ p. p ≡ path.now) result }
 {
     let Ok(path) = path.clone() else {
         return FilesFault::NoMemory;
@@ -38,6 +39,7 @@ pub fn tree_at<H: HostTree>(
     ensures found { IfOk result (λ o. IfSome o (λ tree. IsSpelled (H.told files.old) path.now (view_source tree))) }
     ensures missing { IfOk result (λ o. IfNone o (IsMissing (H.told files.old) path.now)) }
     ensures refused { IfErr result (λ e. IsRefusal (H.told files.old) (H.faults files.old) (H.faults files.new) e) }
+    ensures own { IfErr result (AtPath (λ p. p ≡ path.now)) }
     ensures kept { H.told files.new ≡ H.told files.old }
     ensures later { H.faults files.old ≤ H.faults files.new }
 {
