@@ -1,3 +1,4 @@
 pub mod Tops
 pub mod TopLevel
 pub mod View
+pub mod Parts

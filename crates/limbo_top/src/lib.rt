@@ -15,5 +15,5 @@ mod tops;
 
 pub use fault::TopFault;
 pub use module::{alone, implemented};
-pub use naming::top_level;
+pub use naming::{TopLevel, top_level};
 pub use tops::{Definition, declared, definitions};

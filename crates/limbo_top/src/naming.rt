@@ -6,12 +6,13 @@ ghost use Rattle.inf_text.specs.declared.span.Span.{Span};
 ghost use Rattle.limbo_declarations.specs.Names.{names, AreOnce};
 ghost use Rattle.limbo_declarations.specs.View.{rows_of};
 ghost use Rattle.limbo_top.specs.TopLevel.{IsTopLevel, HasNoModule, HasNoTopLevel, DeclaresTwice};
+ghost use Rattle.limbo_top.specs.Parts.{AreParts};
 ghost use Rattle.limbo_top.specs.View.{placed};
 ghost use Rattle.limbo_top.specs.declared.fault.TopFault.TheVariants.{Twice, Unknown};
 
 use crate::fault::TopFault;
 use crate::module::{alone, implemented};
-use crate::tops::{declared, definitions};
+use crate::tops::{Definition, declared, definitions};
 use inf_text::Text;
 use limbo_declarations::{Names, Row, RowsFault, module_rows};
 use limbo_includes::Standing;
@@ -60,7 +61,22 @@ fn joined<'a>(
     Ok(rows)
 }
 
-/// The names of the top level of a source that implements the module of this name.
+/// The top level of a source: its names, and whence they come.
+#[derive(Drop)]
+pub struct TopLevel<'a> {
+    /// What the declarations declare.
+    pub declared: Names<'a>,
+    /// The members of the implemented module.
+    pub members: Names<'a>,
+    /// The functions that are defined and that the module doesn't declare.
+    pub alone: Vec<Row<'a>>,
+    /// The functions that are defined.
+    pub definitions: Vec<Definition<'a>>,
+    /// All names of the top level: those of the declarations, of the members, and of the functions that declare themselves.
+    pub names: Names<'a>,
+}
+
+/// The top level of a source that implements the module of this name.
 ///
 /// # Errors
 /// Want of memory. `Unknown` exactly where the source declares no such module at its top level. `Twice` only where a name is declared
@@ -69,8 +85,9 @@ pub fn top_level<'a>(
     alloc: Global,
     implements: &Text,
     tops: &[Standing<'a>],
-) -> Result<Names<'a>, TopFault<'a>>
-    ensures top_level { IfOk result (λ n. IsTopLevel implements.now (placed tops.now) (rows_of n.rows.items)) }
+) -> Result<TopLevel<'a>, TopFault<'a>>
+    ensures top_level { IfOk result (λ t. IsTopLevel implements.now (placed tops.now) (rows_of t.names.rows.items)) }
+    ensures parts { IfOk result (λ t. AreParts implements.now (placed tops.now) t) }
     ensures unknown { IfErr result (λ e. e ≡ Unknown → HasNoModule implements.now (placed tops.now)) }
     ensures twice { IfErr result (λ e. (p : Bor (List ℕ)) (at : Span) → e ≡ Twice p at → DeclaresTwice implements.now (placed tops.now)) }
     ensures none { IfErr result (λ e. (p : Bor (List ℕ)) (at : Span) → e ≡ Twice p at → HasNoTopLevel implements.now (placed tops.now)) }
@@ -86,5 +103,12 @@ pub fn top_level<'a>(
     let definitions = definitions(alloc, tops)?;
     let alone = alone(alloc, &inner, &definitions)?;
     let all = joined(alloc, &outer.rows, &inner.rows, &alone)?;
-    scope_of(alloc, all)
+    let names = scope_of(alloc, all)?;
+    Ok(TopLevel {
+        declared: outer,
+        members: inner,
+        alone,
+        definitions,
+        names,
+    })
 }

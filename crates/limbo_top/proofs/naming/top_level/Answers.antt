@@ -85,20 +85,18 @@ returns-clause-top_level c =
     c.in_ok-alone.ensures (rows_of_members path ms) m f refl in
     let j : c.in_ok-all.all.items ≡ c.in_ok-outer.outer.rows.items ++ c.in_ok-inner.inner.rows.items ++ c.in_ok-alone.alone.items = search rules in
     let r = parts_are c.in_ok-all.all.items c.in_ok-outer.outer.rows.items c.in_ok-inner.inner.rows.items c.in_ok-alone.alone.items (declared tops) (rows_of_members path ms) j d m in
-    both_ok c.scope_of-3.result _ _ _
-    (λ n e o. record {
+    record {
       path = path;
       members = ms;
       alone = rows_of c.in_ok-alone.alone.items;
       is_module = is;
       are_alone = a;
-      rows_are = ap (λ v. rows_of v.items) e ∙ r;
-      once = subst (λ (ns : List (List ℕ)). AreOnce ns) (ap (λ v. names v.items) (sym e) ∙ names_view n.rows.items) o;
-    })
-    c.scope_of-3.ensures.rows c.scope_of-3.ensures.once
+      rows_are = ap (λ v. rows_of v.items) c.in_ok-names.ensures.rows ∙ r;
+      once = subst (λ (ns : List (List ℕ)). AreOnce ns) (ap (λ v. names v.items) (sym c.in_ok-names.ensures.rows) ∙ names_view c.in_ok-names.names.rows.items) c.in_ok-names.ensures.once;
+    }
 
-pub returns-clause-none : goal.returns-clause-none
-returns-clause-none c =
+pub returns-clause-parts : goal.returns-clause-parts
+returns-clause-parts c =
     let tops = placed c.args.tops.now in
     let path = c.in-Some.module.0.now in
     let ms : Members = view_members c.in-Some.module.1.now in
@@ -112,11 +110,38 @@ returns-clause-none c =
     c.in_ok-alone.ensures (rows_of_members path ms) m f refl in
     let j : c.in_ok-all.all.items ≡ c.in_ok-outer.outer.rows.items ++ c.in_ok-inner.inner.rows.items ++ c.in_ok-alone.alone.items = search rules in
     let r = parts_are c.in_ok-all.all.items c.in_ok-outer.outer.rows.items c.in_ok-inner.inner.rows.items c.in_ok-alone.alone.items (declared tops) (rows_of_members path ms) j d m in
-    IfErr-weaker c.scope_of-3.result _ _
-    (λ e k p at s rows top. k p at s
+    record {
+      path = path;
+      members = ms;
+      is_module = is;
+      declared_are = d;
+      members_are = m;
+      definitions_are = c.in_ok-definitions.ensures;
+      alone_are = a;
+      names_are = ap (λ v. rows_of v.items) c.in_ok-names.ensures.rows ∙ r;
+    }
+
+pub returns-in_err-names-clause-none : goal.returns-in_err-names-clause-none
+returns-in_err-names-clause-none c =
+    let tops = placed c.args.tops.now in
+    let path = c.in-Some.module.0.now in
+    let ms : Members = view_members c.in-Some.module.1.now in
+    let d : rows_of c.in_ok-outer.outer.rows.items ≡ declared tops = ap (λ v. rows_of v.items) c.in_ok-outer.ensures.rows ∙ c.in_ok-rows.ensures in
+    let m : rows_of c.in_ok-inner.inner.rows.items ≡ rows_of_members path ms = ap (λ v. rows_of v.items) c.in_ok-inner.ensures.rows ∙ c.in_ok-listed.ensures in
+    let is : DeclaresModule (declared tops) c.args.implements.now path ms =
+    subst (λ (rs : List Row). DeclaresModule rs c.args.implements.now path ms) d c.in-Some.ensures.some in
+    let f : definitions_of c.deref.result.now ≡ definitions tops = ap definitions_of c.deref.ensures.value ∙ c.in_ok-definitions.ensures in
+    let a : Alone (rows_of_members path ms) (definitions tops) (rows_of c.in_ok-alone.alone.items) =
+    alone_are (rows_of c.in_ok-inner.inner.rows.items) (definitions_of c.deref.result.now) (definitions tops) (rows_of c.in_ok-alone.alone.items) (rows_of c.in_ok-alone.alone.items)
+    c.in_ok-alone.ensures (rows_of_members path ms) m f refl in
+    let j : c.in_ok-all.all.items ≡ c.in_ok-outer.outer.rows.items ++ c.in_ok-inner.inner.rows.items ++ c.in_ok-alone.alone.items = search rules in
+    let r = parts_are c.in_ok-all.all.items c.in_ok-outer.outer.rows.items c.in_ok-inner.inner.rows.items c.in_ok-alone.alone.items (declared tops) (rows_of_members path ms) j d m in
+    let k : (p : Bor (List ℕ)) (at : Span) → c.in_err-names.field-0.0 ≡ Twice p at → HasNoTopLevel c.args.implements.now tops =
+    λ p at e rows top. c.in_err-names.ensures.twice p at e
     (once_in c.in_ok-all.all.items (declared tops ++ rows_of_members path ms ++ rows_of c.in_ok-alone.alone.items) r
-    (all_once c.args.implements.now tops rows top path ms (rows_of c.in_ok-alone.alone.items) is a)))
-    c.scope_of-3.ensures.twice
+    (all_once c.args.implements.now tops rows top path ms (rows_of c.in_ok-alone.alone.items) is a)) in
+    let p = err_from_is_err_and c.from_residual-in_err-names.result c.from_residual-in_err-names.ensures.1 in
+    rw (p.1, p.2) k
 
 pub returns-in_err-outer-clause-twice : goal.returns-in_err-outer-clause-twice
 returns-in_err-outer-clause-twice c =
@@ -139,8 +164,8 @@ returns-in_err-inner-clause-twice c =
     let p = err_from_is_err_and c.from_residual-in_err-inner.result c.from_residual-in_err-inner.ensures.1 in
     rw (p.1, p.2) k
 
-pub returns-clause-twice : goal.returns-clause-twice
-returns-clause-twice c =
+pub returns-in_err-names-clause-twice : goal.returns-in_err-names-clause-twice
+returns-in_err-names-clause-twice c =
     let tops = placed c.args.tops.now in
     let path = c.in-Some.module.0.now in
     let ms : Members = view_members c.in-Some.module.1.now in
@@ -154,7 +179,8 @@ returns-clause-twice c =
     c.in_ok-alone.ensures (rows_of_members path ms) m f refl in
     let j : c.in_ok-all.all.items ≡ c.in_ok-outer.outer.rows.items ++ c.in_ok-inner.inner.rows.items ++ c.in_ok-alone.alone.items = search rules in
     let r = parts_are c.in_ok-all.all.items c.in_ok-outer.outer.rows.items c.in_ok-inner.inner.rows.items c.in_ok-alone.alone.items (declared tops) (rows_of_members path ms) j d m in
-    IfErr-weaker c.scope_of-3.result _ _
-    (λ e k p at s. at_top path ms (rows_of c.in_ok-alone.alone.items) is a
-    (λ o. k p at s (once_in c.in_ok-all.all.items (declared tops ++ rows_of_members path ms ++ rows_of c.in_ok-alone.alone.items) r o)))
-    c.scope_of-3.ensures.twice
+    let k : (p : Bor (List ℕ)) (at : Span) → c.in_err-names.field-0.0 ≡ Twice p at → DeclaresTwice c.args.implements.now tops =
+    λ p at e. at_top path ms (rows_of c.in_ok-alone.alone.items) is a
+    (λ o. c.in_err-names.ensures.twice p at e (once_in c.in_ok-all.all.items (declared tops ++ rows_of_members path ms ++ rows_of c.in_ok-alone.alone.items) r o)) in
+    let p = err_from_is_err_and c.from_residual-in_err-names.result c.from_residual-in_err-names.ensures.1 in
+    rw (p.1, p.2) k
