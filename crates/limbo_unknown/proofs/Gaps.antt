@@ -1,7 +1,9 @@
 -- Names of which one isn't there.
-use Rattle.std.proofs.Common.{◌≡◌, inl, inr, ℕ, List, [], ◌∷◌, ◌++◌, Option, None, Some, IfSome, IfNone, Result, Ok, Err, IfOk, refl, sym, subst, arith}
+use Rattle.std.proofs.Common.{◌≡◌, inl, inr, ℕ, List, [], ◌∷◌, ◌++◌, refl, sym, subst, arith}
+use Rattle.std.proofs.Common.{Option, None, Some, IfSome, IfNone, Result, Ok, Err, IfOk}
 use Rattle.std.specs.List.{Contains}
-use Rattle.std.proofs.lemmas.List.Elements.{Contains-append_left, Contains-append_right, Contains-append_cases, Contains-push, Contains-push_cases}
+use Rattle.std.proofs.lemmas.List.Elements.{Contains-append_left, Contains-append_right, Contains-append_cases}
+use Rattle.std.proofs.lemmas.List.Elements.{Contains-push, Contains-push_cases}
 use Rattle.inf_text.specs.declared.span.Span.{Span}
 use Rattle.limbo_entries.specs.View.{entries_of}
 use Rattle.limbo_naming.specs.Qualified.{Qualified}
@@ -36,8 +38,10 @@ module _ (n : Naming) (scope : Option ℕ) where
     | inr e ↦ subst (λ (x : Qualified). Lacks (entries_of n.table.now.entries.items) n.implemented scope x) (sym e) l.lacks
   ]
 
-  pub there : (q : Qualified) (found : Named) → Knows n → (found ≡ named.Unknown → ⊥) → TellsOf n scope q found → LacksOneOf n scope (q ∷ []) → ⊥
-  there q (named.Found r) k e t l = lacks_none (entries_of n.table.now.entries.items) n.implemented k.sight.once scope q r (lacks_only q l) t
+  pub there :
+      (q : Qualified) (found : Named) → Knows n → (found ≡ named.Unknown → ⊥) → TellsOf n scope q found → LacksOneOf n scope (q ∷ []) → ⊥
+  there q (named.Found r) k e t l =
+      lacks_none (entries_of n.table.now.entries.items) n.implemented k.sight.once scope q r (lacks_only q l) t
   there q named.Unknown k e t l = e refl
   there q named.Nothing k e t l = t.0 (lacks_only q l)
 
@@ -61,7 +65,8 @@ module _ (n : Naming) (scope : Option ℕ) where
     | inr c ↦ record { name = l.name; among = c; lacks = l.lacks }
   ]
 
-  pub told_behind : (xs ys : List Qualified) (r : Option Span) → (LacksOneOf n scope xs → ⊥) → IsTold n scope ys r → IsTold n scope (xs ++ ys) r
+  pub told_behind :
+      (xs ys : List Qualified) (r : Option Span) → (LacksOneOf n scope xs → ⊥) → IsTold n scope ys r → IsTold n scope (xs ++ ys) r
   told_behind xs ys None never t = λ l. t (not_front xs ys never l)
   told_behind xs ys (Some at) never t = behind xs ys t
 
@@ -71,14 +76,18 @@ module _ (n : Naming) (scope : Option ℕ) where
   told_later xs ys (Ok found) never t = told_behind xs ys found never t
   told_later xs ys (Err e) never t = tt
 
-  -- ---- one after the other: what is left is some names and what is left behind them
+  -- ---- one after the other
 
-  module _ (all rest xs more : List Qualified) (apart : rest ≡ xs ++ more) where
-    pub met : (LacksOneOf n scope rest → LacksOneOf n scope all) → LacksOneOf n scope xs → LacksOneOf n scope all
-    met up l = up (subst (λ (z : List Qualified). LacksOneOf n scope z) (sym apart) (front xs more l))
+  -- one of what is left isn't there exactly where one of all isn't
+  abbrev pub Alike : (rest all : List Qualified) → Type 0
+  Alike rest all = record {
+    up : LacksOneOf n scope rest → LacksOneOf n scope all;
+    down : LacksOneOf n scope all → LacksOneOf n scope rest;
+  }
 
-    pub up_on : (LacksOneOf n scope rest → LacksOneOf n scope all) → LacksOneOf n scope more → LacksOneOf n scope all
-    up_on up l = up (subst (λ (z : List Qualified). LacksOneOf n scope z) (sym apart) (behind xs more l))
-
-    pub down_on : (LacksOneOf n scope all → LacksOneOf n scope rest) → (LacksOneOf n scope xs → ⊥) → LacksOneOf n scope all → LacksOneOf n scope more
-    down_on down never l = not_front xs more never (subst (λ (z : List Qualified). LacksOneOf n scope z) apart (down l))
+  -- what is left is some names and what is left behind them, and those are there
+  pub on : (all rest xs more : List Qualified) → rest ≡ xs ++ more → (LacksOneOf n scope xs → ⊥) → Alike rest all → Alike more all
+  on all rest xs more apart never same = record {
+    up = λ l. same.up (subst (λ (z : List Qualified). LacksOneOf n scope z) (sym apart) (behind xs more l));
+    down = λ l. not_front xs more never (subst (λ (z : List Qualified). LacksOneOf n scope z) apart (same.down l));
+  }

@@ -3,7 +3,7 @@ use Rattle.limbo_tree.specs.View.{view_expr}
 use Rattle.limbo_constants.specs.View.{view_parts}
 use Rattle.limbo_declarations.proofs.Apart.{drop_more}
 use Rattle.limbo_unknown.specs.Written.{first, in_parts}
-use Rattle.limbo_unknown.proofs.Gaps.{up_on, down_on}
+use Rattle.limbo_unknown.proofs.Gaps.{on}
 use Rattle.limbo_unknown.proofs.exprs.missing_in_parts.Goals as goal
 
 pub loop-part-preserved : goal.loop-part-preserved
@@ -15,7 +15,4 @@ loop-part-preserved c =
     let more = in_parts d (view_parts (drop (k + 1) ps)) in
     let apart : in_parts d (view_parts (drop k ps)) ≡ xs ++ more =
     ap (in_parts d) (drop_more (λ p. view_expr p.now) k ps c.part-item.result (omega arith) c.part-item.is) in
-    record {
-      up = up_on c.args.naming.now c.args.scope (in_parts d (view_parts ps)) _ xs more apart c.loop-part.invariant.up;
-      down = down_on c.args.naming.now c.args.scope (in_parts d (view_parts ps)) _ xs more apart c.loop-part.invariant.down c.in_default.ensures;
-    }
+    on c.args.naming.now c.args.scope (in_parts d (view_parts ps)) _ xs more apart c.in_default.ensures c.loop-part.invariant

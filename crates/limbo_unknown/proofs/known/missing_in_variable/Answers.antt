@@ -6,5 +6,5 @@ use Rattle.limbo_unknown.proofs.known.missing_in_variable.Goals as goal
 
 pub returns-in-None : goal.returns-in-None
 returns-in-None c =
-    told_later c.args.naming.now c.args.scope (in_type (view_type c.args.of.now)) (in_value (option_map (λ e. view_expr e.now) c.args.value))
-    c.missing_in_value.result c.in-None.ensures c.missing_in_value.ensures
+    told_later c.args.naming.now c.args.scope (in_type (view_type c.args.of.now))
+    (in_value (option_map (λ e. view_expr e.now) c.args.value)) c.missing_in_value.result c.in-None.ensures c.missing_in_value.ensures

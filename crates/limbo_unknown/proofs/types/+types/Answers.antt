@@ -2,7 +2,7 @@ use Rattle.std.proofs.Common.{◌≡◌, ◌+◌, ◌++◌, map, drop, ap, arith
 use Rattle.limbo_tree.specs.View.{view_type, tys_of}
 use Rattle.limbo_declarations.proofs.Apart.{drop_more}
 use Rattle.limbo_unknown.specs.Written.{in_type, in_types}
-use Rattle.limbo_unknown.proofs.Gaps.{told_nothing, up_on, down_on}
+use Rattle.limbo_unknown.proofs.Gaps.{told_nothing, on}
 use Rattle.limbo_unknown.proofs.Plain.{no_names}
 use Rattle.limbo_unknown.proofs.types.+types.Goals as goal
 
@@ -20,7 +20,4 @@ missing_in_types-loop-of-preserved t c =
     let more = in_types (tys_of (map view_type (drop (k + 1) ts))) in
     let apart : in_types (tys_of (map view_type (drop k ts))) ≡ xs ++ more =
     ap (λ ys. in_types (tys_of ys)) (drop_more view_type k ts c.of-item.result (omega arith) c.of-item.is) in
-    record {
-      up = up_on c.args.naming.now c.args.scope (in_types (tys_of (map view_type ts))) _ xs more apart c.loop-of.invariant.up;
-      down = down_on c.args.naming.now c.args.scope (in_types (tys_of (map view_type ts))) _ xs more apart c.loop-of.invariant.down c.in_default.ensures;
-    }
+    on c.args.naming.now c.args.scope (in_types (tys_of (map view_type ts))) _ xs more apart c.in_default.ensures c.loop-of.invariant

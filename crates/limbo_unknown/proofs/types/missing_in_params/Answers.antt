@@ -3,7 +3,7 @@ use Rattle.limbo_tree.specs.View.{view_type, view_param}
 use Rattle.limbo_declarations.proofs.Apart.{drop_more}
 use Rattle.limbo_unknown.specs.Written.{in_type, in_params}
 use Rattle.limbo_unknown.specs.Lacking.{LacksOneOf}
-use Rattle.limbo_unknown.proofs.Gaps.{up_on, down_on}
+use Rattle.limbo_unknown.proofs.Gaps.{on}
 use Rattle.limbo_unknown.proofs.types.missing_in_params.Goals as goal
 
 pub loop-param-preserved : goal.loop-param-preserved
@@ -15,7 +15,4 @@ loop-param-preserved c =
     let apart : in_params (map view_param (drop k ps)) ≡ xs ++ more =
     ap in_params (drop_more view_param k ps c.param-item.result (omega arith) c.param-item.is) in
     let never : LacksOneOf c.args.naming.now c.args.scope xs → ⊥ = rw c.deref.ensures at c.in_default.ensures in
-    record {
-      up = up_on c.args.naming.now c.args.scope (in_params (map view_param ps)) _ xs more apart c.loop-param.invariant.up;
-      down = down_on c.args.naming.now c.args.scope (in_params (map view_param ps)) _ xs more apart c.loop-param.invariant.down never;
-    }
+    on c.args.naming.now c.args.scope (in_params (map view_param ps)) _ xs more apart never c.loop-param.invariant
