@@ -4,7 +4,7 @@ ghost use Rattle.std.specs.Prelude.{◌≡◌, ◌<◌, ℕ, List, Option, None,
 ghost use Rattle.limbo_tree.specs.View.{view_qual, view_expr};
 ghost use Rattle.limbo_entries.specs.Entries.{Entry, AreOnce};
 ghost use Rattle.limbo_entries.specs.View.{entries_of};
-ghost use Rattle.limbo_naming.specs.Qualified.{Qualified, of_type, of_expr};
+ghost use Rattle.limbo_naming.specs.Qualified.{Qualified, Simple, Member, of_type, of_expr};
 ghost use Rattle.limbo_naming.specs.Naming.{Leads};
 ghost use Rattle.limbo_naming.specs.Search.{AreKnown, AreDone, Says};
 ghost use Rattle.limbo_naming.specs.Told.{Tells, TellsOf, Knows, IsNaming};
@@ -13,6 +13,8 @@ ghost use Rattle.limbo_naming.specs.declared.state.State.{State};
 use crate::search::search;
 use crate::sight::Sight;
 use crate::state::{Found, State};
+use crate::written::Written;
+use inf_text::Text;
 use limbo_entries::Table;
 use limbo_tree::{Expr, Qual};
 use std::alloc::{AllocError, Global};
@@ -88,6 +90,23 @@ impl<'t, 'a> Naming<'t, 'a> {
         ensures named { TellsOf self.now scope (of_type (view_qual name.now)) result }
     {
         told(self.sight().qual(scope, name))
+    }
+
+    /// What a name alone names in a scope.
+    pub fn name_named(&self, scope: Option<u32>, name: &Text) -> Named
+        requires names { Knows self.now }
+        ensures named { TellsOf self.now scope (Simple name.now) result }
+    {
+        told(self.sight().simple(scope, name))
+    }
+
+    /// What a name that is imported from a module names in a scope.
+    pub fn import_named(&self, scope: Option<u32>, source: &Text, name: &Text) -> Named
+        requires names { Knows self.now }
+        ensures named { TellsOf self.now scope (Member (Simple source.now) name.now) result }
+    {
+        let name = Written::Imported { source, name };
+        told(self.sight().written(scope, name))
     }
 
     /// What an expression that is a name names in a scope; none where it is no name.

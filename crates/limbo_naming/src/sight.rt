@@ -81,8 +81,8 @@ impl<'s, 'a> Sight<'s, 'a> {
         }
     }
 
-    // What a name alone names.
-    fn simple(&self, scope: Option<u32>, name: &Text) -> Found
+    /// What a name alone names.
+    pub(crate) fn simple(&self, scope: Option<u32>, name: &Text) -> Found
         requires sight { Sees self.now }
         ensures { SaysIn self.now scope (Simple name.now) result }
     {
@@ -184,8 +184,8 @@ impl<'s, 'a> Sight<'s, 'a> {
         self.with_part(second, &qual.part)
     }
 
-    // What a name names as a declaration has it.
-    fn written(&self, scope: Option<u32>, name: Written) -> Found
+    /// What a name names as a declaration has it.
+    pub(crate) fn written(&self, scope: Option<u32>, name: Written) -> Found
         requires sight { Sees self.now }
         ensures { SaysIn self.now scope (view_written name.entry) result }
     {
