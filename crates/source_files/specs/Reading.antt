@@ -1,5 +1,6 @@
 -- What is known while the files are read.
-use Rattle.std.specs.Prelude.{◌++◌, ◌≡◌, ◌⊎◌, ℕ, suc, ◌≤◌, ◌<◌, Bool, true, false, not, List, [], ◌∷◌, length, IsSome, None, Some, slice_get, slice_index_or}
+use Rattle.std.specs.Prelude.{◌++◌, ◌≡◌, ◌⊎◌, ℕ, suc, ◌≤◌, ◌<◌, Bool, true, false}
+use Rattle.std.specs.Prelude.{not, List, [], ◌∷◌, length, IsSome, None, Some, slice_get, slice_index_or}
 use Rattle.std.specs.Option.{IfSome}
 use Rattle.std.specs.List.{Contains}
 use Rattle.std.specs.Ordering.{nat_cmp}
