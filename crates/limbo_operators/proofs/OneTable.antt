@@ -13,14 +13,14 @@ use Rattle.limbo_typed.specs.declared.operation.Sequence.TheVariants as sequence
 use Rattle.limbo_typed.specs.declared.operation.Operation.TheVariants as op
 use Rattle.limbo_typed.specs.Fitting.{of_kind, IsSequence, IsPick}
 use Rattle.limbo_typed.specs.Sound.{IsSettled}
-use Rattle.limbo_operators.specs.Forms.{kind_of, is_int, is_text, ref_of, sequence_of, is_byte, is_bytes, is_settled}
-use Rattle.limbo_operators.specs.Forms.{choose}
+use Rattle.limbo_forms.specs.Forms.{kind_of, is_int, is_text, ref_of, sequence_of, is_byte, is_bytes, is_settled}
+use Rattle.limbo_forms.specs.Forms.{choose}
 use Rattle.limbo_operators.specs.Rows.{OneRow, one, IsText, UnaryRow, BytesRow, altering, converting}
 use Rattle.limbo_operators.specs.Rows as rule
 use Rattle.limbo_operators.specs.Choosing.{has_variants, is_pick, settled_item, is_byte_kind, convert_row, string_row, length_row, tag_row}
 use Rattle.limbo_operators.specs.Choosing.{not_row, head_row, tail_row, other_row, alter_row, unary_row, bytes_row}
-use Rattle.limbo_operators.proofs.Elements.{settled_is, settled_true}
-use Rattle.limbo_operators.proofs.Table.{choose_some, if_some, kind_is, kind_found, int_is, text_is, text_found, text_no_kind, ref_is, ref_found}
+use Rattle.limbo_forms.proofs.Tests.{choose_some, if_some, kind_is, kind_found, int_is, settled_is, settled_true}
+use Rattle.limbo_operators.proofs.Table.{text_is, text_found, text_no_kind, ref_is, ref_found}
 
 altered_at : (defs : List Def) (o : UnaryOp) (u : Unary) (k : Kind) (t : Ty) → altering o ≡ Some u → t ≡ of_kind k
     → UnaryRow defs o t (one (of_kind k) (op.Alter u k) (of_kind k))

@@ -20,10 +20,10 @@ use Rattle.limbo_typed.specs.declared.operation.Connective.{Connective}
 use Rattle.limbo_typed.specs.Fitting.{of_kind}
 use Rattle.limbo_operators.specs.declared.signs.Binary.{Binary}
 use Rattle.limbo_operators.specs.declared.signs.Binary.TheVariants as binary
-use Rattle.limbo_operators.specs.Forms.{kind_of, same_kind, is_int, is_nil, is_text, is_reference}
-use Rattle.limbo_operators.specs.Forms.{is_channel, ref_of, item_of, sequence_of, is_bytes, is_settled}
-use Rattle.limbo_operators.specs.Joining.{joined}
-use Rattle.limbo_operators.specs.Forms.{choose}
+use Rattle.limbo_forms.specs.Forms.{kind_of, same_kind, is_int, is_nil, is_text, is_reference}
+use Rattle.limbo_forms.specs.Forms.{is_channel, ref_of, item_of, sequence_of, is_bytes, is_settled}
+use Rattle.limbo_standing.specs.Joining.{joined}
+use Rattle.limbo_forms.specs.Forms.{choose}
 use Rattle.limbo_operators.specs.Rows.{Row, row, OneRow, one, altering, converting, updating}
 
 -- ---- two operands

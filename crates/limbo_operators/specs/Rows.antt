@@ -30,7 +30,7 @@ use Rattle.limbo_typed.specs.Fitting.{of_kind, IsReference, IsRefOf, IsSequence,
 use Rattle.limbo_typed.specs.Sound.{IsSettled}
 use Rattle.limbo_operators.specs.declared.signs.Binary.{Binary}
 use Rattle.limbo_operators.specs.declared.signs.Binary.TheVariants as binary
-use Rattle.limbo_operators.specs.Joining.{Joins}
+use Rattle.limbo_standing.specs.Joining.{Joins}
 
 -- ---- what the signs mean
 

@@ -10,13 +10,13 @@ ghost use Rattle.limbo_operators.specs.Rows.{BinaryRow, LazyRow, UpdateRow, Unar
 ghost use Rattle.limbo_operators.specs.Choosing as choosing;
 ghost use Rattle.limbo_operators.specs.RowView.{view_row, view_one};
 
-use crate::form::{
+use crate::signs::{Binary, altering, converting, updating};
+use limbo_forms::{
     is_bytes, is_channel, is_int, is_nil, is_reference, is_same, is_settled, is_text, item_of,
     kind_of, of_kind, ref_of, same_kind, sequence_of,
 };
-use crate::joining::{join, or_nil};
-use crate::signs::{Binary, altering, converting, updating};
 use limbo_layout::AdtDef;
+use limbo_standing::{join, or_nil};
 use limbo_tree::{AssignOp, UnaryOp};
 use limbo_typed::{Connective, Operation};
 use limbo_types::{Ty, copy};
