@@ -1,5 +1,4 @@
 pub mod Others
 pub mod Table
 pub mod Told
-pub mod OneTable
 pub mod Giving

@@ -1,7 +1,7 @@
-//! The rows of Limbo's table of operators (Limbo Language Reference, expressions).
+//! The rows of Limbo's table of operators between two operands (Limbo Language Reference, expressions).
 //!
 //! `specs/Rows.antt` has the table itself, a line for each row: what the signs mean, and for operands of which types there is an
-//! operation. The checker of expressions stands on it.
+//! operation. The operators before one operand, and the checker of expressions, stand on it.
 //!
 //! Read `signs`, `rows`, `laws`.
 #![tactic(auto)]
@@ -11,5 +11,5 @@ mod rows;
 mod signs;
 
 pub use laws::{one_row, rows_give};
-pub use rows::{OneRow, Row, binary_row, bytes_row, lazy_row, unary_row, update_row};
-pub use signs::{Binary, altering, before_of, binary_of, converting, updating};
+pub use rows::{Row, binary_row, lazy_row, update_row};
+pub use signs::{Binary, binary_of, updating};

@@ -15,10 +15,11 @@ use Rattle.limbo_typed.specs.Fitting.{of_kind, IsSequence, IsPick}
 use Rattle.limbo_typed.specs.Sound.{IsSettled}
 use Rattle.limbo_forms.specs.Forms.{kind_of, is_int, is_text, ref_of, sequence_of, is_byte, is_bytes, is_settled}
 use Rattle.limbo_forms.specs.Forms.{choose}
-use Rattle.limbo_operators.specs.Rows.{OneRow, one, IsText, UnaryRow, BytesRow, altering, converting}
-use Rattle.limbo_operators.specs.Rows as rule
-use Rattle.limbo_operators.specs.Choosing.{has_variants, is_pick, settled_item, is_byte_kind, convert_row, string_row, length_row, tag_row}
-use Rattle.limbo_operators.specs.Choosing.{not_row, head_row, tail_row, other_row, alter_row, unary_row, bytes_row}
+use Rattle.limbo_operators.specs.Rows.{IsText}
+use Rattle.limbo_prefixes.specs.Rows.{OneRow, one, UnaryRow, BytesRow, altering, converting}
+use Rattle.limbo_prefixes.specs.Rows as rule
+use Rattle.limbo_prefixes.specs.Choosing.{has_variants, is_pick, settled_item, is_byte_kind, convert_row, string_row, length_row, tag_row}
+use Rattle.limbo_prefixes.specs.Choosing.{not_row, head_row, tail_row, other_row, alter_row, unary_row, bytes_row}
 use Rattle.limbo_forms.proofs.Tests.{choose_some, if_some, kind_is, kind_found, int_is, settled_is, settled_true}
 use Rattle.limbo_operators.proofs.Table.{text_is, text_found, text_no_kind, ref_is, ref_found}
 

@@ -2,11 +2,11 @@ use Rattle.std.proofs.Common.{◌≡◌, option_map}
 use Rattle.std.proofs.lemmas.Result.{IfOk-weaker}
 use Rattle.limbo_types.specs.View.{view_ty}
 use Rattle.limbo_layout.specs.View.{view_defs}
-use Rattle.limbo_operators.specs.Choosing.{unary_row}
-use Rattle.limbo_operators.specs.RowView.{view_one}
-use Rattle.limbo_operators.proofs.OneTable.{unary_given, unary_found}
-use Rattle.limbo_operators.proofs.Told.{one_found, one_absent}
-use Rattle.limbo_operators.proofs.rows.unary_row.Goals as goal
+use Rattle.limbo_prefixes.specs.Choosing.{unary_row}
+use Rattle.limbo_prefixes.specs.RowView.{view_one}
+use Rattle.limbo_prefixes.proofs.OneTable.{unary_given, unary_found}
+use Rattle.limbo_prefixes.proofs.Told.{one_found, one_absent}
+use Rattle.limbo_prefixes.proofs.rows.unary_row.Goals as goal
 
 pub returns-clause-found : goal.returns-clause-found
 returns-clause-found c =
