@@ -2,13 +2,12 @@
 use Rattle.std.proofs.Common.{ℕ, List, [], ◌∷◌, refl, inl, inr}
 use Rattle.limbo_types.specs.Types.{Ty, Int, RefAdt, RefPick}
 use Rattle.limbo_layout.specs.Adts.{Def}
-use Rattle.limbo_tree.specs.declared.operators.UnaryOp.{UnaryOp}
 use Rattle.limbo_typed.specs.declared.operation.Operation.{Operation}
 use Rattle.limbo_typed.specs.Fitting.{Gives, IsReference, IsRefOf, ComparesTwo}
 use Rattle.limbo_typed.specs.Sound.{IsSettled}
 use Rattle.limbo_values.specs.declared.operator.Comparison.{Comparison}
 use Rattle.limbo_operators.specs.declared.signs.Binary.{Binary}
-use Rattle.limbo_operators.specs.Rows.{Row, OneRow, Identifies, AreLike, BinaryRow, UnaryRow, BytesRow}
+use Rattle.limbo_operators.specs.Rows.{Row, Identifies, AreLike, BinaryRow}
 use Rattle.limbo_operators.specs.Rows as rule
 
 compares : (defs : List Def) (c : Comparison) (o : Operation) (t u : Ty) → Identifies c o → ComparesTwo (t ∷ u ∷ []) Int
@@ -38,19 +37,3 @@ binary_gives defs _ _ _ _ (rule.with_nil c o t i f h) s = compares defs c o t t 
 binary_gives defs _ _ _ _ (rule.nil_with c o t i f h) s = compares defs c o t t i (f, inl refl, refl)
 binary_gives defs _ _ _ _ (rule.puts t u i j p q h) s = (j, inl refl, refl, refl)
 binary_gives defs _ _ _ _ (rule.puts_open t u i j p q h) s = absurd s
-
-pub unary_gives : (defs : List Def) (o : UnaryOp) (t : Ty) (r : OneRow) → UnaryRow defs o t r → Gives defs r.operation (r.operand ∷ []) r.result
-unary_gives defs _ _ _ (rule.altered o u k h) = (refl, refl)
-unary_gives defs _ _ _ rule.denied = (refl, refl)
-unary_gives defs _ _ _ (rule.head t h) = refl
-unary_gives defs _ _ _ (rule.tail t h) = (tt, refl)
-unary_gives defs _ _ _ (rule.UnaryRow.length s t h k) = (h, refl)
-unary_gives defs _ _ _ (rule.tag n t h p) = (n, h, p, refl)
-unary_gives defs _ _ _ (rule.converted o from to h) = (refl, refl)
-unary_gives defs _ _ _ (rule.read_number o to t h n p) = (refl, refl)
-unary_gives defs _ _ _ (rule.number_text k) = (refl, refl)
-unary_gives defs _ _ _ rule.bytes_text = (refl, refl)
-unary_gives defs _ _ _ rule.nil_text = (refl, refl)
-
-pub bytes_give : (defs : List Def) (t : Ty) (r : OneRow) → BytesRow t r → Gives defs r.operation (r.operand ∷ []) r.result
-bytes_give defs _ _ (rule.text_bytes t h) = (refl, refl)

@@ -9,7 +9,7 @@ use Rattle.limbo_values.specs.declared.operator.Operator.TheVariants as operator
 use Rattle.limbo_values.specs.declared.operator.Shift.{Shift}
 use Rattle.limbo_values.specs.declared.operator.Comparison.{Comparison}
 use Rattle.limbo_values.specs.declared.operator.Comparison.TheVariants as comparison
-use Rattle.limbo_types.specs.Types.{Ty, Byte, Int, Big, Chars, Nil, ArrayOf, ListOf, ChanOf, RefAdt, RefPick, Module}
+use Rattle.limbo_types.specs.Types.{Ty, Int, Chars, Nil, ArrayOf, ListOf, ChanOf, RefAdt, RefPick, Module}
 use Rattle.limbo_types.specs.Same.{same}
 use Rattle.limbo_types.proofs.Same.{only, itself}
 use Rattle.limbo_tree.specs.declared.operators.AssignOp.{AssignOp}
@@ -19,52 +19,26 @@ use Rattle.limbo_typed.specs.declared.operation.Connective.{Connective}
 use Rattle.limbo_typed.specs.Fitting.{of_kind, IsReference, IsRefOf}
 use Rattle.limbo_operators.specs.declared.signs.Binary.{Binary}
 use Rattle.limbo_operators.specs.declared.signs.Binary.TheVariants as binary
-use Rattle.limbo_operators.specs.Forms.{kind_of, same_kind, is_int, is_nil, is_text, is_reference, is_channel, ref_of, item_of, is_settled}
-use Rattle.limbo_operators.specs.Joining.{Joins, joined}
-use Rattle.limbo_operators.specs.Forms.{choose}
+use Rattle.limbo_forms.specs.Forms.{kind_of, same_kind, is_int, is_nil, is_text, is_reference, is_channel, ref_of, item_of, is_settled}
+use Rattle.limbo_standing.specs.Joining.{Joins, joined}
+use Rattle.limbo_forms.specs.Forms.{choose}
 use Rattle.limbo_operators.specs.Rows.{Row, row, IsText, IsOrder, Identifies, AreLike, HasItems, BinaryRow, LazyRow, UpdateRow, updating}
 use Rattle.limbo_operators.specs.Rows as rule
 use Rattle.limbo_operators.specs.Choosing.{is_add, numbers, arithmetic_row, shift_row, identifying, are_like, may_be_nil, reference_row, is_order}
 use Rattle.limbo_operators.specs.Choosing.{text_row, compare_row, cons_of, cons_row, binary_row, lazy_row, update_row}
-use Rattle.limbo_operators.proofs.Elements.{both_true, settled_is, settled_true, not_settled, open_false, joins_given, joins_found}
+use Rattle.limbo_forms.proofs.Tests.{choose_some, if_some, both_true, kind_is, kind_found, int_is, nil_is, settled_is, settled_true, not_settled, open_false}
+use Rattle.limbo_standing.proofs.Elements.{joins_given, joins_found}
 
 -- ---- options and tests
-
-pub choose_some : {A B : Type 0} (o : Option A) (f : A → Option B) (y : B) → choose o None f ≡ Some y → (x : A) × (o ≡ Some x) × (f x ≡ Some y)
-choose_some (Some x) f y e = (x, refl, e)
-choose_some None f y e = absurd cc
-
-pub if_some : {A : Type 0} (b : Bool) (x y : A) → cond b (Some x) None ≡ Some y → (b ≡ true) × (x ≡ y)
-if_some true x y e = (refl, cc)
-if_some false x y e = absurd cc
 
 -- what isn't answered isn't there
 pub not_there : {A : Type 0} {P : A → Type 0} (o : Option A) → ((a : A) → P a → o ≡ Some a) → o ≡ None → (a : A) → P a → ⊥
 not_there o found e a p = let f : None ≡ Some a = sym e ∙ found a p in absurd cc
 
-pub kind_is : (t : Ty) (k : Kind) → kind_of t ≡ Some k → t ≡ of_kind k
-kind_is Byte k e = let f : kind.Byte ≡ k = cc in ap of_kind f
-kind_is Int k e = let f : kind.Int ≡ k = cc in ap of_kind f
-kind_is Big k e = let f : kind.Big ≡ k = cc in ap of_kind f
-kind_is _ k e = absurd cc
-
-pub kind_found : (k : Kind) → kind_of (of_kind k) ≡ Some k
-kind_found kind.Byte = refl
-kind_found kind.Int = refl
-kind_found kind.Big = refl
-
 pub no_text_kind : (k : Kind) → is_text (of_kind k) ≡ false
 no_text_kind kind.Byte = refl
 no_text_kind kind.Int = refl
 no_text_kind kind.Big = refl
-
-pub int_is : (t : Ty) → is_int t ≡ true → t ≡ Int
-int_is Int e = refl
-int_is _ e = absurd cc
-
-pub nil_is : (t : Ty) → is_nil t ≡ true → t ≡ Nil
-nil_is Nil e = refl
-nil_is _ e = absurd cc
 
 pub text_is : (t : Ty) → is_text t ≡ true → IsText t
 text_is Chars e = rule.chars

@@ -2,9 +2,8 @@
 use Rattle.std.proofs.Common.{◌≡◌, Option, Some, None, option_map, sym, ◌∙◌}
 use Rattle.std.specs.Prelude.{IfSome, IfNone}
 use Rattle.limbo_operators.specs.declared.rows.Row as code_row
-use Rattle.limbo_operators.specs.declared.rows.OneRow as code_one
-use Rattle.limbo_operators.specs.RowView.{view_row, view_one}
-use Rattle.limbo_operators.specs.Rows.{Row, OneRow}
+use Rattle.limbo_operators.specs.RowView.{view_row}
+use Rattle.limbo_operators.specs.Rows.{Row}
 
 pub answer_found : {A : Type 0} (o told : Option A) (P : A → Type 0) → o ≡ told → ((a : A) → told ≡ Some a → P a) → IfSome o P
 answer_found (Some a) told P e given = given a (sym e)
@@ -24,13 +23,3 @@ pub row_absent : (o : Option code_row.Row) (told : Option Row) (P : Row → Type
     → ((r : Row) → P r → told ≡ Some r) → IfNone o ((r : Row) → P r → ⊥)
 row_absent (Some r) told P e found = tt
 row_absent None told P e found = λ r p. let f : None ≡ Some r = e ∙ found r p in absurd cc
-
-pub one_found : (o : Option code_one.OneRow) (told : Option OneRow) (P : OneRow → Type 0) → option_map view_one o ≡ told
-    → ((r : OneRow) → told ≡ Some r → P r) → IfSome o (λ r. P (view_one r))
-one_found (Some r) told P e given = given (view_one r) (sym e)
-one_found None told P e given = tt
-
-pub one_absent : (o : Option code_one.OneRow) (told : Option OneRow) (P : OneRow → Type 0) → option_map view_one o ≡ told
-    → ((r : OneRow) → P r → told ≡ Some r) → IfNone o ((r : OneRow) → P r → ⊥)
-one_absent (Some r) told P e found = tt
-one_absent None told P e found = λ r p. let f : None ≡ Some r = e ∙ found r p in absurd cc

@@ -1,46 +1,17 @@
--- What holds of the table of operators and of the types of literals.
+-- What holds of the table of operators between two operands.
 use Rattle.std.specs.Prelude.{◌≡◌, List, [], ◌∷◌}
 use Rattle.limbo_types.specs.Types.{Ty}
 use Rattle.limbo_layout.specs.Adts.{Def}
-use Rattle.limbo_tree.specs.declared.operators.UnaryOp.{UnaryOp}
-use Rattle.limbo_typed.specs.Typed.{Expr}
-use Rattle.limbo_typed.specs.Fitting.{Gives, Stands}
-use Rattle.limbo_typed.specs.Sound.{IsSettled, type_of}
+use Rattle.limbo_typed.specs.Fitting.{Gives}
+use Rattle.limbo_typed.specs.Sound.{IsSettled}
 use Rattle.limbo_operators.specs.declared.signs.Binary.{Binary}
-use Rattle.limbo_operators.specs.Joining.{Joins}
-use Rattle.limbo_operators.specs.Standing.{Settles}
-use Rattle.limbo_operators.specs.Rows.{Row, BinaryRow, OneRow, UnaryRow, BytesRow}
-
--- The elements of a literal have one type at most.
-abbrev pub OneType : Type 0
-OneType = (ts : List Ty) (t u : Ty) → Joins ts t → Joins ts u → t ≡ u
+use Rattle.limbo_operators.specs.Rows.{Row, BinaryRow}
 
 -- For an operator and operands of given types the table has one row at most.
 abbrev pub OneBinaryRow : Type 0
 OneBinaryRow = (sign : Binary) (t u : Ty) (r s : Row) → BinaryRow sign t u r → BinaryRow sign t u s → r ≡ s
 
-abbrev pub OneUnaryRow : Type 0
-OneUnaryRow = (defs : List Def) (o : UnaryOp) (t : Ty) (r s : OneRow) → UnaryRow defs o t r → UnaryRow defs o t s → r ≡ s
-
 -- Operands of the types that are asked fit the row's operation, which gives a value of the row's type, once that isn't open.
 abbrev pub BinaryGives : Type 0
 BinaryGives = (defs : List Def) (sign : Binary) (t u : Ty) (r : Row) → BinaryRow sign t u r → IsSettled r.result
     → Gives defs r.operation (r.left ∷ r.right ∷ []) r.result
-
-abbrev pub UnaryGives : Type 0
-UnaryGives = (defs : List Def) (o : UnaryOp) (t : Ty) (r : OneRow) → UnaryRow defs o t r
-    → Gives defs r.operation (r.operand ∷ []) r.result
-
-abbrev pub BytesGive : Type 0
-BytesGive = (defs : List Def) (t : Ty) (r : OneRow) → BytesRow t r → Gives defs r.operation (r.operand ∷ []) r.result
-
--- Where a type is asked for, a value is one tree at most. That tree has a type that stands there, and where the type that is asked for is
--- the value's own, it is the value as it is.
-abbrev pub OneSettled : Type 0
-OneSettled = (t : Ty) (e f g : Expr) → Settles t e f → Settles t e g → f ≡ g
-
-abbrev pub SettledStands : Type 0
-SettledStands = (t : Ty) (e f : Expr) → Settles t e f → Stands (type_of f) t
-
-abbrev pub SettledAsItIs : Type 0
-SettledAsItIs = (e f : Expr) → Settles (type_of e) e f → f ≡ e

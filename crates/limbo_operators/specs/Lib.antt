@@ -1,10 +1,3 @@
-pub mod Formats
-pub mod FormatReading
-pub mod Forms
-pub mod Joining
-pub mod ItemTypes
-pub mod Standing
-pub mod Settling
 pub mod Rows
 pub mod Choosing
 pub mod RowView

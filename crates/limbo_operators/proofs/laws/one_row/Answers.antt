@@ -1,6 +1,5 @@
 use Rattle.limbo_operators.proofs.Table.{binary_once}
-use Rattle.limbo_operators.proofs.OneTable.{unary_once}
 use Rattle.limbo_operators.proofs.laws.one_row.Goals as goal
 
 pub returns : goal.returns
-returns c = record { binary = binary_once; unary = unary_once }
+returns c = binary_once

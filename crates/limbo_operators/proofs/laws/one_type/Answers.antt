@@ -1,5 +1,0 @@
-use Rattle.limbo_operators.proofs.Elements.{joins_once}
-use Rattle.limbo_operators.proofs.laws.one_type.Goals as goal
-
-pub returns : goal.returns
-returns c = joins_once

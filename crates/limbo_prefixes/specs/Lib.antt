@@ -1,0 +1,4 @@
+pub mod Rows
+pub mod Choosing
+pub mod RowView
+pub mod Laws

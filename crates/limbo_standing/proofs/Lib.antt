@@ -1,0 +1,4 @@
+pub mod Elements
+pub mod Nodes
+pub mod Runs
+pub mod Settled

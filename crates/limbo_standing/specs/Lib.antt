@@ -1,0 +1,5 @@
+pub mod Joining
+pub mod ItemTypes
+pub mod Standing
+pub mod Settling
+pub mod Laws
