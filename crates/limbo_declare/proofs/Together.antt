@@ -17,7 +17,7 @@ use Rattle.limbo_unknown.specs.Lacking.{HasUnknown}
 use Rattle.limbo_constant_values.specs.Values.{AllHaveValues, AllInitial}
 use Rattle.limbo_declare.specs.declared.fault.NameFault.{NameFault}
 use Rattle.limbo_declare.specs.declared.fault.NameFault.TheVariants as fault
-use Rattle.limbo_declare.specs.Declares.{Parts, names_of, numbered, AreOnceInside, Declares, Fails, FailsTable, not_there}
+use Rattle.limbo_declare.specs.Declares.{Parts, names_of, numbered, AreNumbered, AreOnceInside, Declares, Fails, FailsTable, not_there}
 use Rattle.limbo_declare.proofs.Failing.{parts_of, rows_numbered}
 
 -- a row of the top level has a number
@@ -48,19 +48,22 @@ module _ (implements : List ℕ) (tops : List Placed) (t : code.TopLevel) (a : A
   pub no_module : HasNone es None implements → HasNoModule implements tops
   no_module f path ms d = let k = at_number path ms d in f k.0 (member_at path ms k.0 k.1)
 
-  pub fails_table : (m : ℕ) (e : NameFault) → FailsTable es m e → Fails implements tops e
-  fails_table m fault.NoMemory f = tt
-  fails_table m (fault.Twice path at) f = absurd f
-  fails_table m (fault.Unknown path at) f = not_there parts es m table_is f
-  fails_table m fault.NoModule f = absurd f
-  fails_table m (fault.NotConstant path at) f = record { parts = parts; entries = es; implemented = m; number = f.0; table = table_is; bad = f.1 }
-
   module _ (m : ℕ) (once : AreOnce es) (found : IsMember es None implements m) where
     module_there : IsEntry es m (record { within = None; row = module_row a.path implements a.members })
     module_there =
         let k = at_number a.path a.members a.is_module in
         subst (λ (z : ℕ). IsEntry es z (record { within = None; row = module_row a.path implements a.members }))
         (once None implements k.0 m (member_at a.path a.members k.0 k.1) found) k.1
+
+    numbers : AreNumbered parts es m
+    numbers = record { table = table_is; once = once; is_module = module_there }
+
+    pub fails_table : (e : NameFault) → FailsTable es m e → Fails implements tops e
+    fails_table fault.NoMemory f = tt
+    fails_table (fault.Twice path at) f = absurd f
+    fails_table (fault.Unknown path at) f = not_there parts es m numbers f
+    fails_table fault.NoModule f = absurd f
+    fails_table (fault.NotConstant path at) f = record { parts = parts; entries = es; implemented = m; number = f.0; numbers = numbers; bad = f.1 }
 
     pub declares : IsTopLevel implements tops (rows_of t.names.rows.items) → AreOnceInside tops
         → AllDefined (rows_of t.members.rows.items) (rows_of t.names.rows.items) (definitions_of t.definitions.items)
@@ -71,9 +74,7 @@ module _ (implements : List ℕ) (tops : List Placed) (t : code.TopLevel) (a : A
       parts = parts;
       top = subst (λ (z : List Row). IsTopLevel implements tops z) a.names_are top;
       once_inside = inside;
-      table = table_is;
-      once = once;
-      is_module = module_there;
+      numbers = numbers;
       defined =
           subst (λ (z : List Definition). AllDefined (rows_of_members a.path a.members) (names_of parts) z) a.definitions_are
           (subst (λ (z : List Row). AllDefined z (names_of parts) (definitions_of t.definitions.items)) a.members_are

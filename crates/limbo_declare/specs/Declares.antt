@@ -30,6 +30,12 @@ names_of {tops = tops} p = declared tops ++ rows_of_members p.path p.members ++ 
 abbrev pub numbered : {implements : List ℕ} {tops : List Placed} → Parts implements tops → List Row
 numbered {tops = tops} p = declared tops ++ p.alone
 
+-- These are all declarations by number, each scope with each name once, and `m` is the number of the implemented module.
+pub record AreNumbered {implements : List ℕ} {tops : List Placed} (p : Parts implements tops) (es : List Entry) (m : ℕ) : Type 0 where
+  pub table : IsTable (numbered p) es
+  pub once : AreOnce es
+  pub is_module : IsEntry es m (record { within = None; row = record { path = p.path; name = implements; means = Module p.members } })
+
 -- The scopes inside a declaration, and a function's parameters where it is defined, declare each name once.
 abbrev pub IsOnceIn : sources.Top → Type 0
 IsOnceIn (sources.Declared d) = DeclIsOnce d
@@ -45,10 +51,7 @@ pub record Declares (implements : List ℕ) (tops : List Placed) (es : List Entr
   pub parts : Parts implements tops
   pub top : IsTopLevel implements tops (names_of parts)
   pub once_inside : AreOnceInside tops
-  pub table : IsTable (numbered parts) es
-  pub once : AreOnce es
-  pub is_module :
-      IsEntry es m (record { within = None; row = record { path = parts.path; name = implements; means = Module parts.members } })
+  pub numbers : AreNumbered parts es m
   pub defined : AllDefined (rows_of_members parts.path parts.members) (names_of parts) (definitions tops)
   pub known : AllKnown (rows_of_members parts.path parts.members) (names_of parts) (definitions tops)
   pub defined_once : AreDefinedOnce (definitions tops)
@@ -74,7 +77,7 @@ pub data FailsUnknown (implements : List ℕ) (tops : List Placed) : Type 0 wher
   undeclared : (p : Parts implements tops) (d : Definition) (function : List ℕ) → Contains (definitions tops) d → d.part ≡ Some function
       → ((path : List ℕ) → IsDeclared (rows_of_members p.path p.members) (names_of p) path d.name (Some function) → ⊥)
       → FailsUnknown implements tops
-  not_there : (p : Parts implements tops) (es : List Entry) (m : ℕ) → IsTable (numbered p) es → HasUnknown es m
+  not_there : (p : Parts implements tops) (es : List Entry) (m : ℕ) → AreNumbered p es m → HasUnknown es m
       → FailsUnknown implements tops
 
 -- What must be constant isn't.
@@ -83,7 +86,7 @@ pub record FailsConstant (implements : List ℕ) (tops : List Placed) : Type 0 w
   pub entries : List Entry
   pub implemented : ℕ
   pub number : ℕ
-  pub table : IsTable (numbered parts) entries
+  pub numbers : AreNumbered parts entries implemented
   pub bad : IsNotConstant entries implemented number
 
 -- What each refusal says of a source.

@@ -21,4 +21,5 @@ returns-in-Ok-find_meanings-clause-declares c =
 pub returns-clause-fails : goal.returns-clause-fails
 returns-clause-fails c =
     fails_table c.args.implements.now (placed c.args.tops.now) c.in-Ok.top c.in-Ok.ensures.parts (entries_of c.in-Ok-make_table.table.entries.items)
-    c.in-Ok-make_table.ensures.table c.in-Some.number c.in-Err-find_meanings.fault c.in-Err-find_meanings.ensures.fails
+    c.in-Ok-make_table.ensures.table c.in-Some.number c.in-Ok-make_table.ensures.once c.in-Some.ensures.found c.in-Err-find_meanings.fault
+    c.in-Err-find_meanings.ensures.fails
