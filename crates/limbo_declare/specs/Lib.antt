@@ -1,2 +1,3 @@
 pub mod Declares
 pub mod Numbers
+pub mod Laws

@@ -5,13 +5,15 @@
 //! (`limbo_entries`), the names that they write (`limbo_naming`, `limbo_unknown`) and the values of constants
 //! (`limbo_constant_values`). `Fails` says what each refusal means.
 //!
-//! Read `fault`, `stages`, `meanings`, `declaring`.
+//! Read `fault`, `stages`, `meanings`, `declaring`, `laws`.
 #![tactic(auto)]
 
 mod declaring;
 mod fault;
+mod laws;
 mod meanings;
 mod stages;
 
 pub use declaring::{Declarations, declare};
 pub use fault::NameFault;
+pub use laws::{one_scope, refused_declares_nothing};

@@ -1,4 +1,5 @@
 pub mod Lists
+pub mod Ordered
 pub mod Tables
 pub mod Repeated
 pub mod Indexed

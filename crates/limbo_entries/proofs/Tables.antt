@@ -1,12 +1,14 @@
 -- A table with what stands inside one more declaration.
 use Rattle.std.proofs.Common.{◌≡◌, ◌<◌, ◌≤◌, ◌+◌, ◌⊎◌, inl, inr, ℕ, zero, suc, List}
 use Rattle.std.proofs.Common.{◌++◌, length, map, Option, Some, None, refl, sym, subst, ◌∙◌, arith}
+use Rattle.std.specs.Prelude.{slice_get}
 use Rattle.std.specs.List.{Contains}
 use Rattle.std.proofs.lemmas.Option.{same_Some, slice_get_within}
 use Rattle.limbo_declarations.specs.Rows.{Row}
-use Rattle.limbo_entries.specs.Entries.{Entry, IsEntry, Stands, IsTable, inside, IsAmong}
+use Rattle.limbo_entries.specs.Entries.{Entry, IsEntry, Stands, IsTable, IsMember, AreOnce, HasTwice, inside, IsAmong}
 use Rattle.limbo_entries.specs.Entries as told
 use Rattle.limbo_entries.specs.Growing.{IsTableTo}
+use Rattle.limbo_entries.proofs.Ordered.{none_yet, one_more, all_of, one_order, two_inside}
 use Rattle.limbo_entries.proofs.Lists.{at_left, at_right, at_cases, mapped, from_mapped, contained, place_of}
 
 -- rows where they stand
@@ -23,6 +25,7 @@ start top = record {
   only = λ k e i.
       let f = from_mapped (stand None) top k e i in
       subst (λ (z : Entry). Stands top (map (stand None) top) k z.within z.row) f.2 (told.at_top f.0 f.1);
+  ordered = none_yet (map (stand None) top);
 }
 
 stands_more :
@@ -60,6 +63,7 @@ more top es n e t there = record {
         subst (λ (z : Entry). Stands top (es ++ inside_at n e) k z.within z.row) f.2
         (told.within_other n e f.0 (at_left es (inside_at n e) n e there) l (contained (inside e.row) g.0 f.0 f.1))
   ];
+  ordered = one_more top es n e there t.ordered;
 }
 
 pub whole : (top : List Row) (es : List Entry) (n : ℕ) → IsTableTo top es n → length es ≤ n → IsTable top es
@@ -67,6 +71,7 @@ whole top es n t l = record {
   first = t.first;
   inner = λ j outer r i c. t.inner j outer r (let b = slice_get_within es j outer i in omega arith) i c;
   only = t.only;
+  ordered = all_of top es n l t.ordered;
 }
 
 -- ---- what follows of what stands where
@@ -105,3 +110,31 @@ is_there top es r t (told.within_other outer q a c) =
     let f = is_there top es outer t a in
     let g = t.inner f.0 f.1 q f.2 (subst (λ (z : Row). Contains (inside z) q) (sym f.3) c) in
     (g.0, stand (Some f.0) q, g.1, refl)
+
+-- ---- one table
+
+pub one : (top : List Row) (es fs : List Entry) → IsTable top es → IsTable top fs → es ≡ fs
+one top es fs t u =
+    one_order top es fs t.ordered (λ k e i j w. within_less top es k e (t.only k e i) j w) u.ordered
+    (λ k e i j w. within_less top fs k e (u.only k e i) j w)
+
+pub not_twice : (top : List Row) (es : List Entry) → IsTable top es → AreOnce es → HasTwice top → ⊥
+not_twice top es t once (told.outermost d) =
+    let a : IsMember es None d.one.name d.i = record { entry = stand None d.one; there = t.first d.i d.one d.there; stands = refl; named = refl } in
+    let b : IsMember es None d.one.name d.j =
+    record { entry = stand None d.other; there = t.first d.j d.other d.and_there; stands = refl; named = sym d.same } in
+    let e = once None d.one.name d.i d.j a b in
+    let l = d.before in
+    omega arith
+not_twice top es t once (told.inner r a d) =
+    let f = is_there top es r t a in
+    let p = two_inside top es f.0 f.1 t.ordered f.2 in
+    let g : (i : ℕ) (x : Row) → slice_get (inside r) i ≡ Some x → IsEntry es (p.0 + i) (stand (Some f.0) x) =
+    λ i x h. p.1 i x (subst (λ (z : Row). slice_get (inside z) i ≡ Some x) (sym f.3) h) in
+    let x : IsMember es (Some f.0) d.one.name (p.0 + d.i) =
+    record { entry = stand (Some f.0) d.one; there = g d.i d.one d.there; stands = refl; named = refl } in
+    let y : IsMember es (Some f.0) d.one.name (p.0 + d.j) =
+    record { entry = stand (Some f.0) d.other; there = g d.j d.other d.and_there; stands = refl; named = sym d.same } in
+    let e = once (Some f.0) d.one.name (p.0 + d.i) (p.0 + d.j) x y in
+    let l = d.before in
+    omega arith

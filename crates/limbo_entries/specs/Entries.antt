@@ -1,5 +1,5 @@
 -- The declarations of the top level and of all that stands inside them, by numbers (Limbo Language Reference, declarations and scope).
-use Rattle.std.specs.Prelude.{◌≡◌, ℕ, ◌<◌, List, [], Option, None, Some, slice_get}
+use Rattle.std.specs.Prelude.{◌≡◌, ℕ, ◌+◌, ◌<◌, List, [], ◌∷◌, ◌++◌, map, Option, None, Some, slice_get}
 use Rattle.std.specs.List.{Contains}
 use Rattle.limbo_declarations.specs.Rows.{Row, Declared, Module, Adt, Case, rows_of_members, rows_of_adt, rows_of_fields}
 
@@ -27,12 +27,23 @@ pub data Stands (top : List Row) (es : List Entry) (k : ℕ) : Option ℕ → Ro
   within_other : (j : ℕ) (outer : Entry) (r : Row) → IsEntry es j outer → j < k → Contains (inside outer.row) r
       → Stands top es k (Some j) r
 
--- All declarations of a top level whose rows are these. Those of the top level come first, in order.
+-- Rows where they stand: at the top level, or inside the declaration of this number.
+abbrev pub all_within : Option ℕ → List Row → List Entry
+all_within scope rows = map (λ r. record { within = scope; row = r }) rows
+
+-- What stands inside these declarations, one after the other, if the first of them has this number.
+abbrev pub all_inside : ℕ → List Entry → List Entry
+all_inside number [] = []
+all_inside number (e ∷ es) = all_within (Some number) (inside e.row) ++ all_inside (number + 1) es
+
+-- All declarations of a top level whose rows are these. Those of the top level come first, in order; then, declaration by declaration,
+-- what stands inside it.
 pub record IsTable (top : List Row) (es : List Entry) : Type 0 where
   pub first : (k : ℕ) (r : Row) → slice_get top k ≡ Some r → IsEntry es k (record { within = None; row = r })
   pub inner : (j : ℕ) (outer : Entry) (r : Row) → IsEntry es j outer → Contains (inside outer.row) r
       → (k : ℕ) × IsEntry es k (record { within = Some j; row = r })
   pub only : (k : ℕ) (e : Entry) → IsEntry es k e → Stands top es k e.within e.row
+  pub ordered : es ≡ all_within None top ++ all_inside 0 es
 
 -- ---- names
 

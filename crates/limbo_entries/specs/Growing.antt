@@ -1,12 +1,12 @@
 -- A table that grows: it has what stands inside the first of its declarations. What its scopes say of it.
-use Rattle.std.specs.Prelude.{◌≡◌, ◌+◌, ◌-◌, ◌<◌, ◌≤◌, ℕ, List, Option, None, Some, length, slice_get}
+use Rattle.std.specs.Prelude.{◌≡◌, ◌+◌, ◌-◌, ◌<◌, ◌≤◌, ℕ, List, ◌++◌, take, Option, None, Some, length, slice_get}
 use Rattle.std.specs.List.{Contains}
 use Rattle.limbo_declarations.specs.Names.{names, IsAt}
 use Rattle.limbo_declarations.specs.Rows.{Row}
 use Rattle.limbo_declarations.specs.View.{rows_of, view_row}
 use Rattle.limbo_entries.specs.declared.scope.Scope as code_scope
 use Rattle.limbo_entries.specs.declared.entry.Entry as code_entry
-use Rattle.limbo_entries.specs.Entries.{Entry, IsEntry, Stands, inside}
+use Rattle.limbo_entries.specs.Entries.{Entry, IsEntry, Stands, inside, all_within, all_inside}
 use Rattle.limbo_entries.specs.View.{entries_of, keys}
 
 -- The declarations of a scope stand behind each other from its first number on: these are their names, and no other declaration stands
@@ -31,6 +31,7 @@ pub record IsTableTo (top : List Row) (es : List Entry) (many : ℕ) : Type 0 wh
   pub inner : (j : ℕ) (outer : Entry) (r : Row) → j < many → IsEntry es j outer → Contains (inside outer.row) r
       → (k : ℕ) × IsEntry es k (record { within = Some j; row = r })
   pub only : (k : ℕ) (e : Entry) → IsEntry es k e → Stands top es k e.within e.row
+  pub ordered : es ≡ all_within None top ++ all_inside 0 (take many es)
 
 -- The same of the entries of the code, with the scopes.
 pub record IsGrown (top : List Row) (es : List code_entry.Entry) (outermost : code_scope.Scope) (scopes : List code_scope.Scope) (many : ℕ)

@@ -13,5 +13,5 @@ mod scope;
 mod table;
 
 pub use entry::Entry;
-pub use laws::{all_are_there, one_found, within_is_less};
+pub use laws::{all_are_there, once_is_not_twice, one_found, one_table, within_is_less};
 pub use table::Table;
