@@ -10,3 +10,4 @@ pub mod Lists
 pub mod Searching
 pub mod Stepping
 pub mod Telling
+pub mod Direct

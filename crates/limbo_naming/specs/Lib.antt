@@ -6,4 +6,5 @@ pub mod Search
 pub mod Seeing
 pub mod Steps
 pub mod Told
+pub mod Direct
 pub mod Laws

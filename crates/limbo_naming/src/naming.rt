@@ -1,19 +1,21 @@
 //! What names name, for those who ask.
 
 ghost use Rattle.std.specs.Prelude.{◌≡◌, ◌<◌, ℕ, List, Option, None, Some, length, IfOk, IfSome, IfNone};
-ghost use Rattle.limbo_tree.specs.View.{view_qual, view_expr};
+ghost use Rattle.limbo_tree.specs.View.{view_qual, view_expr, name_of};
 ghost use Rattle.limbo_entries.specs.Entries.{Entry, AreOnce};
 ghost use Rattle.limbo_entries.specs.View.{entries_of};
-ghost use Rattle.limbo_naming.specs.Qualified.{Qualified, Simple, Member, of_type, of_expr};
+ghost use Rattle.limbo_naming.specs.Direct.{DeclaresOf};
+ghost use Rattle.limbo_naming.specs.Qualified.{Qualified, Simple, Member, Part, with_member, of_type, of_expr};
 ghost use Rattle.limbo_naming.specs.Naming.{Leads};
 ghost use Rattle.limbo_naming.specs.Search.{AreKnown, AreDone, Says};
 ghost use Rattle.limbo_naming.specs.Told.{Tells, TellsOf, Knows, IsNaming};
+ghost use Rattle.limbo_naming.specs.declared.naming.Named.TheVariants as named;
 ghost use Rattle.limbo_naming.specs.declared.state.State.{State};
 
 use crate::search::search;
-use crate::sight::Sight;
+use crate::sight::{Sight, member_of, part_of};
 use crate::state::{Found, State};
-use crate::written::Written;
+use crate::written::{Written, has_parts, is_module};
 use inf_text::Text;
 use limbo_entries::Table;
 use limbo_tree::{Expr, Qual};
@@ -69,6 +71,13 @@ impl<'t, 'a> Naming<'t, 'a> {
             implemented,
             states,
         })
+    }
+
+    /// The table of the declarations.
+    pub fn table(&self) -> &'t Table<'a>
+        ensures { result.now ≡ self.now.table.now }
+    {
+        self.table
     }
 
     // What is seen from here.
@@ -133,5 +142,115 @@ impl<'t, 'a> Naming<'t, 'a> {
             State::NotYet => None,
             State::Entered => None,
         }
+    }
+
+    // What a name names in a scope, with a member where one is written behind it.
+    fn module_named(&self, scope: Option<u32>, name: &Qual) -> Named
+        requires names { Knows self.now }
+        ensures named { TellsOf self.now scope (with_member (Simple name.now.first.text) (name_of name.now.member)) result }
+    {
+        let sight = self.sight();
+        told(sight.with_member(sight.simple(scope, &name.first.text), &name.member))
+    }
+
+    // The declaration that a name alone names in a scope.
+    fn name_declared(&self, scope: Option<u32>, name: &Text) -> Named
+        requires names { Knows self.now }
+        ensures declared { DeclaresOf self.now scope (Simple name.now) result }
+    {
+        match self.table.find(self.implemented, scope, name) {
+            None => Named::Unknown,
+            Some(found) => Named::Found(found),
+        }
+    }
+
+    // The member of a declaration that is named.
+    fn member_from(&self, outer: u32, name: &Text) -> Named
+        requires names { Knows self.now }
+        ensures declared { (scope : Option ℕ) (q : Qualified) → TellsOf self.now scope q (named.Found outer)
+            → DeclaresOf self.now scope (Member q name.now) result }
+    {
+        if outer as usize >= self.table.entries.len() {
+            return Named::Nothing;
+        }
+        let entry = &self.table.entries[outer as usize];
+        if !is_module(entry.row.declared) {
+            return Named::Nothing;
+        }
+        match member_of(self.table, outer, entry, name) {
+            None => Named::Unknown,
+            Some(found) => Named::Found(found),
+        }
+    }
+
+    // The part of a declaration that is named.
+    fn part_from(&self, outer: u32, name: &Text) -> Named
+        requires names { Knows self.now }
+        ensures declared { (scope : Option ℕ) (q : Qualified) → TellsOf self.now scope q (named.Found outer)
+            → DeclaresOf self.now scope (Part q name.now) result }
+    {
+        if outer as usize >= self.table.entries.len() {
+            return Named::Nothing;
+        }
+        let entry = &self.table.entries[outer as usize];
+        if !has_parts(entry.row.declared) {
+            return Named::Nothing;
+        }
+        match part_of(self.table, outer, entry, name) {
+            None => Named::Unknown,
+            Some(found) => Named::Found(found),
+        }
+    }
+
+    // The member of what is named.
+    fn member_declared(&self, outer: Named, name: &Text) -> Named
+        requires names { Knows self.now }
+        ensures declared { (scope : Option ℕ) (q : Qualified) → TellsOf self.now scope q outer
+            → DeclaresOf self.now scope (Member q name.now) result }
+    {
+        match outer {
+            Named::Found(outer) => self.member_from(outer, name),
+            Named::Unknown => Named::Unknown,
+            Named::Nothing => Named::Nothing,
+        }
+    }
+
+    // The part of what is named.
+    fn part_declared(&self, outer: Named, name: &Text) -> Named
+        requires names { Knows self.now }
+        ensures declared { (scope : Option ℕ) (q : Qualified) → TellsOf self.now scope q outer
+            → DeclaresOf self.now scope (Part q name.now) result }
+    {
+        match outer {
+            Named::Found(outer) => self.part_from(outer, name),
+            Named::Unknown => Named::Unknown,
+            Named::Nothing => Named::Nothing,
+        }
+    }
+
+    /// The declaration that the name of a type names in a scope, itself not followed: where it is declared by `type`, what it is
+    /// declared as isn't lost.
+    pub fn declared(&self, scope: Option<u32>, name: &Qual) -> Named
+        requires names { Knows self.now }
+        ensures declared { DeclaresOf self.now scope (of_type (view_qual name.now)) result }
+    {
+        match &name.part {
+            Some(part) => self.part_declared(self.module_named(scope, name), &part.text),
+            None => match &name.member {
+                Some(member) => {
+                    let outer = self.name_named(scope, &name.first.text);
+                    self.member_declared(outer, &member.text)
+                }
+                None => self.name_declared(scope, &name.first.text),
+            },
+        }
+    }
+
+    /// The member that a name that is imported from a module names in a scope, itself not followed.
+    pub fn import_declared(&self, scope: Option<u32>, source: &Text, name: &Text) -> Named
+        requires names { Knows self.now }
+        ensures declared { DeclaresOf self.now scope (Member (Simple source.now) name.now) result }
+    {
+        self.member_declared(self.name_named(scope, source), name)
     }
 }

@@ -25,8 +25,8 @@ pub(crate) struct Sight<'s, 'a> {
     pub(crate) states: &'s [State],
 }
 
-// The member of a module, or of nothing else, that others may see.
-fn member_of(table: &Table, outer: u32, entry: &Entry, name: &Text) -> Option<u32>
+/// The member of a module, or of nothing else, that others may see.
+pub(crate) fn member_of(table: &Table, outer: u32, entry: &Entry, name: &Text) -> Option<u32>
     requires once { AreOnce (entries_of table.now.entries.items) }
     requires entry { IsEntry (entries_of table.now.entries.items) outer (view_entry entry.now) }
     ensures found { IfSome result (λ k. IsMemberOf (entries_of table.now.entries.items) outer name.now k) }
@@ -47,8 +47,8 @@ fn member_of(table: &Table, outer: u32, entry: &Entry, name: &Text) -> Option<u3
     }
 }
 
-// The part of an adt or of a variant.
-fn part_of(table: &Table, outer: u32, entry: &Entry, name: &Text) -> Option<u32>
+/// The part of an adt or of a variant.
+pub(crate) fn part_of(table: &Table, outer: u32, entry: &Entry, name: &Text) -> Option<u32>
     requires entry { IsEntry (entries_of table.now.entries.items) outer (view_entry entry.now) }
     ensures found { IfSome result (λ k. IsPartOf (entries_of table.now.entries.items) outer name.now k) }
     ensures within { IfSome result (λ k. k < length table.now.entries.items) }
@@ -152,7 +152,8 @@ impl<'s, 'a> Sight<'s, 'a> {
         }
     }
 
-    fn with_member(&self, outer: Found, name: &Option<Name>) -> Found
+    /// What is found of a member, where one is written behind `->`, by what is found of its module.
+    pub(crate) fn with_member(&self, outer: Found, name: &Option<Name>) -> Found
         requires sight { Sees self.now }
         ensures { (scope : Option ℕ) (q : Qualified) → SaysIn self.now scope q outer
             → SaysIn self.now scope (with_member q (name_of name.now)) result }
