@@ -1,0 +1,5 @@
+pub mod Texts
+pub mod Told
+pub mod Read
+pub mod Doubled
+pub mod Refused

@@ -1,0 +1,4 @@
+pub mod Included
+pub mod Declares
+pub mod View
+pub mod Laws
