@@ -1,0 +1,4 @@
+pub mod Inside
+pub mod Definitions
+pub mod Empty
+pub mod Modules

@@ -1,0 +1,10 @@
+pub mod Forms
+pub mod Knowing
+pub mod Rows
+pub mod Counting
+pub mod Composing
+pub mod Needing
+pub mod Filling
+pub mod Unique
+pub mod Failing
+pub mod Circles

@@ -1,0 +1,10 @@
+pub mod Sizes
+pub mod Numbers
+pub mod Counts
+pub mod Means
+pub mod Writes
+pub mod Needs
+pub mod Refusals
+pub mod Working
+pub mod Told
+pub mod Laws
