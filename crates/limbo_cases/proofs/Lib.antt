@@ -1,0 +1,5 @@
+pub mod Places
+pub mod Orders
+pub mod Keeps
+pub mod Finding
+pub mod Unique

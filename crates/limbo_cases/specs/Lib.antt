@@ -1,0 +1,4 @@
+pub mod Labels
+pub mod Texts
+pub mod Keeping
+pub mod Laws

@@ -1,0 +1,4 @@
+pub mod Paths
+pub mod Walking
+pub mod Runs
+pub mod Laws
