@@ -1,0 +1,9 @@
+pub mod Places
+pub mod Texts
+pub mod Drafts
+pub mod Forms
+pub mod Opening
+pub mod Steps
+pub mod Apart
+pub mod Alone
+pub mod Examples
