@@ -1,16 +1,87 @@
--- Causes that a path names.
-use Rattle.std.proofs.Common.{◌≡◌, ℕ, List, ◌⊎◌, inl, inr, refl, subst, sym}
-use Rattle.inf_ports.specs.Outside.{Told}
-use Rattle.inferno_tool.specs.Reading.{IsFaulty, IsUnread}
+-- Why a source was not read, by what its parts answered.
+use Rattle.std.proofs.Common.{◌≡◌, ◌≤◌, ℕ, List, ◌⊎◌, inl, inr, true, false, subst, sym, arith}
+use Rattle.inf_ports.specs.Outside.{Told, Has, Rose}
+use Rattle.limbo_tree.specs.Sources.{Source}
+use Rattle.limbo_tree.specs.View.{view_source}
+use Rattle.limbo_tree.specs.declared.source.Source as code_source
+use Rattle.source_files.specs.Files as files
+use Rattle.source_files.specs.Files.{AtPath}
+use Rattle.source_files.specs.Reading.{IsReachable}
+use Rattle.source_files.specs.declared.fault.FilesFault.{FilesFault}
+use Rattle.source_files.specs.declared.fault.FilesFault.TheVariants as files_fault
+use Rattle.source_names.specs.Included.{AreTold, AreTexts}
+use Rattle.source_names.specs.Declares.{FailsBy}
+use Rattle.source_names.specs.declared.refusal.NamesFault.{NamesFault}
+use Rattle.source_names.specs.declared.refusal.NamesFault.TheVariants as names_fault
+use Rattle.source_names.proofs.Read.{reachable}
+use Rattle.inferno_tool.specs.Built.{HasTree, HasNames}
+use Rattle.inferno_tool.specs.Faults.{of_bytes, of_text, of_names, of_tree}
+use Rattle.inferno_tool.specs.Reading.{IsReadFault, IsTreeReadFault, IsFaultOf, IsUnnamed, IsUnread, itself, included, cause_of_files, cause_of_names}
 use Rattle.inferno_tool.specs.declared.cause.Cause.{Cause}
-use Rattle.inferno_tool.specs.declared.cause.Cause.TheVariants.{BadSource, NoMemory}
-use Rattle.inferno_tool.specs.declared.cause.SourceFault.{SourceFault}
+use Rattle.inferno_tool.specs.declared.cause.Cause.TheVariants.{Done, Broke, Usage, BadSource, BadObject, Limit, Host, SinkFault, NoMemory}
+use Rattle.inferno_tool.specs.declared.cause.SourceFault.TheVariants.{Lex, Parse}
+use Rattle.inferno_tool.specs.declared.reading.ReadFault.{ReadFault}
 
--- a refusal of the source at the path, or want of memory for its name
-pub refused_unread : (told : Told) (path : List ℕ) (before after : ℕ) (cause : Cause) (fault : SourceFault) → (cause ≡ BadSource path fault) ⊎ (cause ≡ NoMemory) → IsFaulty told path fault → IsUnread told path before after cause
-refused_unread told path before after cause fault (inl named) faulty =
-    let P : Cause → Type 0 = λ x. IsUnread told path before after x in
-    subst P (sym named) (refl, faulty)
-refused_unread told path before after cause fault (inr memory) faulty =
-    let P : Cause → Type 0 = λ x. IsUnread told path before after x in
-    subst P (sym memory) tt
+rose_wider : (before middle now : ℕ) → before ≤ middle → Rose middle now → Rose before now
+rose_wider before middle now l rose = omega arith
+
+-- a source that is there and is refused by its bytes
+pub bytes_unread : (told : Told) (path source : List ℕ) (before now : ℕ) (fault : ReadFault) (cause : Cause) → Has told path source
+    → IsReadFault source fault → IsFaultOf path fault cause → IsUnread told path before now cause
+bytes_unread told path source before now fault cause stands is (inl memory) = subst (λ (x : Cause). IsUnread told path before now x) (sym memory) tt
+bytes_unread told path source before now fault cause stands is (inr of) =
+    subst (λ (x : Cause). IsUnread told path before now x) (sym of.2)
+    (record { source = source; stands = stands; because = of_bytes of.0 (subst (λ (x : ReadFault). IsReadFault source x) of.1 is) })
+
+-- one that is refused by its tree
+pub tree_unread : (told : Told) (path source : List ℕ) (tree : Source) (before now : ℕ) (fault : ReadFault) (cause : Cause) → Has told path source
+    → HasTree source tree → HasNames told path tree → IsTreeReadFault tree fault → IsFaultOf path fault cause → IsUnread told path before now cause
+tree_unread told path source tree before now fault cause stands has names is (inl memory) =
+    subst (λ (x : Cause). IsUnread told path before now x) (sym memory) tt
+tree_unread told path source tree before now fault cause stands has names is (inr of) =
+    subst (λ (x : Cause). IsUnread told path before now x) (sym of.2)
+    (record {
+      source = source;
+      stands = stands;
+      because = of_tree tree of.0 has names (subst (λ (x : ReadFault). IsTreeReadFault tree x) of.1 is);
+    })
+
+-- one whose names are refused
+pub unnamed_unread : (told : Told) (path source : List ℕ) (tree : Source) (before middle now : ℕ) (cause : Cause) → before ≤ middle
+    → Has told path source → HasTree source tree → IsUnnamed told path tree middle now cause → IsUnread told path before now cause
+unnamed_unread told path source tree before middle now Done l stands has is = absurd is
+unnamed_unread told path source tree before middle now (Broke broken) l stands has is = absurd is
+unnamed_unread told path source tree before middle now Usage l stands has is = absurd is
+unnamed_unread told path source tree before middle now (BadSource file fault) l stands has is =
+    record { source = source; stands = stands; because = is source has }
+unnamed_unread told path source tree before middle now (BadObject file fault) l stands has is = absurd is
+unnamed_unread told path source tree before middle now (Limit quanta) l stands has is = absurd is
+unnamed_unread told path source tree before middle now (Host file true) l stands has is = absurd is
+unnamed_unread told path source tree before middle now (Host file false) l stands has is =
+    (included source tree file stands has is.0, rose_wider before middle now l is.1)
+unnamed_unread told path source tree before middle now (SinkFault out err) l stands has is = absurd is
+unnamed_unread told path source tree before middle now NoMemory l stands has is = tt
+
+-- included texts that are none, or weren't read
+pub files_unnamed : (told : Told) (path : List ℕ) (source : code_source.Source) (before now : ℕ) (fault : FilesFault)
+    → files.IsRefusal told before now fault → AtPath (IsReachable told path source.tops.items) fault
+    → IsUnnamed told path (view_source source) before now (cause_of_files fault)
+files_unnamed told path source before now files_fault.NoMemory is at = tt
+files_unnamed told path source before now (files_fault.Failed file) is at = (reachable told path source.tops.items file at, is)
+files_unnamed told path source before now (files_fault.Lex file fault) is at =
+    λ bytes has. of_text (view_source source) file (Lex fault) has (reachable told path source.tops.items file at) is
+files_unnamed told path source before now (files_fault.Parse file fault span) is at =
+    λ bytes has. of_text (view_source source) file (Parse fault span) has (reachable told path source.tops.items file at) is
+
+-- names that are refused
+pub names_unnamed : (told : Told) (path : List ℕ) (tree : Source) (before now : ℕ) (fault : NamesFault)
+    → (AreTold told → AreTexts told path tree.tops) → FailsBy told path tree fault → IsUnnamed told path tree before now (cause_of_names fault)
+names_unnamed told path tree before now names_fault.NoMemory texts is = tt
+names_unnamed told path tree before now (names_fault.Refused refusal file span) texts is =
+    λ source has. of_names tree file refusal span has texts is
+
+-- a read of the first file that failed
+pub first_unread : (told : Told) (path : List ℕ) (before now : ℕ) (cause : Cause) → Rose before now → (cause ≡ Host path false) ⊎ (cause ≡ NoMemory)
+    → IsUnread told path before now cause
+first_unread told path before now cause rose (inl e) = subst (λ (x : Cause). IsUnread told path before now x) (sym e) (itself, rose)
+first_unread told path before now cause rose (inr e) = subst (λ (x : Cause). IsUnread told path before now x) (sym e) tt

@@ -1,16 +1,16 @@
 -- What follows of a dump, from what it leaves.
-use Rattle.std.proofs.Common.{◌≡◌, ◌≤◌, ℕ, List, ◌⊎◌, inl, inr, refl, subst, sym, ◌∙◌, Bool, true, false, cond, [], ◌∷◌, arith}
+use Rattle.std.proofs.Common.{◌≡◌, ◌≤◌, ℕ, List, ◌⊎◌, inl, inr, refl, subst, sym, Bool, true, false, cond, [], ◌∷◌, arith}
 use Rattle.std.specs.Prelude.{Option, Some, None, codes, ◌&&◌}
 use Rattle.std.specs.Str.{bytes_eq}
 use Rattle.std.proofs.lemmas.Slice.Eq.{bytes_eq-Decides}
-use Rattle.inf_ports.specs.Outside.{Told, Has, Lacks, Rose}
+use Rattle.inf_ports.specs.Outside.{Told, Rose}
 use Rattle.dis_file.specs.declared.object.Object.{Object}
 use Rattle.dis_format.specs.declared.fault.FileFault.{FileFault}
 use Rattle.dis_format.specs.Objects.{Spells}
 use Rattle.dis_format.specs.Reading.{IsFirstFault}
 use Rattle.dis_format.proofs.Whole as format
 use Rattle.dis_text.specs.Listing.{listing_of}
-use Rattle.dis_dump.specs.Dump.{Output, IsDump, IsShown, HasListed, IsObjectAt, IsBadObjectAt, IsUnlisted}
+use Rattle.dis_dump.specs.Dump.{Output, IsDump, IsShown}
 use Rattle.dis_dump.specs.declared.command.DumpEnd.{DumpEnd}
 use Rattle.dis_dump.specs.declared.command.DumpEnd.TheVariants.{Done, BadObject, Unread, SinkFault, NoMemory}
 use Rattle.machine_core.specs.declared.event.Journal.{Journal}

@@ -1,6 +1,6 @@
 -- What follows of the cause, from where each cause comes.
 use Rattle.std.proofs.Common.{◌≡◌, ◌≤◌, ℕ, List, ◌⊎◌, inl, inr, refl, subst, sym, ap, ◌∙◌, true, false, arith}
-use Rattle.std.specs.Prelude.{Some, None}
+use Rattle.std.specs.Prelude.{Option, Some, None}
 use Rattle.inf_ports.specs.Outside.{Told, Has, Lacks, Rose}
 use Rattle.limbo_small.specs.Typed.{Module}
 use Rattle.inferno_tool.specs.Built.{IsBuilt}
@@ -9,6 +9,7 @@ use Rattle.inferno_tool.specs.Words.{named_file}
 use Rattle.inferno_tool.specs.declared.cause.Cause.{Cause}
 use Rattle.inferno_tool.specs.declared.cause.Cause.TheVariants.{Done, Broke, Usage, BadSource, BadObject, Limit, Host, SinkFault, NoMemory}
 use Rattle.inferno_tool.specs.Faults.{IsFault}
+use Rattle.source_names.specs.Included.{AreTold}
 use Rattle.inferno_tool.proofs.Faults.{faulty}
 use Rattle.inferno_tool.proofs.Trees.{one_module}
 
@@ -33,29 +34,37 @@ pub told_not_lacking : {A : Type 0} (told : Told) (path source : List ℕ) → T
 told_not_lacking None path source tells lacks = absurd tells
 told_not_lacking (Some files) path source tells lacks = let same : Some source ≡ None = sym tells ∙ lacks in cc
 
-refused_accepted : {A : Type 0} (c : Course) (a : HasProgram c.words c.told) (file source : List ℕ) → named_file c.words ≡ Some file → Tells c.told file (Some source) → ((m : Module) → IsBuilt source m → ⊥) → A
+refused_accepted : {A : Type 0} (c : Course) (a : HasProgram c.words c.told) (file source : List ℕ) → named_file c.words ≡ Some file → Tells c.told file (Some source) → ((m : Module) → IsBuilt c.told file source m → ⊥) → A
 refused_accepted c a file source named tells outside =
     let there : Has c.told file a.accepted.read.source = (let P : List ℕ → Type 0 = λ x. Has c.told x a.accepted.read.source in subst P (one_file c.words a.file file a.accepted.named named) a.accepted.read.stands) in
     let same : source ≡ a.accepted.read.source = same_bytes c.told file source a.accepted.read.source tells there in
-    absurd (outside a.program (let P : List ℕ → Type 0 = λ x. IsBuilt x a.program in subst P (sym same) a.accepted.read.built))
+    let here : IsBuilt c.told file a.accepted.read.source a.program =
+    (let P : List ℕ → Type 0 = λ x. IsBuilt c.told x a.accepted.read.source a.program in subst P (one_file c.words a.file file a.accepted.named named) a.accepted.read.built) in
+    absurd (outside a.program (let P : List ℕ → Type 0 = λ x. IsBuilt c.told file x a.program in subst P (sym same) here))
 
-pub refused : (c : Course) (cause : Cause) → IsCause c cause → (file source : List ℕ) → named_file c.words ≡ Some file → Tells c.told file (Some source) → ((m : Module) → IsBuilt source m → ⊥) → (Rose c.files_before c.files_after → ⊥) → IsSourceRefusal file source cause
+pub refused : (c : Course) (cause : Cause) → IsCause c cause → (file source : List ℕ) → named_file c.words ≡ Some file → Tells c.told file (Some source) → ((m : Module) → IsBuilt c.told file source m → ⊥) → (Rose c.files_before c.files_after → ⊥) → IsSourceRefusal c.told file source cause
 refused c Done is file source named tells outside calm = refused_accepted c is.0 file source named tells outside
 refused c (Broke broken) is file source named tells outside calm = refused_accepted c is.0 file source named tells outside
 refused c (Limit quanta) is file source named tells outside calm = refused_accepted c is.0 file source named tells outside
 refused c Usage is file source named tells outside calm = no_file c.words file is named
 refused c (BadSource other fault) is file source named tells outside calm =
-    let here : other ≡ file = one_file c.words other file is.0 named in
-    let there : Has c.told file is.1.source = (let P : List ℕ → Type 0 = λ x. Has c.told x is.1.source in subst P here is.1.stands) in
-    let same : source ≡ is.1.source = same_bytes c.told file source is.1.source tells there in
-    (here, (let P : List ℕ → Type 0 = λ x. IsFault x fault in subst P (sym same) is.1.because))
+    let here : is.0 ≡ file = one_file c.words is.0 file is.1 named in
+    let there : Has c.told file is.2.source = (let P : List ℕ → Type 0 = λ x. Has c.told x is.2.source in subst P here is.2.stands) in
+    let same : source ≡ is.2.source = same_bytes c.told file source is.2.source tells there in
+    let because : IsFault c.told file is.2.source other fault = (let P : List ℕ → Type 0 = λ x. IsFault c.told x is.2.source other fault in subst P here is.2.because) in
+    let P : List ℕ → Type 0 = λ x. IsFault c.told file x other fault in
+    subst P (sym same) because
 refused c (BadObject other fault) is file source named tells outside calm = absurd is
 refused c (Host path true) is file source named tells outside calm =
     told_not_lacking c.told file source tells
     (let P : List ℕ → Type 0 = λ x. Lacks c.told x in subst P (one_file c.words path file is.0 named) is.1)
-refused c (Host path false) is file source named tells outside calm = absurd (calm is.1)
+refused c (Host path false) is file source named tells outside calm = absurd (calm is.3)
 refused c (SinkFault out err) is file source named tells outside calm = refused_accepted c is.0 file source named tells outside
 refused c NoMemory is file source named tells outside calm = tt
+
+are_told : (told : Told) (path : List ℕ) (bytes : Option (List ℕ)) → Tells told path bytes → AreTold told
+are_told None path bytes tells = absurd tells
+are_told (Some files) path bytes tells = tt
 
 -- a count that has risen has risen still when it is higher
 pub risen_further : (before now later : ℕ) → now ≤ later → Rose before now → Rose before later
@@ -70,14 +79,17 @@ unrefused words told before after (SinkFault out err) program is t calm = absurd
 unrefused words told before after NoMemory program is t calm = refl
 unrefused words told before after Usage program is t calm = no_file words t.file is t.named
 unrefused words told before after (BadSource other fault) program is t calm =
-    let there : Has told t.file is.1.source = (let P : List ℕ → Type 0 = λ x. Has told x is.1.source in subst P (one_file words other t.file is.0 t.named) is.1.stands) in
-    let same : t.source ≡ is.1.source = same_bytes told t.file t.source is.1.source t.tells there in
-    absurd (faulty is.1.source fault is.1.because program (let P : List ℕ → Type 0 = λ x. IsBuilt x program in subst P same t.built))
+    let here : is.0 ≡ t.file = one_file words is.0 t.file is.1 t.named in
+    let there : Has told t.file is.2.source = (let P : List ℕ → Type 0 = λ x. Has told x is.2.source in subst P here is.2.stands) in
+    let same : t.source ≡ is.2.source = same_bytes told t.file t.source is.2.source t.tells there in
+    let because : IsFault told t.file is.2.source other fault = (let P : List ℕ → Type 0 = λ x. IsFault told x is.2.source other fault in subst P here is.2.because) in
+    let built : IsBuilt told t.file is.2.source program = (let P : List ℕ → Type 0 = λ x. IsBuilt told t.file x program in subst P same t.built) in
+    absurd (faulty told (are_told told t.file (Some t.source) t.tells) t.file is.2.source other fault because program built)
 unrefused words told before after (BadObject other fault) program is t calm = absurd is
 unrefused words told before after (Host path true) program is t calm =
     told_not_lacking told t.file t.source t.tells
     (let P : List ℕ → Type 0 = λ x. Lacks told x in subst P (one_file words path t.file is.0 t.named) is.1)
-unrefused words told before after (Host path false) program is t calm = absurd (calm is.1)
+unrefused words told before after (Host path false) program is t calm = absurd (calm is.3)
 
 -- a told program ends by itself where no count rises, unless memory runs out
 pub ends : (c : Course) (cause : Cause) → IsCause c cause → (program : Module) → TellsProgram c.words c.told program → (Rose c.files_before c.files_after → ⊥) → (Rose c.out_before c.out_after → ⊥) → (Rose c.err_before c.err_after → ⊥) → IsEndUnlessMemory cause
@@ -114,7 +126,8 @@ same_program words told program t file m a =
     let here : file ≡ t.file = one_file words file t.file a.named t.named in
     let there : Has told t.file a.read.source = (let P : List ℕ → Type 0 = λ x. Has told x a.read.source in subst P here a.read.stands) in
     let same : t.source ≡ a.read.source = same_bytes told t.file t.source a.read.source t.tells there in
-    (here, one_module a.read.source m program a.read.built (let P : List ℕ → Type 0 = λ x. IsBuilt x program in subst P same t.built))
+    let own : IsBuilt told t.file a.read.source m = (let P : List ℕ → Type 0 = λ x. IsBuilt told x a.read.source m in subst P here a.read.built) in
+    (here, one_module told t.file a.read.source m program own (let P : List ℕ → Type 0 = λ x. IsBuilt told t.file x program in subst P same t.built))
 
 -- how the run of an accepted program ends is a cause
 pub run_cause : (c : Course) (cause : Cause) → HasProgram c.words c.told → IsRunEnd c.out_before c.out_after c.err_after cause → c.err_before ≡ c.err_after → IsCause c cause
@@ -155,10 +168,10 @@ usage c (Broke broken) is none = no_file c.words is.0.file none is.0.accepted.na
 usage c (Limit quanta) is none = no_file c.words is.0.file none is.0.accepted.named
 usage c (SinkFault out err) is none = no_file c.words is.0.file none is.0.accepted.named
 usage c Usage is none = inl refl
-usage c (BadSource file fault) is none = no_file c.words file none is.0
+usage c (BadSource file fault) is none = no_file c.words is.0 none is.1
 usage c (BadObject file fault) is none = absurd is
 usage c (Host path true) is none = no_file c.words path none is.0
-usage c (Host path false) is none = no_file c.words path none is.0
+usage c (Host path false) is none = no_file c.words is.0 none is.1
 usage c NoMemory is none = inr refl
 
 has_not_absent : {A : Type 0} (told : Told) (file source : List ℕ) → Tells told file None → Has told file source → A
@@ -181,10 +194,10 @@ missing c (Limit quanta) is file named tells calm = program_absent c is.0 file n
 missing c (SinkFault out err) is file named tells calm = program_absent c is.0 file named tells
 missing c Usage is file named tells calm = no_file c.words file is named
 missing c (BadSource other fault) is file named tells calm =
-    has_not_absent c.told file is.1.source tells
-    (subst (λ (f : List ℕ). Has c.told f is.1.source) (one_file c.words other file is.0 named) is.1.stands)
+    has_not_absent c.told file is.2.source tells
+    (subst (λ (f : List ℕ). Has c.told f is.2.source) (one_file c.words is.0 file is.1 named) is.2.stands)
 missing c (BadObject other fault) is file named tells calm = absurd is
 missing c (Host path true) is file named tells calm =
     inl (ap (λ (f : List ℕ). Host f true) (one_file c.words path file is.0 named))
-missing c (Host path false) is file named tells calm = absurd (calm is.1)
+missing c (Host path false) is file named tells calm = absurd (calm is.3)
 missing c NoMemory is file named tells calm = inr refl

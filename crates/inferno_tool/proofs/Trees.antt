@@ -1,5 +1,6 @@
 -- A source has one tree at most, and one checked module.
 use Rattle.std.proofs.Common.{◌≡◌, ℕ, List, false, subst}
+use Rattle.inf_ports.specs.Outside.{Told}
 use Rattle.limbo_lexer.specs.declared.token.Kind.{Kind}
 use Rattle.limbo_lexer.specs.Tokens.{HasTokenList}
 use Rattle.limbo_lexer.proofs.Sources.{one_source}
@@ -19,5 +20,6 @@ pub tree_of : (source : List ℕ) (t u : Source) → HasTree source t → HasTre
 tree_of source t u x y =
     one_tree false y.tokens t u (subst (λ (l : List Kind). IsTree false l t) (one_tokens source x.tokens y.tokens x.lexed y.lexed) x.parsed) y.parsed
 
-pub one_module : (source : List ℕ) (m n : Module) → IsBuilt source m → IsBuilt source n → m ≡ n
-one_module source m n x y = once y.tree m n (subst (λ (t : Source). IsProgram t m) (tree_of source x.tree y.tree x.has y.has) x.is).checked y.is.checked
+pub one_module : (told : Told) (path source : List ℕ) (m n : Module) → IsBuilt told path source m → IsBuilt told path source n → m ≡ n
+one_module told path source m n x y =
+    once y.tree m n (subst (λ (t : Source). IsProgram t m) (tree_of source x.tree y.tree x.has y.has) x.is).checked y.is.checked

@@ -1,5 +1,7 @@
--- Why a source is refused, by its bytes, tokens, tree and checked module; the number of each refusal, and where it stands.
+-- Why a source is refused, by its bytes, tokens and tree, by the texts that it includes, by what it declares, and by its checked module;
+-- the number of each refusal, and where it stands.
 use Rattle.std.specs.Prelude.{◌≡◌, ◌≤◌, ◌<◌, ℕ, List, Err, length, true, false}
+use Rattle.inf_ports.specs.Outside.{Told}
 use Rattle.inf_text.specs.declared.span.Span.{Span}
 use Rattle.limbo_lexer.specs.declared.token.Kind.{Kind}
 use Rattle.limbo_lexer.specs.declared.fault.LexFault.{LexFault}
@@ -17,14 +19,21 @@ use Rattle.limbo_check_stmt.specs.Checking.{check, declares_init}
 use Rattle.limbo_check_stmt.specs.Typing.{IsModule}
 use Rattle.limbo_lower.specs.Sizes as sizes
 use Rattle.limbo_compiler.specs.Limits as limits
-use Rattle.inferno_tool.specs.Built.{HasTokens, HasTree}
+use Rattle.source_files.specs.Files.{Gives}
+use Rattle.source_files.specs.Texts.{IsUnlexed, IsUnparsed}
+use Rattle.source_names.specs.Included.{AreTold, AreTexts, IsIncluded}
+use Rattle.source_names.specs.Declares.{Fails}
+use Rattle.source_names.specs.Declares as names
+use Rattle.source_names.specs.declared.refusal.Refusal.{Refusal}
+use Rattle.inferno_tool.specs.Built.{HasTokens, HasTree, HasNames}
 use Rattle.inferno_tool.specs.declared.cause.SourceFault.{SourceFault}
-use Rattle.inferno_tool.specs.declared.cause.SourceFault.TheVariants.{Lex, Parse, Unbuilt, Unmet, NoInit, FrameTooLarge, CodeTooLarge}
+use Rattle.inferno_tool.specs.declared.cause.SourceFault.TheVariants.{Lex, Parse, Names, Unbuilt, Unmet, NoInit, FrameTooLarge, CodeTooLarge}
 
 -- the number of a refusal
 abbrev pub number_of : SourceFault → ℕ
 number_of (Lex fault) = lexing.number_of fault
 number_of (Parse fault span) = parsing.number_of fault
+number_of (Names refusal span) = names.number_of refusal
 number_of Unbuilt = 25
 number_of (Unmet cause span) = conditions.number_of cause
 number_of NoInit = 45
@@ -53,6 +62,7 @@ lex_place _ = start
 abbrev pub place_of : SourceFault → Place
 place_of (Lex fault) = lex_place fault
 place_of (Parse fault span) = at span
+place_of (Names refusal span) = at span
 place_of (Unmet cause span) = at span
 place_of _ = start
 
@@ -81,27 +91,40 @@ IsLexFault _ = Unit {0}
 abbrev pub IsTreeFault : Source → SourceFault → Type 0
 IsTreeFault tree (Lex fault) = ⊥
 IsTreeFault tree (Parse fault span) = ⊥
+IsTreeFault tree (Names refusal span) = ⊥
 IsTreeFault tree Unbuilt = is_built tree ≡ false
 IsTreeFault tree (Unmet cause span) = (is_built tree ≡ true) × (check tree ≡ Err cause)
 IsTreeFault tree NoInit = (is_built tree ≡ true) × (declares_init tree ≡ false) × ((m : Module) × IsModule tree m)
-IsTreeFault tree FrameTooLarge = (is_built tree ≡ true) × (declares_init tree ≡ true) × ((m : Module) × IsModule tree m × sizes.FrameTooLarge m)
+IsTreeFault tree FrameTooLarge =
+    (is_built tree ≡ true) × (declares_init tree ≡ true) × ((m : Module) × IsModule tree m × sizes.FrameTooLarge m)
 IsTreeFault tree CodeTooLarge =
     (is_built tree ≡ true) × (declares_init tree ≡ true)
     × ((m : Module) × IsModule tree m × limits.CodeTooLarge m × (sizes.FrameTooLarge m → ⊥))
 
--- the bytes have a tree, which has this fault
-pub record HasTreeFault (source : List ℕ) (fault : SourceFault) : Type 0 where
-  pub tree : Source
-  pub has : HasTree source tree
-  pub because : IsTreeFault tree fault
-
--- What each refusal says of the source's bytes. One of bytes and tokens says that they have no tokens, and why. One of
--- the grammar says that their tokens have no tree within the limit of nesting; a fault of syntax, that they have none at
--- all; a fault of depth, that more than 256 of the tokens stand before its place. The others say that they have a tree, and what is
--- wrong with it.
-abbrev pub IsFault : List ℕ → SourceFault → Type 0
-IsFault source (Lex fault) = IsLexFault fault × IsRefused source fault × ((tokens : List Kind) → HasTokens source tokens → ⊥)
-IsFault source (Parse fault span) =
+-- What a refusal of the source's own bytes says of them. One of bytes and tokens says that they have no tokens, and why. One of the
+-- grammar says that their tokens have no tree within the limit of nesting; a fault of syntax, that they have none at all; a fault of
+-- depth, that more than 256 of the tokens stand before its place.
+abbrev pub IsBytesFault : List ℕ → SourceFault → Type 0
+IsBytesFault source (Lex fault) = IsLexFault fault × IsRefused source fault × ((tokens : List Kind) → HasTokens source tokens → ⊥)
+IsBytesFault source (Parse fault span) =
     ((tokens : List Kind) × HasTokens source tokens)
     × ((tokens : List Kind) → HasTokens source tokens → HasNoTree tokens × IsParseFault tokens fault)
-IsFault source fault = HasTreeFault source fault
+IsBytesFault source _ = ⊥
+
+-- The same of what stands at the path of an included text.
+abbrev pub IsTextFault : Told → List ℕ → SourceFault → Type 0
+IsTextFault told text (Lex fault) = (bytes : List ℕ) × Gives told text bytes × IsUnlexed bytes fault
+IsTextFault told text (Parse fault span) = (bytes : List ℕ) × Gives told text bytes × IsUnparsed bytes fault
+IsTextFault told text _ = ⊥
+
+-- Why the bytes at a path are refused, and the file that is told: the bytes themselves are no source; an included text is none; a
+-- condition of includes and names isn't met, where all included texts are some; or the tree isn't what it must be, where it declares
+-- its names.
+pub data IsFault (told : Told) (path source : List ℕ) : (file : List ℕ) → SourceFault → Type 0 where
+  of_bytes : (fault : SourceFault) → IsBytesFault source fault → IsFault told path source path fault
+  of_text : (tree : Source) (text : List ℕ) (fault : SourceFault) → HasTree source tree → IsIncluded told path tree.tops text
+      → IsTextFault told text fault → IsFault told path source text fault
+  of_names : (tree : Source) (file : List ℕ) (refusal : Refusal) (span : Span) → HasTree source tree
+      → (AreTold told → AreTexts told path tree.tops) → Fails told path tree refusal → IsFault told path source file (Names refusal span)
+  of_tree : (tree : Source) (fault : SourceFault) → HasTree source tree → HasNames told path tree → IsTreeFault tree fault
+      → IsFault told path source path fault

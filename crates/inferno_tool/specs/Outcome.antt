@@ -5,7 +5,7 @@ use Rattle.dis_file.specs.declared.object.Object.{Object}
 use Rattle.limbo_small.specs.Typed.{Module}
 use Rattle.machine_core.specs.declared.event.Journal.{Journal}
 use Rattle.inferno_tool.specs.Built.{IsBuilt}
-use Rattle.inferno_tool.specs.Reading.{IsRead, IsFaulty}
+use Rattle.inferno_tool.specs.Reading.{IsRead, IsFaulty, IsWanted}
 use Rattle.inferno_tool.specs.Faults.{IsFault}
 use Rattle.inferno_tool.specs.Running.{IsRun}
 use Rattle.inferno_tool.specs.Words.{named_file}
@@ -52,14 +52,15 @@ pub record TellsProgram (words : List (List ℕ)) (told : Told) (m : Module) : T
   pub named : named_file words ≡ Some file
   pub source : List ℕ
   pub tells : Tells told file (Some source)
-  pub built : IsBuilt source m
+  pub built : IsBuilt told file source m
 
 -- where a command is refused before it runs
 abbrev pub IsRefusal : List (List ℕ) → Told → ℕ → ℕ → Cause → Type 0
 IsRefusal words told before after Usage = named_file words ≡ None
-IsRefusal words told before after (BadSource file fault) = (named_file words ≡ Some file) × IsFaulty told file fault
+IsRefusal words told before after (BadSource file fault) = (path : List ℕ) × (named_file words ≡ Some path) × IsFaulty told path file fault
 IsRefusal words told before after (Host path true) = (named_file words ≡ Some path) × Lacks told path
-IsRefusal words told before after (Host path false) = (named_file words ≡ Some path) × Rose before after
+IsRefusal words told before after (Host file false) =
+    (path : List ℕ) × (named_file words ≡ Some path) × IsWanted told path file × Rose before after
 IsRefusal words told before after NoMemory = Unit {0}
 IsRefusal words told before after _ = ⊥
 
@@ -97,10 +98,10 @@ abbrev pub IsUnlessMemory : Cause → Cause → Type 0
 IsUnlessMemory cause wanted = (cause ≡ wanted) ⊎ (cause ≡ NoMemory)
 
 -- the cause is a refusal that the source has, or want of memory
-abbrev pub IsSourceRefusal : List ℕ → List ℕ → Cause → Type 0
-IsSourceRefusal file source (BadSource other fault) = (other ≡ file) × IsFault source fault
-IsSourceRefusal file source NoMemory = Unit {0}
-IsSourceRefusal file source _ = ⊥
+abbrev pub IsSourceRefusal : Told → List ℕ → List ℕ → Cause → Type 0
+IsSourceRefusal told path source (BadSource file fault) = IsFault told path source file fault
+IsSourceRefusal told path source NoMemory = Unit {0}
+IsSourceRefusal told path source _ = ⊥
 
 -- the run ended by itself, or memory ran out
 abbrev pub IsEndUnlessMemory : Cause → Type 0

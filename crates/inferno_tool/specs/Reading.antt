@@ -1,5 +1,5 @@
 -- What reading a source answers, and why it is refused.
-use Rattle.std.specs.Prelude.{ℕ, ◌≡◌, List, Some, None, true, false, slice_get}
+use Rattle.std.specs.Prelude.{ℕ, ◌≡◌, ◌⊎◌, List, Some, None, true, false, slice_get}
 use Rattle.inf_ports.specs.Outside.{Told, Has, Lacks, Rose}
 use Rattle.inf_text.specs.declared.span.Span.{Span}
 use Rattle.limbo_lexer.specs.declared.token.Token.{Token}
@@ -17,12 +17,17 @@ use Rattle.limbo_check_stmt.specs.Typing.{IsModule}
 use Rattle.limbo_compiler.specs.declared.passes.CompileFault.{CompileFault}
 use Rattle.limbo_compiler.specs.declared.passes.CompileFault.TheVariants as compile
 use Rattle.limbo_small.specs.Proper.{IsProper}
-use Rattle.inferno_tool.specs.Built.{IsBuilt}
-use Rattle.inferno_tool.specs.Faults.{IsFault, IsTreeFault}
+use Rattle.source_files.specs.declared.fault.FilesFault.{FilesFault}
+use Rattle.source_files.specs.declared.fault.FilesFault.TheVariants as files
+use Rattle.source_names.specs.Included.{IsIncluded}
+use Rattle.source_names.specs.declared.refusal.NamesFault.{NamesFault}
+use Rattle.source_names.specs.declared.refusal.NamesFault.TheVariants as names
+use Rattle.inferno_tool.specs.Built.{HasTree, IsBuilt}
+use Rattle.inferno_tool.specs.Faults.{IsBytesFault, IsFault, IsTreeFault}
 use Rattle.inferno_tool.specs.declared.cause.Cause.{Cause}
 use Rattle.inferno_tool.specs.declared.cause.Cause.TheVariants.{BadSource, Host, NoMemory}
 use Rattle.inferno_tool.specs.declared.cause.SourceFault.{SourceFault}
-use Rattle.inferno_tool.specs.declared.cause.SourceFault.TheVariants.{Lex, Parse, Unmet, FrameTooLarge, CodeTooLarge}
+use Rattle.inferno_tool.specs.declared.cause.SourceFault.TheVariants.{Lex, Parse, Names, Unmet, FrameTooLarge, CodeTooLarge}
 use Rattle.inferno_tool.specs.declared.reading.ReadFault.{ReadFault}
 use Rattle.inferno_tool.specs.declared.reading.ReadFault.TheVariants as read
 
@@ -30,7 +35,7 @@ use Rattle.inferno_tool.specs.declared.reading.ReadFault.TheVariants as read
 pub record IsRead (told : Told) (path : List ℕ) (m : Module) : Type 0 where
   pub source : List ℕ
   pub stands : Has told path source
-  pub built : IsBuilt source m
+  pub built : IsBuilt told path source m
 
 -- where the token with this number stands, or the first place where there is none
 abbrev pub span_at : List Token → ℕ → Span
@@ -63,10 +68,10 @@ unparsed tokens parse.NoMemory = read.NoMemory
 unparsed tokens (parse.Syntax token) = read.Refused (Parse (parse.Syntax token) (span_at tokens token))
 unparsed tokens (parse.TooDeep token) = read.Refused (Parse (parse.TooDeep token) (span_at tokens token))
 
--- why bytes were not read: a refusal, or want of memory
+-- why bytes have no tree: a refusal, or want of memory
 abbrev pub IsReadFault : List ℕ → ReadFault → Type 0
 IsReadFault source read.NoMemory = Unit {0}
-IsReadFault source (read.Refused fault) = IsFault source fault
+IsReadFault source (read.Refused fault) = IsBytesFault source fault
 
 -- why a tree was not read: a refusal, or want of memory
 abbrev pub IsTreeReadFault : Source → ReadFault → Type 0
@@ -80,16 +85,51 @@ pub record IsChecked (tree : Source) (m : Module) : Type 0 where
   pub begins : checking.declares_init tree ≡ true
   pub proper : IsProper m
 
--- the file's bytes have this fault
-pub record IsFaulty (told : Told) (path : List ℕ) (fault : SourceFault) : Type 0 where
+-- a source stands at the path, whose tree is this one
+pub record IsTreeAt (told : Told) (path : List ℕ) (tree : Source) : Type 0 where
   pub source : List ℕ
   pub stands : Has told path source
-  pub because : IsFault source fault
+  pub has : HasTree source tree
+
+-- the cause that is told of a source's fault, or want of memory for its name
+abbrev pub IsFaultOf : List ℕ → ReadFault → Cause → Type 0
+IsFaultOf path fault cause = (cause ≡ NoMemory) ⊎ ((f : SourceFault) × (fault ≡ read.Refused f) × (cause ≡ BadSource path f))
+
+-- the cause that is told of included texts
+abbrev pub cause_of_files : FilesFault → Cause
+cause_of_files files.NoMemory = NoMemory
+cause_of_files (files.Failed path) = Host path false
+cause_of_files (files.Lex path fault) = BadSource path (Lex fault)
+cause_of_files (files.Parse path fault span) = BadSource path (Parse fault span)
+
+-- the cause that is told of names
+abbrev pub cause_of_names : NamesFault → Cause
+cause_of_names names.NoMemory = NoMemory
+cause_of_names (names.Refused refusal path span) = BadSource path (Names refusal span)
+
+-- the file's bytes have this fault, which is told of this file
+pub record IsFaulty (told : Told) (path file : List ℕ) (fault : SourceFault) : Type 0 where
+  pub source : List ℕ
+  pub stands : Has told path source
+  pub because : IsFault told path source file fault
+
+-- this file is read for the source at the path: it is that source, or a text that it includes
+pub data IsWanted (told : Told) (path : List ℕ) : List ℕ → Type 0 where
+  itself : IsWanted told path path
+  included : (source : List ℕ) (tree : Source) (text : List ℕ) → Has told path source → HasTree source tree
+      → IsIncluded told path tree.tops text → IsWanted told path text
+
+-- Why a tree at the path has no names, whatever its bytes are: a refusal of them, or a read of an included text that failed.
+abbrev pub IsUnnamed : Told → List ℕ → Source → ℕ → ℕ → Cause → Type 0
+IsUnnamed told path tree before now (BadSource file fault) = (source : List ℕ) → HasTree source tree → IsFault told path source file fault
+IsUnnamed told path tree before now (Host file false) = IsIncluded told path tree.tops file × Rose before now
+IsUnnamed told path tree before now NoMemory = Unit {0}
+IsUnnamed told path tree before now _ = ⊥
 
 -- why a source at the path was not read
 abbrev pub IsUnread : Told → List ℕ → ℕ → ℕ → Cause → Type 0
-IsUnread told path before now (BadSource file fault) = (file ≡ path) × IsFaulty told path fault
+IsUnread told path before now (BadSource file fault) = IsFaulty told path file fault
 IsUnread told path before now (Host file true) = (file ≡ path) × Lacks told path
-IsUnread told path before now (Host file false) = (file ≡ path) × Rose before now
+IsUnread told path before now (Host file false) = IsWanted told path file × Rose before now
 IsUnread told path before now NoMemory = Unit {0}
 IsUnread told path before now _ = ⊥

@@ -10,6 +10,7 @@ use limbo_lexer::LexFault;
 use limbo_names::Unmet;
 use limbo_parser::ParseFault;
 use machine_core::{Broken, Journal};
+use source_names::Refusal;
 
 /// Why a source was refused.
 #[derive(Clone, Copy)]
@@ -18,6 +19,8 @@ pub enum SourceFault {
     Lex { fault: LexFault },
     /// Refusals 30 and 31: the tokens have no tree. The span is that of the token where this was met.
     Parse { fault: ParseFault, span: Span },
+    /// Refusals 40 to 44: a condition of includes and of the names of the top level isn't met, at the span.
+    Names { refusal: Refusal, span: Span },
     /// Refusal 25: the tree is outside the part of the language that is built so far.
     Unbuilt,
     /// Refusals 41, 42, 50, 51, 54 and 63: a condition of names and types isn't met, at the span.
@@ -60,6 +63,7 @@ impl SourceFault {
         match self {
             SourceFault::Lex { fault } => fault.number(),
             SourceFault::Parse { fault, .. } => fault.number(),
+            SourceFault::Names { refusal, .. } => refusal.number(),
             SourceFault::Unbuilt => 25,
             SourceFault::Unmet { cause, .. } => cause.number(),
             SourceFault::NoInit => 45,
@@ -81,6 +85,7 @@ impl SourceFault {
                 | LexFault::Unclosed(span),
             }
             | SourceFault::Parse { span, .. }
+            | SourceFault::Names { span, .. }
             | SourceFault::Unmet { span, .. } => Place::at(span),
             SourceFault::Lex { .. }
             | SourceFault::Unbuilt

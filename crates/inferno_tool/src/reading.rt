@@ -1,11 +1,12 @@
-//! Reads a source: its file, tokens, tree, checked module and object.
+//! Reads a source: its file, tokens, tree, the texts that it includes, its names, checked module and object.
 
-ghost use Rattle.std.specs.Prelude.{◌≡◌, ◌≤◌, ◌⊎◌, IfOk, IfErr};
+ghost use Rattle.std.specs.Prelude.{◌≡◌, ◌≤◌, ◌⊎◌, IfOk, IfErr, OnOk};
 ghost use Rattle.limbo_tree.specs.View.{view_source};
 ghost use Rattle.limbo_small.specs.Typed.{Module};
 ghost use Rattle.limbo_small.specs.View.{view_module};
-ghost use Rattle.inferno_tool.specs.Built.{HasTree, IsProgram, IsBuilt};
-ghost use Rattle.inferno_tool.specs.Reading.{IsRead, IsChecked, IsReadFault, IsTreeReadFault, IsUnread, span_at, unlexed, unparsed, unchecked, uncompiled};
+ghost use Rattle.inferno_tool.specs.Built.{HasTree, HasNames, IsProgram};
+ghost use Rattle.inferno_tool.specs.Reading.{IsRead, IsTreeAt, IsChecked, IsReadFault, IsTreeReadFault, IsFaultOf, IsUnnamed, IsUnread};
+ghost use Rattle.inferno_tool.specs.Reading.{span_at, unlexed, unparsed, unchecked, uncompiled, cause_of_files, cause_of_names};
 ghost use Rattle.inferno_tool.specs.Running.{IsCompiled};
 
 use crate::cause::{Cause, SourceFault};
@@ -19,6 +20,8 @@ use limbo_names::{CheckFault, is_built};
 use limbo_parser::{ParseFault, parse};
 use limbo_small::TypedModule;
 use limbo_tree::Source;
+use source_files::{FilesFault, read_included};
+use source_names::{NamesFault, names_of};
 use std::alloc::Global;
 
 /// Why bytes were not read as a program.
@@ -161,21 +164,6 @@ fn object_of(alloc: Global, tree: &Source) -> Result<Object, ReadFault>
     }
 }
 
-/// The object of a source that is a program.
-///
-/// # Errors
-/// The refusal of the source; `NoMemory`.
-fn read_built(alloc: Global, source: &[u8]) -> Result<Object, ReadFault>
-    ensures found { IfOk result (λ o. (m : Module) × IsBuilt source.now m × IsCompiled m o) }
-    ensures refused { IfErr result (IsReadFault source.now) }
-{
-    let tree = match read_tree(alloc, source) {
-        Ok(tree) => tree,
-        Err(fault) => return Err(fault),
-    };
-    object_of(alloc, &tree)
-}
-
 /// The file at the path could not be read.
 pub fn unread(path: &Text, missing: bool) -> Cause
     ensures { (result ≡ Cause.Host path.now missing) ⊎ (result ≡ Cause.NoMemory) }
@@ -196,12 +184,82 @@ fn refused(path: &Text, fault: SourceFault) -> Cause
     }
 }
 
-/// The object of the program in the file at the path.
+/// The source at the path is not read.
+fn faulted(path: &Text, fault: ReadFault) -> Cause
+    ensures { IsFaultOf path.now fault result }
+{
+    match fault {
+        ReadFault::NoMemory => Cause::NoMemory,
+        ReadFault::Refused { fault } => refused(path, fault),
+    }
+}
+
+/// An included text is none, or could not be read.
+fn of_files(fault: FilesFault) -> Cause
+    ensures { result ≡ cause_of_files fault }
+{
+    match fault {
+        FilesFault::NoMemory => Cause::NoMemory,
+        FilesFault::Failed { path } => Cause::Host {
+            path,
+            missing: false,
+        },
+        FilesFault::Lex { path, fault } => Cause::BadSource {
+            file: path,
+            fault: SourceFault::Lex { fault },
+        },
+        FilesFault::Parse { path, fault, span } => Cause::BadSource {
+            file: path,
+            fault: SourceFault::Parse { fault, span },
+        },
+    }
+}
+
+/// A condition of includes and names isn't met.
+fn of_names(fault: NamesFault) -> Cause
+    ensures { result ≡ cause_of_names fault }
+{
+    match fault {
+        NamesFault::NoMemory => Cause::NoMemory,
+        NamesFault::Refused { refusal, path, at } => Cause::BadSource {
+            file: path,
+            fault: SourceFault::Names { refusal, span: at },
+        },
+    }
+}
+
+/// Sees that a tree declares its names, with the texts that it includes.
 ///
 /// # Errors
-/// The cause: the file can't be read, its source is refused, or want of memory.
-pub fn read_source<H: HostTree>(alloc: Global, path: &Text, files: &mut H) -> Result<Object, Cause>
-    ensures read { IfOk result (λ o. (m : Module) × IsRead (H.told files.old) path.now m × IsCompiled m o) }
+/// The cause: an included text is refused or can't be read, names are refused, or want of memory.
+fn check_names<H: HostTree>(
+    alloc: Global,
+    path: &Text,
+    tree: &Source,
+    files: &mut H,
+) -> Result<(), Cause>
+    ensures names { OnOk result (HasNames (H.told files.old) path.now (view_source tree.now)) }
+    ensures unnamed { IfErr result
+        (λ cause. IsUnnamed (H.told files.old) path.now (view_source tree.now) (H.faults files.old) (H.faults files.new) cause) }
+    ensures kept { H.told files.new ≡ H.told files.old }
+    ensures later { H.faults files.old ≤ H.faults files.new }
+{
+    let texts = match read_included(alloc, path, tree, files) {
+        Ok(texts) => texts,
+        Err(fault) => return Err(of_files(fault)),
+    };
+    match names_of(alloc, path, tree, &texts) {
+        Ok(_) => Ok(()),
+        Err(fault) => Err(of_names(fault)),
+    }
+}
+
+/// The tree of the source in the file at the path.
+///
+/// # Errors
+/// The cause: the file can't be read, its bytes are refused, or want of memory.
+fn read_first<H: HostTree>(alloc: Global, path: &Text, files: &mut H) -> Result<Source, Cause>
+    ensures tree { IfOk result (λ tree. IsTreeAt (H.told files.old) path.now (view_source tree)) }
     ensures unread { IfErr result (λ cause. IsUnread (H.told files.old) path.now (H.faults files.old) (H.faults files.new) cause) }
     ensures kept { H.told files.new ≡ H.told files.old }
     ensures later { H.faults files.old ≤ H.faults files.new }
@@ -212,9 +270,26 @@ pub fn read_source<H: HostTree>(alloc: Global, path: &Text, files: &mut H) -> Re
         Err(HostFault::NoFile) => return Err(unread(path, true)),
         Err(HostFault::Failed) => return Err(unread(path, false)),
     };
-    match read_built(alloc, source.as_slice()) {
+    match read_tree(alloc, source.as_slice()) {
+        Ok(tree) => Ok(tree),
+        Err(fault) => Err(faulted(path, fault)),
+    }
+}
+
+/// The object of the program in the file at the path.
+///
+/// # Errors
+/// The cause: the file or one that it includes can't be read, its source or an included one is refused, or want of memory.
+pub fn read_source<H: HostTree>(alloc: Global, path: &Text, files: &mut H) -> Result<Object, Cause>
+    ensures read { IfOk result (λ o. (m : Module) × IsRead (H.told files.old) path.now m × IsCompiled m o) }
+    ensures unread { IfErr result (λ cause. IsUnread (H.told files.old) path.now (H.faults files.old) (H.faults files.new) cause) }
+    ensures kept { H.told files.new ≡ H.told files.old }
+    ensures later { H.faults files.old ≤ H.faults files.new }
+{
+    let tree = read_first(alloc, path, files)?;
+    check_names(alloc, path, &tree, files)?;
+    match object_of(alloc, &tree) {
         Ok(object) => Ok(object),
-        Err(ReadFault::NoMemory) => Err(Cause::NoMemory),
-        Err(ReadFault::Refused { fault }) => Err(refused(path, fault)),
+        Err(fault) => Err(faulted(path, fault)),
     }
 }

@@ -214,7 +214,10 @@ fn rows(rt: HostRuntime) -> Result<(), Fail> {
         ),
         Row::refused(b"implement T", b"inferno: hello.b:1:12: fault 30\n"),
         Row::refused(b"implement T; cyclic", b"inferno: hello.b:1:14: fault 30\n"),
-        Row::refused(b"implement T; x: int;", b"inferno: hello.b:1:1: fault 25\n"),
+        Row::refused(
+            b"implement T; x: int;",
+            b"inferno: hello.b:1:11: fault 42\n",
+        ),
         Row::refused(
             b"implement T; T: module { f: fn(); }; f() { }",
             b"inferno: hello.b:1:1: fault 45\n",
@@ -394,6 +397,66 @@ fn refusals(rt: HostRuntime) -> Result<(), Fail> {
         assert_eq!(rt; printed.as_slice(), b"".as_slice());
         assert_eq!(rt; lines.as_slice(), wanted.as_bytes());
     }
+    Ok(())
+}
+
+/// What is told of sources that include texts, and behind a `|` the source's sixth line; behind each `@` stand the name of an
+/// included text, a blank, and the text.
+const INCLUDES: &str = "\
+hello.b:1:1: fault 25|include \"k.m\"; n: con len s + k;@k.m k: con 1 << 3; s: con \"a\" + \"b\";
+hello.b:6:1: fault 40|include \"none.m\";
+d/k.m:1:1: fault 40|include \"d/k.m\";@d/k.m include \"k.n\";@k.n k: con 1;
+hello.b:6:16: fault 41|include \"k.m\"; k: int;@k.m k: con 1;
+k.m:1:4: fault 42|include \"k.m\";@k.m x: y;
+hello.b:6:1: fault 43|k: con f();
+hello.b:1:1: fault 44|include \"k.m\";@k.m include \"k.m\";
+k.m:1:9: fault 30|include \"k.m\"; include \"none.m\";@k.m k: con 1
+k.m:1:8: fault 20|include \"k.m\"; k: con f();@k.m k: con `;
+";
+
+/// A tree in which a source with this sixth line stands at `hello.b`, and the included texts, of which this read fails.
+fn shelf(alloc: Global, parts: &str, failing: Option<u64>) -> Result<MemTree, Fail> {
+    let (line, texts) = parts.split_once('@').unwrap_or((parts, ""));
+    let source = format!(in alloc; "{HEAD}{line}\n{INIT} }}")?;
+    let source = Seq::from_vec(Vec::from_slice(alloc, source.as_bytes())?);
+    let mut listing = vec![in alloc; (text(alloc, "hello.b")?, source)]?;
+    for part in texts.split('@') {
+        if let Some((name, held)) = part.split_once(' ') {
+            let held = Seq::from_vec(Vec::from_slice(alloc, held.as_bytes())?);
+            listing.push((text(alloc, name)?, held))?;
+        }
+    }
+    Ok(MemTree::new(listing, calls(alloc, failing)?))
+}
+
+/// Included texts are read from the folder of the text that includes them, and refused with their own paths, their own refusals
+/// first; then names are asked, and 25 last.
+#[test]
+fn includes(rt: HostRuntime) -> Result<(), Fail> {
+    let alloc = rt.alloc();
+    for row in INCLUDES.lines() {
+        let (told, parts) = row.split_once('|').ok_or("a row without a bar")?;
+        let mut files = shelf(alloc, parts, None)?;
+        let mut out = MemSink::new(alloc, 100, Vec::new(alloc))?;
+        let mut err = MemSink::new(alloc, 100, Vec::new(alloc))?;
+        let ended = inferno(alloc, &go(alloc)?, &mut files, &mut out, &mut err);
+        let wanted = format!(in alloc; "inferno: {told}\n")?;
+        assert_eq!(rt; ended.status, 3, "{row}");
+        assert_eq!(rt; err.as_slice(), wanted.as_bytes());
+    }
+    Ok(())
+}
+
+/// An included text that can't be read is told by its path.
+#[test]
+fn unread_include(rt: HostRuntime) -> Result<(), Fail> {
+    let alloc = rt.alloc();
+    let mut files = shelf(alloc, "include \"k.m\";@k.m k: con 1;", Some(1))?;
+    let mut out = MemSink::new(alloc, 100, Vec::new(alloc))?;
+    let mut err = MemSink::new(alloc, 100, Vec::new(alloc))?;
+    let ended = inferno(alloc, &go(alloc)?, &mut files, &mut out, &mut err);
+    assert_eq!(rt; ended.status, 7);
+    assert_eq!(rt; err.as_slice(), b"inferno: file k.m\n".as_slice());
     Ok(())
 }
 

@@ -220,9 +220,9 @@ pub fn inferno<H: HostTree, K: Sink, E: Sink>(
     ensures missing { (file : List ℕ) → named_file words.now ≡ Some file → Tells (H.told files.old) file None
         → (Rose (H.faults files.old) (H.faults files.new) → ⊥) → IsUnlessMemory result.cause (Cause.Host file true) }
     ensures refused { (file source : List ℕ) → named_file words.now ≡ Some file → Tells (H.told files.old) file (Some source)
-        → ((m : Module) → IsBuilt source m → ⊥)
+        → ((m : Module) → IsBuilt (H.told files.old) file source m → ⊥)
         → (Rose (H.faults files.old) (H.faults files.new) → ⊥)
-        → IsSourceRefusal file source result.cause }
+        → IsSourceRefusal (H.told files.old) file source result.cause }
 
     // A program of the built part is run until it ends by itself, unless a count rises; and it is that program which is run.
     ensures ends { (m : Module) → TellsProgram words.now (H.told files.old) m

@@ -1,32 +1,34 @@
-use Rattle.std.proofs.Common.{subst, List, ℕ}
-use Rattle.inferno_tool.specs.declared.reading.ReadFault.{ReadFault}
-use Rattle.inferno_tool.specs.declared.reading.ReadFault.TheVariants as read
-use Rattle.inferno_tool.proofs.Causes.{refused_unread}
-use Rattle.inferno_tool.specs.Built.{IsBuilt}
-use Rattle.inferno_tool.specs.Faults.{IsFault}
-use Rattle.inferno_tool.specs.Reading.{IsFaulty, IsReadFault}
+use Rattle.std.proofs.Common.{subst}
+use Rattle.std.proofs.lemmas.Result.{err_from_is_err_and}
+use Rattle.inf_ports.specs.Outside.{Told}
+use Rattle.limbo_tree.specs.View.{view_source}
+use Rattle.inferno_tool.specs.Built.{HasNames}
+use Rattle.inferno_tool.specs.Reading.{IsUnnamed, IsUnread}
+use Rattle.inferno_tool.proofs.Causes.{tree_unread, unnamed_unread}
 use Rattle.inferno_tool.proofs.reading.read_source.Goals as goal
 
-pub returns-in-Ok-read_built-clause-read : goal.returns-in-Ok-read_built-clause-read
-returns-in-Ok-read_built-clause-read g c =
-    let found = c.in-Ok-read_built.ensures.found in
-    let m = found.0 in (
-      m,
-      record {
-        source = c.in-Ok.source.items;
-        stands = c.in-Ok.ensures.found;
-        built = subst (λ (s : List ℕ). IsBuilt s m) c.as_slice.ensures.value found.1;
-      },
-      found.2,
-    )
+pub returns-in_err-check_names-clause-unread : goal.returns-in_err-check_names-clause-unread
+returns-in_err-check_names-clause-unread g c =
+    let told = g.H.HostTree.told c.args.files.now in
+    let path = c.args.path.now in
+    let tree = view_source c.in_ok-tree.tree in
+    let at = (c.in_ok-tree.ensures {u = tt}).tree in
+    let before = g.H.HostTree.faults c.args.files.now in
+    let middle = g.H.HostTree.faults c.read_first.new.files in
+    let now = g.H.HostTree.faults c.check_names.new.files in
+    let cause = c.in_err-check_names.field-0.0 in
+    let k : IsUnread told path before now cause =
+    unnamed_unread told path at.source tree before middle now cause c.read_first.ensures.later at.stands at.has
+    (subst (λ (z : Told). IsUnnamed z path tree middle now cause) c.read_first.ensures.kept (c.in_err-check_names.ensures {u = tt}).unnamed) in
+    let p = err_from_is_err_and c.from_residual-in_err-check_names.result c.from_residual-in_err-check_names.ensures.1 in
+    rw (p.1, p.2) k
 
 pub returns-clause-unread : goal.returns-clause-unread
 returns-clause-unread g c =
-    let fault = c.in-Err-Refused.fault in
-    let here : IsReadFault c.as_slice.result.now (read.Refused fault) = subst (λ (f : ReadFault). IsReadFault c.as_slice.result.now f) c.in-Err-Refused.field-0-is c.in-Err-Refused.ensures.refused in
-    let faulty : IsFaulty (g.H.HostTree.told c.args.files.now) c.args.path.now fault = record {
-      source = c.in-Ok.source.items;
-      stands = c.in-Ok.ensures.found;
-      because = subst (λ (s : List ℕ). IsFault s fault) c.as_slice.ensures.value here;
-    } in
-    refused_unread _ _ _ _ _ _ c.refused.ensures faulty
+    let told = g.H.HostTree.told c.args.files.now in
+    let path = c.args.path.now in
+    let tree = view_source c.in_ok-tree.tree in
+    let at = (c.in_ok-tree.ensures {u = tt}).tree in
+    tree_unread told path at.source tree (g.H.HostTree.faults c.args.files.now) (g.H.HostTree.faults c.check_names.new.files) c.in-Err.fault c.faulted.result
+    at.stands at.has (subst (λ (z : Told). HasNames z path tree) c.read_first.ensures.kept (c.in_ok-check_names.ensures {u = tt}).names)
+    c.in-Err.ensures.refused c.faulted.ensures
