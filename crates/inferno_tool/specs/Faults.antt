@@ -27,7 +27,8 @@ use Rattle.source_names.specs.Declares as names
 use Rattle.source_names.specs.declared.refusal.Refusal.{Refusal}
 use Rattle.inferno_tool.specs.Built.{HasTokens, HasTree, HasNames}
 use Rattle.inferno_tool.specs.declared.cause.SourceFault.{SourceFault}
-use Rattle.inferno_tool.specs.declared.cause.SourceFault.TheVariants.{Lex, Parse, Names, Unbuilt, Unmet, NoInit, FrameTooLarge, CodeTooLarge}
+use Rattle.inferno_tool.specs.declared.cause.SourceFault.TheVariants.{Lex, Parse, Names, Unbuilt, Unmet, NoInit}
+use Rattle.inferno_tool.specs.declared.cause.SourceFault.TheVariants.{FrameTooLarge, CodeTooLarge}
 
 -- the number of a refusal
 abbrev pub number_of : SourceFault → ℕ

@@ -35,7 +35,8 @@ pub record HasProgram (words : List (List ℕ)) (told : Told) : Type 0 where
   pub accepted : IsAccepted words told file program
 
 -- what was run is a program that the words name, and this is its run
-pub record HasRun (words : List (List ℕ)) (told : Told) (journal : Option Journal) (objects : List (List ℕ × Object)) (old new : Option (List ℕ)) (faults_before faults_after : ℕ) (cause : Cause) : Type 0 where
+pub record HasRun (words : List (List ℕ)) (told : Told) (journal : Option Journal) (objects : List (List ℕ × Object))
+    (old new : Option (List ℕ)) (faults_before faults_after : ℕ) (cause : Cause) : Type 0 where
   pub file : List ℕ
   pub program : Module
   pub accepted : IsAccepted words told file program

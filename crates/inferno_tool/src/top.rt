@@ -6,7 +6,8 @@ ghost use Rattle.dis_file.specs.declared.object.Object.{Object as AnyObject};
 ghost use Rattle.dis_format.specs.Objects.{Spells};
 ghost use Rattle.inferno_tool.specs.Dumping.{HasDumped, TellsObject, IsListing, IsObjectRefusal};
 ghost use Rattle.inferno_tool.specs.Closing.{status_of, closing_line, IsWritten};
-ghost use Rattle.inferno_tool.specs.Outcome.{Course, HasRun, IsAccepted, IsRefusal, IsCause, IsRunEnd, IsSinkFault, IsUnrun, is_run_out, IsSourceRefusal, IsEndUnlessMemory, Tells, TellsProgram, IsUnlessMemory};
+ghost use Rattle.inferno_tool.specs.Outcome.{Course, HasRun, IsAccepted, IsRefusal, IsCause, IsRunEnd, IsSinkFault, IsUnrun};
+ghost use Rattle.inferno_tool.specs.Outcome.{is_run_out, IsSourceRefusal, IsEndUnlessMemory, Tells, TellsProgram, IsUnlessMemory};
 ghost use Rattle.inferno_tool.specs.Running.{IsCompiled, IsRun, NothingRan};
 ghost use Rattle.inferno_tool.specs.Words.{named_file, dumped_file};
 
@@ -280,7 +281,8 @@ pub fn inferno<H: HostTree, K: Sink, E: Sink>(
 
     // What stands afterwards.
     ensures kept { H.told files.new ≡ H.told files.old }
-    ensures later { (H.faults files.old ≤ H.faults files.new) × (K.faults out.old ≤ K.faults out.new) × (E.faults err.old ≤ E.faults err.new) }
+    ensures later { (H.faults files.old ≤ H.faults files.new) × (K.faults out.old ≤ K.faults out.new)
+        × (E.faults err.old ≤ E.faults err.new) }
 {
     let (cause, left) = decide(alloc, words, files, out, err);
     let cause = close(alloc, cause, err);

@@ -12,41 +12,29 @@ use Rattle.limbo_cases.proofs.Orders.{overlap_filled, overlap_ends, overlap_by_e
 
 -- ---- one relation in place of another
 
-module _ {A : Type 0} (at_most other : A → A → Type 0) (to : (x y : A) → at_most x y → other x y) (back : (x y : A) → other x y → at_most x y) where
-  there : (labels : List (Label A)) (i j : ℕ) → OverlapsAt at_most labels i j → OverlapsAt other labels i j
-  there labels i j o = record {
-    before = o.before;
-    label = o.label;
-    stands = o.stands;
-    other = o.other;
-    stands_later = o.stands_later;
-    overlap = record {
-      value = o.overlap.value;
-      fits = record { low = to _ _ o.overlap.fits.low; high = to _ _ o.overlap.fits.high };
-      fits_too = record { low = to _ _ o.overlap.fits_too.low; high = to _ _ o.overlap.fits_too.high };
-    };
-  }
+moved : {A : Type 0} (at_most other : A → A → Type 0) → ((x y : A) → at_most x y → other x y) → (labels : List (Label A)) (i j : ℕ)
+    → OverlapsAt at_most labels i j → OverlapsAt other labels i j
+moved {A} at_most other to labels i j o = record {
+  before = o.before;
+  label = o.label;
+  stands = o.stands;
+  other = o.other;
+  stands_later = o.stands_later;
+  overlap = record {
+    value = o.overlap.value;
+    fits = record { low = to _ _ o.overlap.fits.low; high = to _ _ o.overlap.fits.high };
+    fits_too = record { low = to _ _ o.overlap.fits_too.low; high = to _ _ o.overlap.fits_too.high };
+  };
+}
 
-  here : (labels : List (Label A)) (i j : ℕ) → OverlapsAt other labels i j → OverlapsAt at_most labels i j
-  here labels i j o = record {
-    before = o.before;
-    label = o.label;
-    stands = o.stands;
-    other = o.other;
-    stands_later = o.stands_later;
-    overlap = record {
-      value = o.overlap.value;
-      fits = record { low = back _ _ o.overlap.fits.low; high = back _ _ o.overlap.fits.high };
-      fits_too = record { low = back _ _ o.overlap.fits_too.low; high = back _ _ o.overlap.fits_too.high };
-    };
-  }
-
-  pub found_by : (labels : List (Label A)) (found : Option (ℕ × ℕ)) → Finds at_most labels found → Finds other labels found
-  found_by labels None apart = λ i j o. apart i j (here labels i j o)
-  found_by labels (Some pair) f = record {
-    overlaps = there labels pair.0 pair.1 f.overlaps;
-    first = λ i j l o. f.first i j l (here labels i j o);
-  }
+pub found_by : {A : Type 0} (at_most other : A → A → Type 0) → ((x y : A) → at_most x y → other x y)
+    → ((x y : A) → other x y → at_most x y) → (labels : List (Label A)) (found : Option (ℕ × ℕ))
+    → Finds at_most labels found → Finds other labels found
+found_by at_most other to back labels None apart = λ i j o. apart i j (moved other at_most back labels i j o)
+found_by at_most other to back labels (Some pair) f = record {
+  overlaps = moved at_most other to labels pair.0 pair.1 f.overlaps;
+  first = λ i j l o. f.first i j l (moved other at_most back labels i j o);
+}
 
 -- ---- the labels that a function gives of others, where it keeps the order
 
