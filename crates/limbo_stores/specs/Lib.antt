@@ -1,0 +1,5 @@
+pub mod Stores
+pub mod Telling
+pub mod Choosing
+pub mod Heaps
+pub mod Laws
