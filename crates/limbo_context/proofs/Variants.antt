@@ -39,13 +39,14 @@ NoneBefore vs name n = (u : ℕ) (w : code_variant.Variant) → u < n → slice_
 
 pub first_at : (vs : List code_variant.Variant) (name : List ℕ) (n : ℕ) (v : code_variant.Variant) → NoneBefore vs name n
     → slice_get vs n ≡ Some v → v.name ≡ name → IsFirstNamed (map view_variant vs) name n
-first_at vs name n v none there named = record
-    { variant = view_variant v
-    ; there = slice_get-map view_variant vs n ∙ ap (option_map view_variant) there
-    ; named = named
-    ; first = λ u w l h e.
-        let x = in_code vs u w h in
-        none u x.variant l x.there (ap (λ (z : Variant). z.name) x.is ∙ e) }
+first_at vs name n v none there named = record {
+  variant = view_variant v;
+  there = slice_get-map view_variant vs n ∙ ap (option_map view_variant) there;
+  named = named;
+  first = λ u w l h e.
+      let x = in_code vs u w h in
+      none u x.variant l x.there (ap (λ (z : Variant). z.name) x.is ∙ e);
+}
 
 pub none_at : (vs : List code_variant.Variant) (name : List ℕ) (n : ℕ) → length vs ≤ n → NoneBefore vs name n → (k : ℕ)
     → IsFirstNamed (map view_variant vs) name k → ⊥

@@ -46,9 +46,10 @@ pub record Body : Type 0 where
 
 -- one more variable, declared in the innermost scope
 abbrev pub with_variable : List ℕ → Ty → Body → Body
-with_variable name t b = record
-    { scopes = declared name (meaning.Variable (length b.variables)) b.scopes
-    ; variables = b.variables ++ (record { name = name; ty = t }) ∷ [] }
+with_variable name t b = record {
+  scopes = declared name (meaning.Variable (length b.variables)) b.scopes;
+  variables = b.variables ++ (record { name = name; ty = t }) ∷ [];
+}
 
 abbrev pub of_scope : ScopeFault → BodyFault
 of_scope scope_fault.NoMemory = fault.NoMemory

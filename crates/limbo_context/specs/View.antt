@@ -16,12 +16,21 @@ abbrev pub view_callee : code_callee.Callee → Callee
 view_callee f = record { of = view_fn f.of; owner = f.owner; takes_self = f.takes_self }
 
 abbrev pub view_context : code_context.Context → Context
-view_context c = record
-    { adts = defs_of c.adts; modules = c.adts.modules; members = c.members.items
-    ; interfaces = map view_interface c.interfaces.items; exports = c.exports.items; globals = map view_var c.globals.items
-    ; constants = map view_valued c.constants.items; types = map view_ty c.types.items
-    ; functions = map view_callee c.functions.items; imports = c.imports.items; exceptions = map view_exception c.exceptions.items
-    ; system = c.system; fd = c.fd }
+view_context c = record {
+  adts = defs_of c.adts;
+  modules = c.adts.modules;
+  members = c.members.items;
+  interfaces = map view_interface c.interfaces.items;
+  exports = c.exports.items;
+  globals = map view_var c.globals.items;
+  constants = map view_valued c.constants.items;
+  types = map view_ty c.types.items;
+  functions = map view_callee c.functions.items;
+  imports = c.imports.items;
+  exceptions = map view_exception c.exceptions.items;
+  system = c.system;
+  fd = c.fd;
+}
 
 abbrev pub view_body : code_body.Body → Body
 view_body b = record { scopes = b.scopes; variables = map view_var b.variables.items }

@@ -15,14 +15,14 @@ returns-in-Some-clause-found c =
     let there = seen_at c.args.adts.now c.args.adt c.in-Some.def.now c.in-Some.ensures.lookup.3.0 c.in-Some.ensures.lookup.1 in
     at_adt (view_defs c.args.adts.now) c.args.adt (view_def c.in-Some.def.now) c.args.name.now there c.variant_named.result
     (subst (λ (z : List code_variant.Variant). IfSome c.variant_named.result (λ n. IsFirstNamed (map view_variant z) c.args.name.now n))
-        c.deref.ensures.value c.variant_named.ensures.found)
+    c.deref.ensures.value c.variant_named.ensures.found)
 
 pub returns-in-Some-clause-none : goal.returns-in-Some-clause-none
 returns-in-Some-clause-none c =
     let there = seen_at c.args.adts.now c.args.adt c.in-Some.def.now c.in-Some.ensures.lookup.3.0 c.in-Some.ensures.lookup.1 in
     none_of (view_defs c.args.adts.now) c.args.adt (view_def c.in-Some.def.now) c.args.name.now there c.variant_named.result
     (subst (λ (z : List code_variant.Variant). IfNone c.variant_named.result (NoneIs (IsFirstNamed (map view_variant z) c.args.name.now)))
-        c.deref.ensures.value c.variant_named.ensures.none)
+    c.deref.ensures.value c.variant_named.ensures.none)
 
 pub returns-in-None-clause-none : goal.returns-in-None-clause-none
 returns-in-None-clause-none c =
