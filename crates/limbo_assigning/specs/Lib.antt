@@ -1,0 +1,3 @@
+pub mod Assigning
+pub mod Choosing
+pub mod Laws
