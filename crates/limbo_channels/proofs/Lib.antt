@@ -1,0 +1,4 @@
+pub mod Forms
+pub mod Told
+pub mod Channels
+pub mod Sound

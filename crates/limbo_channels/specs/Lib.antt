@@ -1,0 +1,4 @@
+pub mod Channels
+pub mod Loading
+pub mod Choosing
+pub mod Laws
