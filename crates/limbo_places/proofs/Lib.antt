@@ -1,0 +1,9 @@
+pub mod Forms
+pub mod Nodes
+pub mod Told
+pub mod Elements
+pub mod Slices
+pub mod Targets
+pub mod References
+pub mod Steps
+pub mod Sound
