@@ -1,0 +1,2 @@
+pub mod Updating
+pub mod Laws
