@@ -77,7 +77,8 @@ fn asked_type(
     pattern: &Pattern,
     value: &TExpr,
 ) -> Result<Option<Box<Ty>>, AllocError>
-    ensures asked { IfOk result (λ o. IfSome o (λ t. rules.Asks (view_pattern pattern.now) (type_of (view_expr value.now)) (view_ty t.value))) }
+    ensures asked { IfOk result (λ o. IfSome o (λ t.
+        rules.Asks (view_pattern pattern.now) (type_of (view_expr value.now)) (view_ty t.value))) }
     ensures none { IfOk result (λ o. IfNone o (NoneIs (rules.Asks (view_pattern pattern.now) (type_of (view_expr value.now))))) }
 {
     match asked_of(alloc, pattern, &value.ty)? {

@@ -26,7 +26,8 @@ fn row_of(
     place: &TExpr,
     value: &TExpr,
 ) -> Result<Option<Box<Row>>, AllocError>
-    ensures found { IfOk result (λ o. IfSome o (λ r. rules.HasUpdateRow op (view_expr place.now) (view_expr value.now) (view_row r.value))) }
+    ensures found { IfOk result (λ o. IfSome o (λ r.
+        rules.HasUpdateRow op (view_expr place.now) (view_expr value.now) (view_row r.value))) }
     ensures none { IfOk result (λ o. IfNone o (NoneIs (rules.HasUpdateRow op (view_expr place.now) (view_expr value.now)))) }
 {
     match update_row(alloc, op, &place.ty, &value.ty)? {
