@@ -1,0 +1,32 @@
+-- What is absent where a type of the code has another form.
+use Rattle.std.proofs.Common.{◌≡◌, ℕ, None, refl}
+use Rattle.limbo_types.specs.declared.ty.Ty as code_ty
+use Rattle.limbo_types.specs.declared.ty.Ty.TheVariants as make
+use Rattle.limbo_types.specs.Types as ty
+use Rattle.limbo_types.specs.View.{view_ty}
+use Rattle.limbo_types.proofs.Forms.{HasForm, has_form}
+use Rattle.limbo_body_types.specs.Means as means
+
+pub no_value : (u : code_ty.Ty) → ((n : ℕ) → u ≡ make.Adt n → ⊥) → None ≡ means.value_of (view_ty u)
+no_value u p0 = go (view_ty u) (has_form u)
+  where
+    go : (t : ty.Ty) → HasForm u t → None ≡ means.value_of t
+    go (ty.Adt n) h = absurd (p0 h.0 h.1)
+    go _ h = refl
+
+pub no_adt : (u : code_ty.Ty) → ((n : ℕ) → u ≡ make.Adt n → ⊥) → ((n : ℕ) → u ≡ make.RefAdt n → ⊥)
+    → ((n v : ℕ) → u ≡ make.RefPick n v → ⊥) → None ≡ means.adt_of (view_ty u)
+no_adt u p0 p1 p2 = go (view_ty u) (has_form u)
+  where
+    go : (t : ty.Ty) → HasForm u t → None ≡ means.adt_of t
+    go (ty.Adt n) h = absurd (p0 h.0 h.1)
+    go (ty.RefAdt n) h = absurd (p1 h.0 h.1)
+    go (ty.RefPick n v) h = absurd (p2 h.0 h.1 h.2)
+    go _ h = refl
+
+pub no_module : (u : code_ty.Ty) → ((n : ℕ) → u ≡ make.Module n → ⊥) → None ≡ means.module_of (view_ty u)
+no_module u p0 = go (view_ty u) (has_form u)
+  where
+    go : (t : ty.Ty) → HasForm u t → None ≡ means.module_of t
+    go (ty.Module n) h = absurd (p0 h.0 h.1)
+    go _ h = refl

@@ -1,0 +1,4 @@
+pub mod Means
+pub mod Fails
+pub mod Found
+pub mod Laws
