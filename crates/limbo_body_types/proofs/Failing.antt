@@ -21,8 +21,8 @@ use Rattle.limbo_body_types.specs.Means as means
 use Rattle.limbo_body_types.specs.Means.{Means, AllMean, IsNamed, NamesVariant, type_meant, adt_meant, value_of}
 use Rattle.limbo_body_types.specs.Fails as fails
 use Rattle.limbo_body_types.specs.Fails.{IsLacking, written, NamesNoType, IsPart, Writes, Fails}
-use Rattle.limbo_body_types.specs.Found.{LeadsNowhere, IsFound}
-use Rattle.limbo_body_types.proofs.Names.{one_named, not_both, lacking_named, lacking_variant, nowhere_named, nowhere_variant, nowhere_lacking}
+use Rattle.limbo_body_types.specs.Found.{NamesNothing, IsFound}
+use Rattle.limbo_body_types.proofs.Names.{one_named, not_both, lacking_named, lacking_variant, nothing_named, nothing_variant, nothing_lacking}
 use Rattle.limbo_body_types.proofs.Unique.{from_array, from_list, from_chan, from_tuple, from_named, from_more}
 use Rattle.limbo_body_types.proofs.Composing.{of_parts}
 
@@ -46,10 +46,10 @@ module _ (c : Context) (b : Body) (q : tree.Qual) where
 
   -- ---- names that mean no type
 
-  pub nowhere : (r : Bool) → LeadsNowhere c b q → NamesNoType c b q r
-  nowhere r n = record {
-    there = λ l. nowhere_lacking c b q n l;
-    no_type = λ u h. elim (is_one r u h) [ inl x ↦ nowhere_named c b q x.0 n x.1 | inr x ↦ nowhere_variant c b q x.0 x.1 n x.2 ];
+  pub means_nothing : (r : Bool) → NamesNothing c b q → NamesNoType c b q r
+  means_nothing r n = record {
+    there = λ l. nothing_lacking c b q n l;
+    no_type = λ u h. elim (is_one r u h) [ inl x ↦ nothing_named c b q x.0 n x.1 | inr x ↦ nothing_variant c b q x.0 x.1 n x.2 ];
   }
 
   pub no_type : (m : Meaning) → IsNamed c b q m → type_meant c m ≡ None → NamesNoType c b q false
@@ -69,7 +69,7 @@ module _ (c : Context) (b : Body) (q : tree.Qual) where
 
   pub no_type_alone : (f : Found) → IsFound c b q f → (f ≡ found.Lacking → ⊥) → ((m : Meaning) → f ≡ found.Named m → ⊥) → NamesNoType c b q false
   no_type_alone found.Lacking h k l = absurd (k refl)
-  no_type_alone found.Nothing h k l = nowhere false h
+  no_type_alone found.Nothing h k l = means_nothing false h
   no_type_alone (found.Named m) h k l = absurd (l m refl)
   no_type_alone (found.Variant a v) h k l = variant_alone a v h
 

@@ -9,8 +9,8 @@ use Rattle.limbo_context.specs.Context.{Context, Body, IsFirstNamed, HasVariantA
 use Rattle.limbo_body_types.specs.declared.found.Found.{Found}
 use Rattle.limbo_body_types.specs.declared.found.Found.TheVariants as found
 use Rattle.limbo_body_types.specs.Means.{module_led, adt_led, head, IsNamed, NamesVariant}
-use Rattle.limbo_body_types.specs.Fails.{IsLacking, first, member, part}
-use Rattle.limbo_body_types.specs.Found.{LeadsNowhere, no_module, no_adt, IsMember, IsPart, IsHead, IsFound}
+use Rattle.limbo_body_types.specs.Fails.{IsLacking, HasField, first, member, part}
+use Rattle.limbo_body_types.specs.Found.{NamesNothing, no_module, no_adt, a_field, IsMember, IsPart, IsHead, IsFound}
 
 -- ---- the first variant of a name
 
@@ -38,8 +38,9 @@ module _ (c : Context) (b : Body) (q : tree.Qual) where
   member_head m name (found.Variant a v) s e h = absurd h
 
   pub part_found : (m : Meaning) (name : List ℕ) (f : Found) → head c b q ≡ Some m → q.part ≡ Some name → IsPart c b m name f → IsFound c b q f
-  part_found m name found.Lacking s e h = part name m h.0 e s h.1 h.2 h.3
-  part_found m name found.Nothing s e h = no_adt name m e s h
+  part_found m name found.Lacking s e h = part name m h.0 e s h.1 h.2 h.3 h.4
+  part_found m name found.Nothing s e (inl h) = no_adt name m e s h
+  part_found m name found.Nothing s e (inr h) = a_field name m e s h
   part_found m name (found.Named n) s e h = rw (s, e) h
   part_found m name (found.Variant a v) s e h =
       record { before = m; part = name; headed = s; with_part = e; leads = h.0; no_member = h.1; has = h.2 }
@@ -80,7 +81,7 @@ module _ (c : Context) (b : Body) (q : tree.Qual) where
   pub lacking_named : (m : Meaning) → IsLacking c b q → IsNamed c b q m → ⊥
   lacking_named m (first e) d = none-some m (rw e at d)
   lacking_named m (member name n i e s l none) d = none-some m (rw (s, e, l, none) at d)
-  lacking_named m (part name n a e h l none never) d = none-some m (rw (h, e, l, none) at d)
+  lacking_named m (part name n a e h l none never no_field) d = none-some m (rw (h, e, l, none) at d)
 
   lacking_head : (m : Meaning) (f : seen q.first b.scopes ≡ None) → head c b q ≡ Some m → ⊥
   lacking_head m f d = none-some m (rw f at d)
@@ -88,28 +89,38 @@ module _ (c : Context) (b : Body) (q : tree.Qual) where
   pub lacking_variant : (a v : ℕ) → IsLacking c b q → NamesVariant c b q a v → ⊥
   lacking_variant a v (first e) w = lacking_head w.before e w.headed
   lacking_variant a v (member name n i e s l none) w = none-some w.before (rw (s, e, l, none) at w.headed)
-  lacking_variant a v (part name n i e h l none never) w =
+  lacking_variant a v (part name n i e h l none never no_field) w =
       never v (variant_as i v name a w.part (same_adt w.before n a i w.headed h w.leads l) (same_part w.part name w.with_part e) w.has)
 
-  -- ---- what leads nowhere means nothing, and isn't unknown
+  -- ---- what means nothing is no name and no variant, and is there
 
-  pub nowhere_named : (m : Meaning) → LeadsNowhere c b q → IsNamed c b q m → ⊥
-  nowhere_named m (no_module name n e s l) d = none-some m (rw (s, e, l) at d)
-  nowhere_named m (no_adt name n e h l) d = none-some m (rw (h, e, l) at d)
+  pub nothing_named : (m : Meaning) → NamesNothing c b q → IsNamed c b q m → ⊥
+  nothing_named m (no_module name n e s l) d = none-some m (rw (s, e, l) at d)
+  nothing_named m (no_adt name n e h l) d = none-some m (rw (h, e, l) at d)
+  nothing_named m (a_field name n e h x) d = none-some m (rw (h, e, x.leads, x.no_member) at d)
 
   nowhere_led : (m n : Meaning) (a : ℕ) → m ≡ n → adt_led c b m ≡ None → adt_led c b n ≡ Some a → ⊥
   nowhere_led m n a s l g = none-some a (sym l ∙ subst (λ (z : Meaning). adt_led c b z ≡ Some a) (sym s) g)
 
-  pub nowhere_variant : (a v : ℕ) → LeadsNowhere c b q → NamesVariant c b q a v → ⊥
-  nowhere_variant a v (no_module name n e s l) w = none-some w.before (rw (s, e, l) at w.headed)
-  nowhere_variant a v (no_adt name n e h l) w = nowhere_led n w.before a (same_before n w.before h w.headed) l w.leads
+  pub nothing_variant : (a v : ℕ) → NamesNothing c b q → NamesVariant c b q a v → ⊥
+  nothing_variant a v (no_module name n e s l) w = none-some w.before (rw (s, e, l) at w.headed)
+  nothing_variant a v (no_adt name n e h l) w = nowhere_led n w.before a (same_before n w.before h w.headed) l w.leads
+  nothing_variant a v (a_field name n e h x) w =
+      x.no_variant v
+      (variant_as x.adt v name a w.part (same_adt w.before n a x.adt w.headed h w.leads x.leads) (same_part w.part name w.with_part e) w.has)
 
-  pub nowhere_lacking : LeadsNowhere c b q → IsLacking c b q → ⊥
-  nowhere_lacking (no_module name n e s l) (first f) = none-some n (sym f ∙ s)
-  nowhere_lacking (no_module name n e s l) (member other m i f t k none) =
+  pub nothing_lacking : NamesNothing c b q → IsLacking c b q → ⊥
+  nothing_lacking (no_module name n e s l) (first f) = none-some n (sym f ∙ s)
+  nothing_lacking (no_module name n e s l) (member other m i f t k none) =
       let w : n ≡ m = same_Some n m (sym s ∙ t) in
       none-some i (sym l ∙ subst (λ (z : Meaning). module_led c b z ≡ Some i) (sym w) k)
-  nowhere_lacking (no_module name n e s l) (part other m a f h k none never) = none-some m (rw (s, e, l) at h)
-  nowhere_lacking (no_adt name n e h l) (first f) = lacking_head n f h
-  nowhere_lacking (no_adt name n e h l) (member other m i f t k none) = none-some n (rw (t, f, k, none) at h)
-  nowhere_lacking (no_adt name n e h l) (part other m a f t k none never) = nowhere_led n m a (same_before n m h t) l k
+  nothing_lacking (no_module name n e s l) (part other m a f h k none never no_field) = none-some m (rw (s, e, l) at h)
+  nothing_lacking (no_adt name n e h l) (first f) = lacking_head n f h
+  nothing_lacking (no_adt name n e h l) (member other m i f t k none) = none-some n (rw (t, f, k, none) at h)
+  nothing_lacking (no_adt name n e h l) (part other m a f t k none never no_field) = nowhere_led n m a (same_before n m h t) l k
+  nothing_lacking (a_field name n e h x) (first f) = lacking_head n f h
+  nothing_lacking (a_field name n e h x) (member other m i f t k none) = none-some n (rw (t, f, k, none) at h)
+  nothing_lacking (a_field name n e h x) (part other m a f t k none never no_field) =
+      no_field
+      (subst (λ (z : List ℕ). HasField c b m z) (same_part name other e f)
+      (subst (λ (z : Meaning). HasField c b z name) (same_before n m h t) x.field))

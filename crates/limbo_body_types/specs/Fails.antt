@@ -8,22 +8,32 @@ use Rattle.limbo_tree.specs.declared.types.TypeTree as code_type
 use Rattle.limbo_tree.specs.declared.types.TypeTree.TheVariants as make
 use Rattle.limbo_tree.specs.Types as tree
 use Rattle.limbo_tree.specs.View.{view_qual}
+use Rattle.limbo_types.specs.Types.{Ty}
+use Rattle.limbo_fields.specs.Fields.{Names}
 use Rattle.limbo_scope.specs.declared.meaning.Meaning.{Meaning}
 use Rattle.limbo_scope.specs.Scopes.{seen}
 use Rattle.limbo_refusals.specs.Refusals.{NoneIs}
 use Rattle.limbo_context.specs.Context.{Context, Body, named_in, HasVariantNamed}
-use Rattle.limbo_body_types.specs.Means.{module_led, adt_led, head, Means}
+use Rattle.limbo_body_types.specs.Means.{type_led, module_led, adt_led, head, Means}
 use Rattle.limbo_body_types.specs.declared.fault.WrittenFault.{WrittenFault}
 use Rattle.limbo_body_types.specs.declared.fault.WrittenFault.TheVariants.{NoMemory, Unknown, NotAType}
 
+-- What stands before `.` has a field of this name.
+pub record HasField (c : Context) (b : Body) (m : Meaning) (name : List ℕ) : Type 0 where
+  pub of : Ty
+  pub leads : type_led c b m ≡ Some of
+  pub part : ℕ
+  pub ty : Ty
+  pub is : Names c.adts name of part ty
+
 -- A name isn't there: the first name isn't seen, or the module before `->` exports no such name, or the adt before `.` has neither a
--- member nor a variant of this name.
+-- member nor a variant nor a field of this name.
 pub data IsLacking (c : Context) (b : Body) (q : tree.Qual) : Type 0 where
   first : seen q.first b.scopes ≡ None → IsLacking c b q
   member : (name : List ℕ) (m : Meaning) (i : ℕ) → q.member ≡ Some name → seen q.first b.scopes ≡ Some m → module_led c b m ≡ Some i
       → named_in c.exports i name ≡ None → IsLacking c b q
   part : (name : List ℕ) (m : Meaning) (a : ℕ) → q.part ≡ Some name → head c b q ≡ Some m → adt_led c b m ≡ Some a
-      → named_in c.members a name ≡ None → NoneIs (HasVariantNamed c a name) → IsLacking c b q
+      → named_in c.members a name ≡ None → NoneIs (HasVariantNamed c a name) → (HasField c b m name → ⊥) → IsLacking c b q
 
 -- a name as a type, alone or behind `ref`
 abbrev pub written : (behind_ref : Bool) → tree.Qual → tree.Ty

@@ -5,7 +5,7 @@ ghost use Rattle.limbo_tree.specs.View.{view_qual};
 ghost use Rattle.limbo_context.specs.View.{view_context, view_body};
 ghost use Rattle.limbo_body_types.specs.Found as found;
 
-use crate::meant::{adt_led, module_led};
+use crate::meant::{adt_led, has_field, module_led};
 use inf_text::Text;
 use limbo_context::{Body, Context};
 use limbo_scope::Meaning;
@@ -17,7 +17,7 @@ use std::alloc::AllocError;
 pub(crate) enum Found {
     /// It isn't there.
     Lacking,
-    /// What stands before `->` or `.` is no module or adt.
+    /// It means nothing: what stands before `->` or `.` is no module or adt, or it is a field.
     Nothing,
     /// It means this.
     Named(Meaning),
@@ -38,7 +38,7 @@ fn member_of(context: &Context, body: &Body, before: Meaning, name: &Text) -> Fo
     }
 }
 
-// The part of the adt that a name leads to: a member, or a variant.
+// The part of the adt that a name leads to: a member, or a variant, or a field, which means nothing.
 fn part_of(
     context: &Context,
     body: &Body,
@@ -53,10 +53,13 @@ fn part_of(
     if let Some(meaning) = context.member(adt, name) {
         return Ok(Found::Named(meaning));
     }
-    match context.variant(adt, name)? {
-        Some(variant) => Ok(Found::Variant { adt, variant }),
-        None => Ok(Found::Lacking),
+    if let Some(variant) = context.variant(adt, name)? {
+        return Ok(Found::Variant { adt, variant });
     }
+    if has_field(context, body, before, name)? {
+        return Ok(Found::Nothing);
+    }
+    Ok(Found::Lacking)
 }
 
 // All of a name but its part.

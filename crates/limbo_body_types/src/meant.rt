@@ -2,12 +2,17 @@
 
 ghost use Rattle.std.specs.Prelude.{◌≡◌, IfOk, option_map, map};
 ghost use Rattle.limbo_types.specs.View.{view_ty};
+ghost use Rattle.limbo_layout.specs.View.{view_defs};
 ghost use Rattle.limbo_typed.specs.View.{view_var};
 ghost use Rattle.limbo_context.specs.View.{view_context, view_body};
 ghost use Rattle.limbo_body_types.specs.Means as means;
-ghost use Rattle.limbo_body_types.specs.Found.{view_meant};
+ghost use Rattle.limbo_body_types.specs.Fails.{HasField};
+ghost use Rattle.limbo_body_types.specs.Found.{view_meant, Tells, HasPart};
 
+use inf_text::Text;
 use limbo_context::{Body, Context};
+use limbo_fields::part_of;
+use limbo_layout::AdtDef;
 use limbo_scope::Meaning;
 use limbo_typed::TVar;
 use limbo_types::{Ty, copy};
@@ -157,5 +162,37 @@ pub(crate) fn module_led(context: &Context, body: &Body, meaning: Meaning) -> Op
         Some(Meant::Kept(t)) => module_in(t),
         Some(Meant::Module(number)) => Some(number),
         _ => None,
+    }
+}
+
+// Whether a type has a part of this name.
+fn has_part(defs: &[AdtDef], of: &Ty, name: &Text) -> Result<bool, AllocError>
+    ensures { IfOk result (λ yes. Tells yes (HasPart (view_defs defs.now) name.now (view_ty of.now))) }
+{
+    match part_of(defs, of, name)? {
+        Some(_) => Ok(true),
+        None => Ok(false),
+    }
+}
+
+/// Whether what a name leads to has a field of this name.
+///
+/// # Errors
+/// Want of numbers for the fields of an adt.
+#[tactic(auto, using(limbo_types::proofs::View::the_types))]
+pub(crate) fn has_field(
+    context: &Context,
+    body: &Body,
+    before: Meaning,
+    name: &Text,
+) -> Result<bool, AllocError>
+    ensures { IfOk result (λ yes. Tells yes (HasField (view_context context.now) (view_body body.now) before name.now)) }
+{
+    let defs = context.adts.defs();
+    match type_led(context, body, before) {
+        None => Ok(false),
+        Some(Meant::Kept(t)) => has_part(defs, t, name),
+        Some(Meant::Adt(number)) => has_part(defs, &Ty::Adt(number), name),
+        Some(Meant::Module(number)) => has_part(defs, &Ty::Module(number), name),
     }
 }

@@ -1,4 +1,4 @@
-use Rattle.std.proofs.Common.{refl, sym, subst}
+use Rattle.std.proofs.Common.{true, refl, sym, subst}
 use Rattle.limbo_tree.specs.View.{view_qual}
 use Rattle.limbo_types.proofs.View.{view_ty-RefAdt, view_ty-RefPick}
 use Rattle.limbo_context.specs.View.{view_context, view_body}
@@ -6,12 +6,19 @@ use Rattle.limbo_body_types.specs.declared.found.Found.{Found}
 use Rattle.limbo_body_types.specs.Means as means
 use Rattle.limbo_body_types.specs.Found.{IsFound}
 use Rattle.limbo_body_types.proofs.Composing.{means_as}
-use Rattle.limbo_body_types.proofs.Failing.{no_adt, means_adt}
+use Rattle.limbo_body_types.proofs.Failing.{means_nothing, no_adt, means_adt}
 use Rattle.limbo_body_types.proofs.written.referred.Goals as goal
 
 pub returns-in-Lacking-clause-refused : goal.returns-in-Lacking-clause-refused
 returns-in-Lacking-clause-refused c =
     (refl, subst (λ (z : Found). IsFound (view_context c.args.context.now) (view_body c.args.body.now) (view_qual c.args.name.now) z) c.in-Lacking.is c.in_ok-find.ensures)
+
+pub returns-in-Nothing-clause-refused : goal.returns-in-Nothing-clause-refused
+returns-in-Nothing-clause-refused c = (
+  refl,
+  means_nothing (view_context c.args.context.now) (view_body c.args.body.now) (view_qual c.args.name.now) true
+      (subst (λ (z : Found). IsFound (view_context c.args.context.now) (view_body c.args.body.now) (view_qual c.args.name.now) z) c.in-Nothing.is c.in_ok-find.ensures),
+)
 
 pub returns-in-Variant-clause-means : goal.returns-in-Variant-clause-means
 returns-in-Variant-clause-means c =
