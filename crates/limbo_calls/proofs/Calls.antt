@@ -8,7 +8,6 @@ use Rattle.std.proofs.Math.Seq.{drop-cons}
 use Rattle.limbo_types.specs.declared.ty.Ty as code_ty
 use Rattle.limbo_types.specs.declared.ty.Ty.TheVariants as make
 use Rattle.limbo_types.specs.View.{view_ty}
-use Rattle.limbo_types.proofs.Forms.{HasForm, has_form}
 use Rattle.limbo_layout.specs.declared.def.Field as code_field
 use Rattle.limbo_layout.specs.declared.def.Variant as code_variant
 use Rattle.limbo_layout.specs.declared.def.AdtDef as code_def
@@ -30,7 +29,8 @@ use Rattle.limbo_refusals.specs.Refusals.{Refusal, NoneIs}
 use Rattle.limbo_standing.specs.Standing.{SettleEach}
 use Rattle.limbo_arguments.specs.Failing.{FailsEach}
 use Rattle.limbo_arguments.proofs.Each.{each_once, each_stand, each_fails}
-use Rattle.limbo_calls.specs.Calls.{Calls, CallsThrough, Constructs, HasFields, FieldsOf, IsUserModule, PassesNone}
+use Rattle.limbo_calls.specs.Calls.{Calls, CallsThrough, Constructs, HasFields, FieldsOf, PassesNone}
+use Rattle.limbo_allowed.specs.Allowed.{IsUserModule}
 use Rattle.limbo_calls.specs.Refusing.{RefusesThrough, RefusesConstruct}
 use Rattle.limbo_calls.specs.Refusing as refusing
 use Rattle.limbo_calls.specs.Laws.{IsFit}
@@ -57,13 +57,6 @@ rest_at : (ts : List code_ty.Ty) (i : ℕ) (x : code_ty.Ty) → i < length ts �
 rest_at ts i x l is =
     drop-cons ts i x l ∙ ap (λ (y : code_ty.Ty). y ∷ drop (suc i) ts) (sym is)
     ∙ ap (λ n. x ∷ drop n ts) (let e : suc i ≡ i + 1 = omega arith in e)
-
-pub other_module : (system : Option ℕ) (u : code_ty.Ty) → ((n : ℕ) → u ≡ make.Module n → ⊥) → IsUserModule system (view_ty u) → ⊥
-other_module system u never = go (view_ty u) (has_form u)
-  where
-    go : (t : Ty) → HasForm u t → IsUserModule system t → ⊥
-    go (ty.Module n) h m = never h.0 h.1
-    go _ h m = m
 
 pub pass_here : (system : Option ℕ) (ts : List code_ty.Ty) (i : ℕ) (x : code_ty.Ty) → i < length ts → x ≡ get_or ts i x
     → PassesNone system (map view_ty (drop i ts))

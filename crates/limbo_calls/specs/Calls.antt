@@ -5,6 +5,7 @@ use Rattle.limbo_layout.specs.Adts.{Def, Variant, types_of}
 use Rattle.limbo_typed.specs.declared.operation.Operation.TheVariants as op
 use Rattle.limbo_typed.specs.Typed.{Expr, Of, Exprs, Apply, Call, CallThrough}
 use Rattle.limbo_typed.specs.Sound.{type_of}
+use Rattle.limbo_allowed.specs.Allowed.{IsUserModule}
 use Rattle.limbo_standing.specs.Standing.{SettleEach}
 
 -- Arguments where these parameters are asked for: each is what it is there.
@@ -17,12 +18,7 @@ pub record Calls (function : ℕ) (of : FnTy) (args : Exprs) (e : Expr) : Type 0
   pub arguments : Arguments of.args args values
   pub gives : e ≡ Of of.answer (Call function values)
 
--- a module's type that isn't that of the built-in `Sys`
-abbrev pub IsUserModule : (system : Option ℕ) → Ty → Type 0
-IsUserModule system (Module n) = system ≡ Some n → ⊥
-IsUserModule system _ = ⊥
-
--- no parameter is of such a type
+-- no parameter is of a user's module type
 abbrev pub PassesNone : (system : Option ℕ) → List Ty → Type 0
 PassesNone system [] = Unit {0}
 PassesNone system (t ∷ ts) = (IsUserModule system t → ⊥) × PassesNone system ts

@@ -8,9 +8,10 @@ ghost use Rattle.limbo_layout.specs.View.{view_fields, view_def, view_defs};
 ghost use Rattle.limbo_typed.specs.View.{view_expr, view_exprs};
 ghost use Rattle.limbo_refusals.specs.Refusals.{Refuses, NoneIs};
 ghost use Rattle.limbo_arguments.specs.Failing.{FailsEach};
-ghost use Rattle.limbo_calls.specs.Calls.{Calls, CallsThrough, Constructs, IsUserModule, PassesNone, HasFields, FieldsOf};
+ghost use Rattle.limbo_calls.specs.Calls.{Calls, CallsThrough, Constructs, PassesNone, HasFields, FieldsOf};
 ghost use Rattle.limbo_calls.specs.Refusing.{RefusesThrough, RefusesConstruct};
 
+use limbo_allowed::is_user_module;
 use limbo_arguments::{expr_of, settle_each};
 use limbo_forms::is_same;
 use limbo_layout::{AdtDef, Field};
@@ -45,21 +46,7 @@ pub fn call(
     Ok(expr_of(alloc, answer, node)?)
 }
 
-// Whether a type is a module's, but for that of the built-in `Sys`.
-#[tactic(auto, using(limbo_types::proofs::View::the_types))]
-fn is_user_module(system: Option<u32>, t: &Ty) -> bool
-    ensures { IsTrue result ↔ IsUserModule system (view_ty t.now) }
-{
-    match t {
-        Ty::Module(number) => match system {
-            Some(sys) => *number != sys,
-            None => true,
-        },
-        _ => false,
-    }
-}
-
-// Whether no parameter is of such a type.
+// Whether no parameter is of a user's module type.
 fn passes_none(system: Option<u32>, params: &[Ty]) -> bool
     ensures { IsTrue result ↔ PassesNone system (map view_ty params.now) }
 {
