@@ -1,0 +1,4 @@
+pub mod Things
+pub mod ThingView
+pub mod Choosing
+pub mod Laws
