@@ -193,7 +193,8 @@ fn part_of_type(
     t: &Ty,
     name: &Text,
 ) -> Result<Option<Box<Thing>>, AllocError>
-    ensures found { IfOk result (λ o. IfSome o (λ p. PartIs (view_context context.now) name.now (things.AType (view_ty t.now)) (view_thing p.value))) }
+    ensures found { IfOk result (λ o. IfSome o
+        (λ p. PartIs (view_context context.now) name.now (things.AType (view_ty t.now)) (view_thing p.value))) }
     ensures none { IfOk result (λ o. IfNone o (NoneIs (PartIs (view_context context.now) name.now (things.AType (view_ty t.now))))) }
 {
     match own_adt(t) {
@@ -209,7 +210,8 @@ fn part_in(
     base: Box<Thing>,
     name: &Text,
 ) -> Result<Option<Box<Thing>>, AllocError>
-    ensures found { IfOk result (λ o. IfSome o (λ t. PartIs (view_context context.now) name.now (view_thing base.value) (view_thing t.value))) }
+    ensures found { IfOk result (λ o. IfSome o
+        (λ t. PartIs (view_context context.now) name.now (view_thing base.value) (view_thing t.value))) }
     ensures none { IfOk result (λ o. IfNone o (NoneIs (PartIs (view_context context.now) name.now (view_thing base.value)))) }
 {
     match Box::into_inner(base) {

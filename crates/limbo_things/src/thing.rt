@@ -130,7 +130,8 @@ pub fn value(alloc: Global, thing: Box<Thing>) -> Result<Box<TExpr>, ExprFault>
     // It is the value.
     ensures typed { IfOk result (λ e. view_thing thing.value ≡ AValue (view_expr e.value)) }
     // Where it is refused, it is none.
-    ensures refused { IfErr result (λ f. Refuses f (λ r. (r ≡ refusals.Clash (type_named (view_thing thing.value)) (type_named (view_thing thing.value)))
+    ensures refused { IfErr result (λ f. Refuses f (λ r.
+        (r ≡ refusals.Clash (type_named (view_thing thing.value)) (type_named (view_thing thing.value)))
         × NoneIs (λ e. view_thing thing.value ≡ AValue e))) }
 {
     match Box::into_inner(thing) {
