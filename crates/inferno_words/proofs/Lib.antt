@@ -1,0 +1,4 @@
+mod Arguments
+mod Places
+mod Reading
+mod Taken

@@ -1,0 +1,27 @@
+use Rattle.std.proofs.Common.{◌∙◌, ap, ap₂, refl}
+use Rattle.clap.specs.Words.{is_simple_and_free}
+use Rattle.inferno_words.specs.Commands.{limbo_in}
+use Rattle.inferno_words.specs.Forms.{file_rule, out_rule}
+use Rattle.inferno_words.specs.declared.command.Command.TheVariants.{Limbo}
+use Rattle.inferno_words.proofs.Arguments.{has_value}
+use Rattle.inferno_words.proofs.Places.{asked, limbo_simple, in_limbo_file, in_limbo_out}
+use Rattle.inferno_words.proofs.command.limbo.Goals as goal
+
+pub read-requires : goal.read-requires
+read-requires c = ap is_simple_and_free c.in_ok-limbo_form.ensures ∙ limbo_simple
+
+pub text_under-requires : goal.text_under-requires
+text_under-requires c =
+    let form = c.in_ok-limbo_form.field-0 in
+    let parsed = rw c.in-Some.is at c.in_ok-matches.ensures.parsed in
+    has_value form 0 file_rule (in_limbo_file form c.in_ok-limbo_form.ensures) c.in-Some.matches parsed refl refl refl
+
+pub text_under-requires-2 : goal.text_under-requires-2
+text_under-requires-2 c =
+    let form = c.in_ok-limbo_form.field-0 in
+    let parsed = rw c.in-Some.is at c.in_ok-matches.ensures.parsed in
+    has_value form 1 out_rule (in_limbo_out form c.in_ok-limbo_form.ensures) c.in-Some.matches parsed refl refl refl
+
+pub returns : goal.returns
+returns c = asked _ _ _ limbo_in _ _ _ c.in_ok-limbo_form.ensures c.in_ok-matches.ensures.read c.in-Some.is
+    (ap₂ Limbo c.in_ok-file.ensures c.in_ok-out.ensures)
