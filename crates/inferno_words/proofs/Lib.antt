@@ -2,3 +2,4 @@ mod Arguments
 mod Places
 mod Reading
 mod Taken
+mod Tests

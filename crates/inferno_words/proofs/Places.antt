@@ -1,6 +1,7 @@
 -- Where the arguments stand in the forms, and that the forms are simple.
-use Rattle.std.proofs.Common.{◌≡◌, ◌∙◌, true, List, Option, Some, None, refl, sym, ap, subst, arith}
-use Rattle.std.specs.Prelude.{option_map}
+use Rattle.std.proofs.Common.{◌≡◌, ◌∙◌, true, List, Option, Some, refl, sym, ap, subst, arith}
+use Rattle.std.specs.Prelude.{is_some, option_map}
+use Rattle.inf_text.specs.Options.{◌>>=◌}
 use Rattle.clap.specs.Words.{App, Row, Text, app_of, found_of, rows_of, is_simple_and_free}
 use Rattle.clap.specs.declared.builder.command.Command.{Command as Form}
 use Rattle.clap.specs.declared.parser.matches.ArgMatches.{ArgMatches}
@@ -66,16 +67,16 @@ module _ (form : Form) where
   in_dump_file e = subst (λ (f : App). IsArgument f 0 file_rule) (sym e) dump_file
 
 -- the command that is made of what was read is the one that the words ask for
-pub asked : (a form : App) (words : List Text) (command : List Row → Command) (found : Option ArgMatches) (m : ArgMatches) (c : Command) → a ≡ form
-    → option_map (λ x. rows_of (found_of x)) found ≡ rows_by a words → found ≡ Some m → c ≡ command (rows_of (found_of m))
+pub asked : (a form : App) (words : List Text) (command : List Row → Option Command) (found : Option ArgMatches) (m : ArgMatches) (c : Command) → a ≡ form
+    → option_map (λ x. rows_of (found_of x)) found ≡ rows_by a words → found ≡ Some m → command (rows_of (found_of m)) ≡ Some c
     → Some c ≡ asked_by form command words
 asked a form words command found m c same read is made =
     let rows : Some (rows_of (found_of m)) ≡ rows_by a words = rw is at read in
-    ap Some made ∙ ap (option_map command) (rows ∙ ap (λ (f : App). rows_by f words) same)
+    sym made ∙ ap (λ (o : Option (List Row)). o >>= command) (rows ∙ ap (λ (f : App). rows_by f words) same)
 
--- and none where nothing was read
-pub unasked : (a form : App) (words : List Text) (command : List Row → Command) (found : Option ArgMatches) → a ≡ form
-    → option_map (λ x. rows_of (found_of x)) found ≡ rows_by a words → found ≡ None → None ≡ asked_by form command words
-unasked a form words command found same read is =
-    let rows : None ≡ rows_by a words = rw is at read in
-    ap (option_map command) (rows ∙ ap (λ (f : App). rows_by f words) same)
+-- and there is one where something was read
+pub taken : (a form : App) (words : List Text) (found : Option ArgMatches) (m : ArgMatches) → a ≡ form
+    → option_map (λ x. rows_of (found_of x)) found ≡ rows_by a words → found ≡ Some m → true ≡ is_some (rows_by form words)
+taken a form words found m same read is =
+    let rows : Some (rows_of (found_of m)) ≡ rows_by a words = rw is at read in
+    ap (λ (o : Option (List Row)). is_some o) (rows ∙ ap (λ (f : App). rows_by f words) same)

@@ -1,7 +1,7 @@
-ghost use Rattle.std.specs.Prelude.{◌≡◌, ◌≤◌, true, map, is_some, string_bytes, encode_utf8_all, IfOk, IfSome};
+ghost use Rattle.std.specs.Prelude.{◌≡◌, ◌≤◌, true, Some, map, is_some, string_bytes, encode_utf8_all, IfOk, IfSome};
 ghost use Rattle.clap.specs.Words.{found_of, first_value, rows_of};
-ghost use Rattle.inferno_words.specs.Forms.{go_form, limbo_form, dump_form};
-ghost use Rattle.inferno_words.specs.Commands.{command_in, asked_by, go_in, limbo_in, dump_in, text_under, IsWithinBounds};
+ghost use Rattle.inferno_words.specs.Forms.{go_form, limbo_form, dump_form, rows_by};
+ghost use Rattle.inferno_words.specs.Commands.{command_in, is_of_form, asked_by, go_in, limbo_in, dump_in, text_under, IsWithinBounds};
 
 use crate::form::{dump_form, go_form, limbo_form, read};
 use clap::ArgMatches;
@@ -46,7 +46,7 @@ fn spelled(alloc: Global, words: &[Text]) -> Result<Vec<String>, AllocError>
 /// The text that was read under a name.
 fn text_under(alloc: Global, matches: &ArgMatches<'_>, name: &str) -> Result<Text, AllocError>
     requires { is_some (first_value (found_of matches.now) name.now) ≡ true }
-    ensures { IfOk result (λ text. text ≡ text_under name.now (rows_of (found_of matches.now))) }
+    ensures { IfOk result (λ text. text_under name.now (rows_of (found_of matches.now)) ≡ Some text) }
 {
     let word = matches.get_str(name).unwrap();
     let chars: Vec<char> = word.chars().collect(alloc)?;
@@ -56,6 +56,7 @@ fn text_under(alloc: Global, matches: &ArgMatches<'_>, name: &str) -> Result<Tex
 /// What `go` and its words ask for.
 fn go(alloc: Global, words: &[String]) -> Result<Option<Command>, AllocError>
     ensures asked { IfOk result (λ command. command ≡ asked_by go_form go_in (map string_bytes words.now)) }
+    ensures taken { IfOk result (λ command. is_some command ≡ is_some (rows_by go_form (map string_bytes words.now))) }
     ensures bounds { IfOk result (λ command. IfSome command IsWithinBounds) }
 {
     let Some(matches) = read(go_form(alloc)?, words)? else {
@@ -73,7 +74,8 @@ fn go(alloc: Global, words: &[String]) -> Result<Option<Command>, AllocError>
 
 /// What `limbo` and its words ask for.
 fn limbo(alloc: Global, words: &[String]) -> Result<Option<Command>, AllocError>
-    ensures { IfOk result (λ command. command ≡ asked_by limbo_form limbo_in (map string_bytes words.now)) }
+    ensures asked { IfOk result (λ command. command ≡ asked_by limbo_form limbo_in (map string_bytes words.now)) }
+    ensures taken { IfOk result (λ command. is_some command ≡ is_some (rows_by limbo_form (map string_bytes words.now))) }
 {
     let Some(matches) = read(limbo_form(alloc)?, words)? else {
         return Ok(None);
@@ -85,7 +87,8 @@ fn limbo(alloc: Global, words: &[String]) -> Result<Option<Command>, AllocError>
 
 /// What `dump` and its words ask for.
 fn dump(alloc: Global, words: &[String]) -> Result<Option<Command>, AllocError>
-    ensures { IfOk result (λ command. command ≡ asked_by dump_form dump_in (map string_bytes words.now)) }
+    ensures asked { IfOk result (λ command. command ≡ asked_by dump_form dump_in (map string_bytes words.now)) }
+    ensures taken { IfOk result (λ command. is_some command ≡ is_some (rows_by dump_form (map string_bytes words.now))) }
 {
     let Some(matches) = read(dump_form(alloc)?, words)? else {
         return Ok(None);
@@ -101,6 +104,7 @@ fn dump(alloc: Global, words: &[String]) -> Result<Option<Command>, AllocError>
 /// Want of memory.
 pub fn command_of(alloc: Global, words: &[Text]) -> Result<Option<Command>, AllocError>
     ensures asked { IfOk result (λ command. command ≡ command_in words.now) }
+    ensures usage_exactly { IfOk result (λ command. is_some command ≡ is_of_form words.now) }
     ensures bounds { IfOk result (λ command. IfSome command IsWithinBounds) }
 {
     let Some(name) = words.first() else {

@@ -24,7 +24,7 @@ fn quanta<'a>(alloc: Global) -> Arg<'a>
     Arg::new(alloc, "quanta")
         .short('q')
         .action(ArgAction::Set)
-        .value_parser(clap::value_parser!(u32).range(1..10_000_001))
+        .value_parser(clap::value_parser!(u32).range(1..=10_000_000))
 }
 
 /// `--stats`.

@@ -1,14 +1,15 @@
-use Rattle.std.proofs.Common.{◌≡◌, ◌∙◌, ◌≤◌, ℕ, List, ap, ap₂, refl, sym, subst}
+use Rattle.std.proofs.Common.{Bool, Option, Some, ◌≡◌, ◌∙◌, ◌≤◌, ℕ, List, ap, ap₂, refl, sym, subst}
 use Rattle.std.specs.Prelude.{codes, pos}
 use Rattle.std.specs.Str.Parse.{ParsesUnsigned, ExplainsUnsignedError, HasUnsignedDigitsIfOk}
+use Rattle.inf_text.specs.Options.{◌>>=◌}
 use Rattle.clap.specs.Words.{is_simple_and_free, found_of, rows_of}
 use Rattle.clap.specs.declared.builder.value_parser.ValueParser.TheVariants as vp
 use Rattle.clap.proofs.WalkLemmas.{one_text-rows}
-use Rattle.inferno_words.specs.Commands.{go_in, number_under, text_under}
+use Rattle.inferno_words.specs.Commands.{go_in, number_under, flag_under}
 use Rattle.inferno_words.specs.Forms.{file_rule, quanta_rule, stats_rule}
 use Rattle.inferno_words.specs.declared.command.Command.TheVariants.{Go}
 use Rattle.inferno_words.proofs.Arguments.{has_value, reads_taken}
-use Rattle.inferno_words.proofs.Places.{asked, go_simple, in_go_file, in_go_quanta, in_go_stats}
+use Rattle.inferno_words.proofs.Places.{asked, taken, go_simple, in_go_file, in_go_quanta, in_go_stats}
 use Rattle.inferno_words.proofs.Taken.{quanta_read, flag_read}
 use Rattle.inferno_words.proofs.command.go.Goals as goal
 
@@ -45,9 +46,13 @@ returns-clause-asked c =
     let stats = flag_read rows c.get_flag-stats.result (λ e. c.get_flag-stats.ensures.none (same ∙ e))
     (λ e. c.get_flag-stats.ensures.value (same ∙ e)) (λ e. c.get_flag-stats.ensures.other (same ∙ e))
     (reads_taken form 2 stats_rule (in_go_stats form c.in_ok-go_form.ensures) m parsed vp.Bool refl) in
-    let made = ap (λ (t : List ℕ). Go t c.unwrap_or-quanta.result c.get_flag-stats.result) c.in_ok-file.ensures
-    ∙ ap₂ (Go (text_under (codes "file") rows)) (quanta_is c).0 stats in
+    let made = ap (λ (o : Option (List ℕ)). o >>= λ file. Some (Go file (number_under (codes "quanta") 1000000 rows) (flag_under (codes "stats") rows)))
+    c.in_ok-file.ensures
+    ∙ ap₂ (λ (q : ℕ) (b : Bool). Some (Go c.in_ok-file.file q b)) (sym (quanta_is c).0) (sym stats) in
     asked _ _ _ go_in _ _ _ c.in_ok-go_form.ensures c.in_ok-matches.ensures.read c.in-Some.is made
 
 pub returns-clause-bounds : goal.returns-clause-bounds
 returns-clause-bounds c = ((quanta_is c).1, (quanta_is c).2)
+
+pub returns-clause-taken : goal.returns-clause-taken
+returns-clause-taken c = taken _ _ _ _ _ c.in_ok-go_form.ensures c.in_ok-matches.ensures.read c.in-Some.is

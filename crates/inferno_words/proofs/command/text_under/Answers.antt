@@ -1,5 +1,4 @@
-use Rattle.std.proofs.Common.{rules, ◌≡◌, ◌∙◌, sym, ap, ℕ, List, [], Option, Some}
-use Rattle.std.specs.Prelude.{unwrap_or}
+use Rattle.std.proofs.Common.{option_map, rules, ◌≡◌, ◌∙◌, sym, ap, Some}
 use Rattle.std.specs.Str.{chars}
 use Rattle.std.proofs.lemmas.Str.{chars_from_encodes}
 use Rattle.clap.specs.Words.{first_of, first_value, found_of, rows_of}
@@ -14,4 +13,4 @@ returns c =
     let read : c.in_ok-chars.chars.items ≡ chars word = search (rules, chars_from_encodes) in
     let given : first_value found name ≡ Some word = rw c.unwrap-word.ensures at (sym c.get_str.ensures) in
     let said : first_of name (rows_of found) ≡ Some word = sym (first_value-rows found name) ∙ given in
-    c.from_vec.ensures ∙ read ∙ sym (ap (λ (o : Option (List ℕ)). chars (unwrap_or o [])) said)
+    ap (option_map chars) said ∙ ap Some (sym (c.from_vec.ensures ∙ read))
