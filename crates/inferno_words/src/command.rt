@@ -12,7 +12,7 @@ use std::alloc::{AllocError, Global};
 const QUANTA: u32 = 1_000_000;
 
 /// What the words of the command line ask for.
-#[derive(Drop, Debug)]
+#[derive(Drop)]
 pub enum Command {
     /// `go FILE [-q N] [--stats]`: compile the file and run it, for at most so many quanta, and tell what it took.
     Go {

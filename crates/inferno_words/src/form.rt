@@ -44,9 +44,9 @@ fn out<'a>(alloc: Global) -> Arg<'a>
     ensures local { result.global ≡ false }
 {
     Arg::new(alloc, "out")
+        .required(true)
         .short('o')
         .action(ArgAction::Set)
-        .required(true)
 }
 
 /// The form `go FILE [-q N] [--stats]`.
