@@ -1,5 +1,6 @@
 -- The command that the words of the command line ask for.
-use Rattle.std.specs.Prelude.{List, [], ◌∷◌, ◌≤◌, ℕ, Bool, false, Option, Some, None, is_some, map, option_map, if◌then◌else◌, codes, encode_utf8_all}
+use Rattle.std.specs.Prelude.{List, [], ◌∷◌, ◌≤◌, ℕ, Bool, false, Option}
+use Rattle.std.specs.Prelude.{Some, None, is_some, map, option_map, if◌then◌else◌, codes, encode_utf8_all}
 use Rattle.std.specs.Option.{option_map_or}
 use Rattle.std.specs.Str.{bytes_eq, chars}
 use Rattle.std.specs.Str.Parse.{digits_value, without_leading_plus}

@@ -7,7 +7,7 @@
 //! command, a form that refuses the words, and a call for help or a version.
 //!
 //! `specs/Forms.antt` has the three forms, and `specs/Commands.antt` the command that words ask for: `command_of` answers that, and
-//! nothing else. The command stands on it.
+//! nothing else. The command will stand on it.
 //!
 //! Read `form`, then `command`.
 #![tactic(auto)]
