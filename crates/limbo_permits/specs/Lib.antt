@@ -1,0 +1,3 @@
+pub mod Permits
+pub mod Laws
+pub mod Counting
