@@ -1,0 +1,5 @@
+pub mod Finding
+pub mod Places
+pub mod Counting
+pub mod Inside
+pub mod Named

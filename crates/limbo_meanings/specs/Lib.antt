@@ -1,0 +1,4 @@
+pub mod Kinds
+pub mod Meanings
+pub mod Names
+pub mod Laws
