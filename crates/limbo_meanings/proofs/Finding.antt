@@ -58,12 +58,14 @@ told name (d ∷ ds) s = elim (told name ds (insert s d.0 d.1)) [
 -- the same of scopes of which the innermost declared nothing before
 pub answer : (name : List ℕ) (ds : List (List ℕ × Meaning)) (outer : List Scope)
     → (((x : Meaning) → IsAmong ds name x → ⊥) × (seen name (declared_all ds (entered outer)) ≡ seen name outer)
-        × (declared_here name (declared_all ds (entered outer)) ≡ None))
+    × (declared_here name (declared_all ds (entered outer)) ≡ None))
     ⊎ ((x : Meaning) × IsAmong ds name x × (seen name (declared_all ds (entered outer)) ≡ Some x))
 answer name ds outer = elim (told name ds empty) [
-  | inl t ↦ inl (t.0,
-      ap (λ ss. seen name ss) (all_inserted ds empty outer) ∙ ap (λ m. option_or m (seen name outer)) (t.1 ∙ get-empty (slice_cmp nat_cmp) name),
-      ap (λ ss. declared_here name ss) (all_inserted ds empty outer) ∙ t.1 ∙ get-empty (slice_cmp nat_cmp) name)
+  | inl t ↦ inl (
+    t.0,
+    ap (λ ss. seen name ss) (all_inserted ds empty outer) ∙ ap (λ m. option_or m (seen name outer)) (t.1 ∙ get-empty (slice_cmp nat_cmp) name),
+    ap (λ ss. declared_here name ss) (all_inserted ds empty outer) ∙ t.1 ∙ get-empty (slice_cmp nat_cmp) name,
+  )
   | inr t ↦ inr (t.0, t.1, ap (λ ss. seen name ss) (all_inserted ds empty outer) ∙ ap (λ m. option_or m (seen name outer)) t.2)
 ]
 

@@ -3,3 +3,5 @@ pub mod Places
 pub mod Counting
 pub mod Inside
 pub mod Named
+pub mod Lists
+pub mod Numbered

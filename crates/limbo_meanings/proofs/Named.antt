@@ -44,7 +44,7 @@ names_inside es xs a name x once many = (
     | inr t ↦ let f = from es xs (Some a) name t.0 t.1 in
         (f.0, f.1, f.2 ∙ ap (λ z. Some (Some z)) (same x t.0 (sym t.2 ∙ h)))
   ],
-  λ r. said es xs (Some a) name [] r.0 x once r.1 r.2
+  λ r. said es xs (Some a) name [] r.0 x once r.1 r.2,
 )
 
 module _ (es : List Entry) (xs : List (Option Meaning)) (m : ℕ) (name : List ℕ) (x : Meaning) (once : AreOnce es) (many : length xs ≡ length es) (top : TopHasMeanings xs es) where
@@ -70,5 +70,5 @@ module _ (es : List Entry) (xs : List (Option Meaning)) (m : ℕ) (name : List �
 pub names_outermost : NamesOutermost
 names_outermost es xs m name x once many top = (
   goes es xs m name x once many top,
-  λ r. comes es xs m name x once many top None r.0 r.1 refl r.2
+  λ r. comes es xs m name x once many top None r.0 r.1 refl r.2,
 )

@@ -1,4 +1,5 @@
 pub mod Kinds
 pub mod Meanings
 pub mod Names
+pub mod Listed
 pub mod Laws

@@ -73,3 +73,13 @@ pub fn kind_of(table: &Table, implemented: u32, entry: Entry) -> Option<Kind>
         entry.row.declared,
     )
 }
+
+/// Whether a declaration has a kind, if the implemented module has this number.
+pub fn is_of_kind(table: &Table, implemented: u32, kind: Kind, entry: Entry) -> bool
+    ensures { result ≡ kinds.has_kind (entries_of table.now.entries.items) implemented (kinds.place kind) (view_entry entry.entry) }
+{
+    match kind_of(table, implemented, entry) {
+        None => false,
+        Some(found) => found.place() == kind.place(),
+    }
+}

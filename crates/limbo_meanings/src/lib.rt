@@ -14,6 +14,7 @@ mod meanings;
 mod scopes;
 
 pub use kind::Kind;
+pub use kinds::{is_of_kind, kind_of};
 pub use laws::{names_of_a_scope, names_of_the_top_level};
 pub use meanings::find_meanings;
 pub use scopes::{inner_scopes, top_scopes};

@@ -1,0 +1,4 @@
+pub mod Forms
+pub mod Telling
+pub mod Places
+pub mod Numbers
