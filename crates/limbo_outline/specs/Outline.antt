@@ -1,5 +1,5 @@
 -- What is told of the declarations to which names lead (Limbo Language Reference, declarations and scope).
-use Rattle.std.specs.Prelude.{◌≡◌, ◌≢◌, ℕ, List, Option, None, Some, take, slice_get}
+use Rattle.std.specs.Prelude.{◌≡◌, ℕ, List, Option, None, Some, take, slice_get}
 use Rattle.limbo_tree.specs.Types as tree
 use Rattle.limbo_tree.specs.Exprs.{Expr}
 use Rattle.limbo_tree.specs.Decls.{FnType}
@@ -89,11 +89,15 @@ GlobalsTo es m n xs = ListedTo es m kind.Global (IsGlobal es m) (take n es) xs
 abbrev pub GlobalsAre : List Entry → (m : ℕ) → List Var → Type 0
 GlobalsAre es m xs = ListedTo es m kind.Global (IsGlobal es m) es xs
 
+-- what is known of the declaration of a number
+abbrev pub known_at : List (Option source.Constant) → ℕ → Option source.Constant
+known_at values k = elim (slice_get values k) [ None ↦ None | Some known ↦ known ]
+
 -- These are known of what initial values come to.
 abbrev pub AreInitial : List Entry → (m : ℕ) → List (Option source.Constant) → Type 0
 AreInitial es m values =
     (k : ℕ) (e : Entry) (expr : Expr) (c : source.Constant) → IsEntry es k e → e.row.means ≡ rows.Inferred expr
-    → slice_get values k ≡ Some (Some c) → Comes es m e.within None expr c
+    → known_at values k ≡ Some c → Comes es m e.within None expr c
 
 -- The variable of this number is declared by a value of which nothing is known.
 pub record HasNoType (es : List Entry) (values : List (Option source.Constant)) (k : ℕ) : Type 0 where
@@ -101,7 +105,7 @@ pub record HasNoType (es : List Entry) (values : List (Option source.Constant)) 
   pub expr : Expr
   pub there : IsEntry es k entry
   pub is : entry.row.means ≡ rows.Inferred expr
-  pub unknown : (c : source.Constant) → slice_get values k ≢ Some (Some c)
+  pub unknown : known_at values k ≡ None
 
 -- ---- functions
 

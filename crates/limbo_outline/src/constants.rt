@@ -1,11 +1,11 @@
 //! The constants of a source.
 
-ghost use Rattle.std.specs.Prelude.{◌≡◌, ◌<◌, ◌+◌, length, map, IfOk, OnOk};
+ghost use Rattle.std.specs.Prelude.{◌≡◌, ◌<◌, ◌+◌, length, map, option_map, IfOk, OnOk};
 ghost use Rattle.limbo_entries.specs.View.{entries_of};
 ghost use Rattle.limbo_types.specs.View.{view_ty};
 ghost use Rattle.limbo_context.specs.View.{view_valued};
 ghost use Rattle.limbo_constant_values.specs.Valuing.{AreValues};
-ghost use Rattle.limbo_outline.specs.Outline.{type_of_constant, value_of_constant, valued, ConstantsTo, ConstantsAre};
+ghost use Rattle.limbo_outline.specs.Outline.{type_of_constant, value_of_constant, valued, known_at, ConstantsTo, ConstantsAre};
 
 use limbo_constants::Constant;
 use limbo_context::Valued;
@@ -48,6 +48,19 @@ fn with_type(constant: &Constant) -> Result<Valued, AllocError>
     })
 }
 
+/// What is known of the declaration of a number.
+pub(crate) fn known(values: &[Option<Constant>], number: u32) -> Option<&Constant>
+    ensures { option_map (λ c. c.now) result ≡ known_at values.now number }
+{
+    match values.get(number as usize) {
+        None => None,
+        Some(value) => match value {
+            None => None,
+            Some(constant) => Some(constant),
+        },
+    }
+}
+
 // Adds a declaration, if it is a constant.
 fn push_constant(
     table: &Table,
@@ -61,12 +74,13 @@ fn push_constant(
     ensures { OnOk result (ConstantsTo (entries_of table.now.entries.items) implemented number (map view_valued constants.old.items)
         → ConstantsTo (entries_of table.now.entries.items) implemented (number + 1) (map view_valued constants.new.items)) }
 {
-    match values.get(number as usize) {
-        Some(Some(constant)) => {
-            constants.push(with_type(constant)?)?;
+    match known(values, number) {
+        None => Ok(()),
+        Some(constant) => {
+            let told = with_type(constant)?;
+            constants.push(told)?;
             Ok(())
         }
-        _ => Ok(()),
     }
 }
 

@@ -17,16 +17,16 @@ use std::alloc::{AllocError, Global};
 // What is told of an exception.
 fn exception(
     alloc: Global,
-    module: &Text,
+    module_name: &Text,
     name: &Text,
     values: &[Ty],
 ) -> Result<TException, AllocError>
-    ensures module { IfOk result (λ x. x.module ≡ module.now) }
+    ensures of_module { IfOk result (λ x. x.module ≡ module_name.now) }
     ensures name { IfOk result (λ x. x.name ≡ name.now) }
     ensures values { IfOk result (λ x. map view_ty x.values.items ≡ map view_ty values.now) }
 {
     Ok(TException {
-        module: module.clone()?,
+        module: module_name.clone()?,
         name: name.clone()?,
         values: copy_all(alloc, values)?,
     })
@@ -36,7 +36,7 @@ fn exception(
 fn push_exception(
     alloc: Global,
     table: &Table,
-    module: &Text,
+    module_name: &Text,
     headings: &[Heading],
     number: u32,
     exceptions: &mut Vec<TException>,
@@ -44,13 +44,13 @@ fn push_exception(
     requires there { number < length table.now.entries.items }
     requires many { length headings.now ≡ length table.now.entries.items }
     ensures { OnOk result ((m : ℕ) → AreHeaded (entries_of table.now.entries.items) m headings.now
-        → ExceptionsTo (entries_of table.now.entries.items) m module.now number (map view_exception exceptions.old.items)
-        → ExceptionsTo (entries_of table.now.entries.items) m module.now (number + 1) (map view_exception exceptions.new.items)) }
+        → ExceptionsTo (entries_of table.now.entries.items) m module_name.now number (map view_exception exceptions.old.items)
+        → ExceptionsTo (entries_of table.now.entries.items) m module_name.now (number + 1) (map view_exception exceptions.new.items)) }
 {
     match &headings[number as usize] {
         Heading::Exception(values) => {
             let entry = table.entries[number as usize];
-            let exception = exception(alloc, module, &entry.row.name.text, values)?;
+            let exception = exception(alloc, module_name, &entry.row.name.text, values)?;
             exceptions.push(exception)?;
             Ok(())
         }
@@ -65,16 +65,16 @@ fn push_exception(
 pub fn list_exceptions(
     alloc: Global,
     table: &Table,
-    module: &Text,
+    module_name: &Text,
     headings: &[Heading],
 ) -> Result<Vec<TException>, AllocError>
     requires many { length headings.now ≡ length table.now.entries.items }
     ensures { IfOk result (λ all. (m : ℕ) → AreHeaded (entries_of table.now.entries.items) m headings.now
-        → ExceptionsAre (entries_of table.now.entries.items) m module.now (map view_exception all.items)) }
+        → ExceptionsAre (entries_of table.now.entries.items) m module_name.now (map view_exception all.items)) }
 {
     let mut exceptions = Vec::new(alloc);
     for number in 0..table.entries.len() as u32 {
-        push_exception(alloc, table, module, headings, number, &mut exceptions)?;
+        push_exception(alloc, table, module_name, headings, number, &mut exceptions)?;
     }
     Ok(exceptions)
 }

@@ -17,7 +17,12 @@ use limbo_types::copy_fn;
 use std::alloc::{AllocError, Global};
 
 // The adt in which a function stands, by what the names of the declarations mean.
-fn owner(table: &Table, implemented: u32, meanings: &[Option<Meaning>], scope: Option<u32>) -> Option<u32>
+fn owner(
+    table: &Table,
+    implemented: u32,
+    meanings: &[Option<Meaning>],
+    scope: Option<u32>,
+) -> Option<u32>
     requires many { length meanings.now ≡ length table.now.entries.items }
     requires meanings { AreMeanings (entries_of table.now.entries.items) implemented meanings.now }
     ensures { result ≡ owner_of (entries_of table.now.entries.items) implemented scope }
@@ -68,8 +73,9 @@ fn push_function(
     }
     match &headings[number as usize] {
         Heading::Function(header) => {
-            let owner = owner(table, implemented, meanings, entry.within);
-            functions.push(callee(alloc, header, owner)?)?;
+            let of_adt = owner(table, implemented, meanings, entry.within);
+            let told = callee(alloc, header, of_adt)?;
+            functions.push(told)?;
             Ok(())
         }
         _ => Err(AllocError),
@@ -95,7 +101,15 @@ pub fn list_functions(
 {
     let mut functions = Vec::new(alloc);
     for number in 0..table.entries.len() as u32 {
-        push_function(alloc, table, implemented, meanings, headings, number, &mut functions)?;
+        push_function(
+            alloc,
+            table,
+            implemented,
+            meanings,
+            headings,
+            number,
+            &mut functions,
+        )?;
     }
     Ok(functions)
 }

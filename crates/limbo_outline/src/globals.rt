@@ -12,7 +12,7 @@ ghost use Rattle.limbo_meanings.specs.Kinds.{place, has_kind};
 ghost use Rattle.limbo_outline.specs.Outline.{GlobalsTo, GlobalsAre, HasType, AreInitial, HasNoType};
 ghost use Rattle.limbo_outline.specs.declared.fault.OutlineFault.TheVariants.{NoType};
 
-use crate::constants::type_of;
+use crate::constants::{known, type_of};
 use crate::fault::OutlineFault;
 use inf_text::Text;
 use limbo_constants::Constant;
@@ -47,9 +47,12 @@ fn variable_type(
             let ty = copy(alloc, ty)?;
             Ok(Box::new(alloc, ty)?)
         }
-        _ => match initials.get(number as usize) {
-            Some(Some(constant)) => Ok(Box::new(alloc, type_of(constant))?),
-            _ => Err(OutlineFault::NoType { number }),
+        _ => match known(initials, number) {
+            None => Err(OutlineFault::NoType { number }),
+            Some(constant) => {
+                let ty = type_of(constant);
+                Ok(Box::new(alloc, ty)?)
+            }
         },
     }
 }
@@ -89,7 +92,8 @@ fn push_global(
     }
     match variable_type(alloc, table, implemented, headings, initials, number) {
         Ok(ty) => {
-            globals.push(variable(&entry.row.name.text, ty)?)?;
+            let made = variable(&entry.row.name.text, ty)?;
+            globals.push(made)?;
             Ok(())
         }
         Err(fault) => Err(fault),

@@ -26,10 +26,12 @@ fn push_type(
     ensures { OnOk result (TypesTo (entries_in names.now.naming.now) names.now.naming.now.implemented number (map view_ty types.old.items)
         → TypesTo (entries_in names.now.naming.now) names.now.naming.now.implemented (number + 1) (map view_ty types.new.items)) }
 {
-    match table.entries[number as usize].row.declared {
+    let entry = table.entries[number as usize];
+    match entry.row.declared {
         Declared::Alias(_of) => match names.declared(number) {
             Some(ty) => {
-                types.push(copy(alloc, ty)?)?;
+                let copied = copy(alloc, ty)?;
+                types.push(copied)?;
                 Ok(())
             }
             None => Err(AllocError),

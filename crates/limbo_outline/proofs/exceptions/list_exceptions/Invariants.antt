@@ -8,4 +8,4 @@ use Rattle.limbo_outline.proofs.exceptions.list_exceptions.Given as goal
 abbrev pub invariant-loop-number : goal.invariant-loop-number
 invariant-loop-number l =
     (m : ℕ) → AreHeaded (entries_of l.table.entries.items) m l.headings
-    → ExceptionsTo (entries_of l.table.entries.items) m l.module l.number (map view_exception l.exceptions.items)
+    → ExceptionsTo (entries_of l.table.entries.items) m l.module_name l.number (map view_exception l.exceptions.items)

@@ -1,0 +1,37 @@
+use Rattle.std.proofs.Common.{◌<◌, ◌≡◌, length, map, sym, ap, subst, ◌∙◌, arith}
+use Rattle.std.proofs.lemmas.List.{map-append}
+use Rattle.limbo_entries.specs.View.{entries_of, view_entry}
+use Rattle.limbo_headers.specs.declared.header.Heading.{Heading}
+use Rattle.limbo_headers.specs.Headers.{Heads}
+use Rattle.limbo_meanings.proofs.Places.{entry_at}
+use Rattle.limbo_outline.proofs.Places.{entry_there, item_at, one_entry}
+use Rattle.limbo_context.specs.View.{view_callee}
+use Rattle.limbo_outline.proofs.Telling.{function_yes, function_no}
+use Rattle.limbo_outline.proofs.functions.push_function.Goals as goal
+
+pub returns-then-not-is_of_kind : goal.returns-then-not-is_of_kind
+returns-then-not-is_of_kind c = λ listed.
+    let all = c.args.table.now.entries.items in
+    let k = c.args.number in
+    let x = c.index-entry.result.now in
+    let at = entry_at all k x c.requires.there c.index-entry.ensures in
+    function_no (entries_of all) c.args.implemented k (view_entry x) (map view_callee c.args.functions.now.items) at (sym c.if-not-is_of_kind.ensures) listed
+
+pub returns-in_ok-push-in-Function : goal.returns-in_ok-push-in-Function
+returns-in_ok-push-in-Function c = λ listed.
+    let all = c.args.table.now.entries.items in
+    let k = c.args.number in
+    let x = c.index-entry.result.now in
+    let at = entry_at all k x c.requires.there c.index-entry.ensures in
+    let h = c.index-headings-number.result in
+    let a = c.requires.there in
+    let b = c.requires.many in
+    let l : k < length c.args.headings.now = omega arith in
+    let w = c.requires.headed k (view_entry x) h at (item_at c.args.headings.now k h l c.index-headings-number.is) in
+    let told = c.in_ok-told-in-Function.told in
+    let e = c.in_ok-told-in-Function.ensures in
+    rw c.in_ok-push-in-Function.ensures.items
+    (rw map-append
+    (function_yes (entries_of all) c.args.implemented k (view_entry x) c.in-Function.header (map view_callee c.args.functions.now.items) (view_callee told)
+    (subst (λ (z : Heading). Heads (entries_of all) c.args.implemented (view_entry x) z) c.in-Function.is w) at (sym c.if-not-is_of_kind.ensures)
+    (rw c.deref.ensures at e.header) (rw c.deref.ensures at e.takes_self) (e.owner ∙ c.owner-of_adt.ensures) listed))
