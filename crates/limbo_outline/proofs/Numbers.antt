@@ -1,5 +1,17 @@
 -- A name's number leads to what is told of its declaration.
-use Rattle.std.proofs.Common.{◌≡◌, ℕ, List, Some, take, slice_get, ap, subst, ◌∙◌, sym}
+use Rattle.std.proofs.Common.{◌≡◌, ◌+◌, ◌==◌, ◌∷◌, [], ℕ, Bool, true, false, cond, if◌then◌else◌, List, Some, None, take, slice_get, count_by, refl, ap, subst, ◌∙◌, sym}
+use Rattle.std.specs.List.{sum_by}
+use Rattle.std.proofs.lemmas.List.Sums.{sum_by-cons}
+use Rattle.limbo_declarations.specs.Rows as rows
+use Rattle.limbo_declarations.specs.Rows.{Declared}
+use Rattle.limbo_naming.specs.Naming.{is_adt, is_module}
+use Rattle.limbo_type_names.specs.Numbers.{number_of}
+use Rattle.limbo_type_names.specs.Counts.{is_adt_entry, is_module_entry}
+use Rattle.limbo_source_adts.proofs.Counts.{adt_counts, module_counts}
+use Rattle.limbo_meanings.specs.Kinds.{kind_in, is_at, is_own, is_outermost}
+use Rattle.limbo_meanings.specs.Names.{scope_inside}
+use Rattle.limbo_outline.specs.Outline.{IsScopeOf}
+use Rattle.limbo_outline.specs.Laws.{ScopeOfNumber, AdtsByNumber, ModulesByNumber}
 use Rattle.limbo_types.specs.Types.{Ty}
 use Rattle.limbo_typed.specs.Typed.{Var, Exception}
 use Rattle.limbo_context.specs.Context.{Valued, Callee}
@@ -36,3 +48,49 @@ function_of es m k n e xs are at h = there kind.Function es m k n e (IsFunction 
 
 pub exception_of : ExceptionOfNumber
 exception_of es m k n e name xs are at h = there kind.Exception es m k n e (IsException es m name) xs are at h
+
+pub scope_of : ScopeOfNumber
+scope_of es m k n e l means xs are at h =
+    let r = there l es m k n e (IsScopeOf means es) xs are at h in
+    r.1 ∙ ap Some r.2
+
+-- ---- adts and module types
+
+abbrev one_if : (Entry → Bool) → Entry → ℕ
+one_if p x = cond (p x) 1 0
+
+-- by tests that are alike
+count_same : (p q : Entry → Bool) → ((x : Entry) → p x ≡ q x) → (xs : List Entry) → count_by p xs ≡ count_by q xs
+count_same p q f [] = refl
+count_same p q f (x ∷ xs) =
+    let h : sum_by (one_if p) xs ≡ sum_by (one_if q) xs = count_same p q f xs in
+    let e : one_if p x ≡ one_if q x = ap (λ (b : Bool). let r : ℕ = cond b 1 0 in r) (f x) in
+    sum_by-cons (one_if p) x xs ∙ ap (λ k. k + sum_by (one_if p) xs) e ∙ ap (λ k. one_if q x + k) h ∙ sym (sum_by-cons (one_if q) x xs)
+
+off : (p : ℕ) (k : Kind) (b : Bool) → (place k == p) ≡ false → is_at p (if b then Some k else None) ≡ false
+off p k true f = f
+off p k false f = refl
+
+adt_alike : (own out : Bool) (d : Declared) → is_at 3 (kind_in own out d) ≡ is_adt d
+adt_alike own out (rows.Variable t e) = off 3 kind.Global out refl
+adt_alike own out (rows.Inferred e) = off 3 kind.Global out refl
+adt_alike own out (rows.Function f) = off 3 kind.Function own refl
+adt_alike own out _ = refl
+
+module_alike : (own out : Bool) (d : Declared) → is_at 4 (kind_in own out d) ≡ is_module d
+module_alike own out (rows.Variable t e) = off 4 kind.Global out refl
+module_alike own out (rows.Inferred e) = off 4 kind.Global out refl
+module_alike own out (rows.Function f) = off 4 kind.Function own refl
+module_alike own out _ = refl
+
+pub adts_by : AdtsByNumber
+adts_by es m k n e h =
+    let p = number_is es m k e kind.Adt n h in
+    let same = λ (x : Entry). adt_alike (is_own es m x.within) (is_outermost m x.within) x.row.means in
+    sym p.1 ∙ count_same (has_kind es m 3) is_adt_entry same (take k es) ∙ sym (adt_counts es k e (sym (same e) ∙ p.0))
+
+pub modules_by : ModulesByNumber
+modules_by es m k n e h =
+    let p = number_is es m k e kind.Module n h in
+    let same = λ (x : Entry). module_alike (is_own es m x.within) (is_outermost m x.within) x.row.means in
+    sym p.1 ∙ count_same (has_kind es m 4) is_module_entry same (take k es) ∙ sym (module_counts es k e (sym (same e) ∙ p.0))

@@ -26,6 +26,8 @@ use Rattle.limbo_meanings.specs.declared.kind.Kind.TheVariants as kind
 use Rattle.limbo_meanings.specs.Kinds.{place, has_kind}
 use Rattle.limbo_meanings.specs.Meanings.{meaning_of}
 use Rattle.limbo_meanings.specs.Listed.{Listed}
+use Rattle.limbo_meanings.specs.Names.{scope_inside}
+use Rattle.limbo_scope.specs.Scopes.{Scope}
 
 -- what is told of those among these declarations that are of a kind
 abbrev pub ListedTo : {A : Type 0} → (all : List Entry) → (m : ℕ) → Kind → (ℕ → Entry → A → Type 0) → List Entry → List A → Type 0
@@ -146,3 +148,15 @@ ExceptionsTo es m module_name n xs = ListedTo es m kind.Exception (IsException e
 
 abbrev pub ExceptionsAre : List Entry → (m : ℕ) → (module_name : List ℕ) → List Exception → Type 0
 ExceptionsAre es m module_name xs = ListedTo es m kind.Exception (IsException es m module_name) es xs
+
+-- ---- scopes of adts, and of module types
+
+-- The scope of what stands inside the declaration of this number, by what the names of all declarations mean.
+abbrev pub IsScopeOf : List (Option Meaning) → List Entry → ℕ → Entry → List Scope → Type 0
+IsScopeOf means es k e row = row ≡ scope_inside k means es
+
+abbrev pub ScopesTo : List Entry → (m : ℕ) → Kind → List (Option Meaning) → (n : ℕ) → List (List Scope) → Type 0
+ScopesTo es m k means n rows = ListedTo es m k (IsScopeOf means es) (take n es) rows
+
+abbrev pub ScopesAre : List Entry → (m : ℕ) → Kind → List (Option Meaning) → List (List Scope) → Type 0
+ScopesAre es m k means rows = ListedTo es m k (IsScopeOf means es) es rows
