@@ -1,5 +1,5 @@
 -- What is made of typed parts has a node of its own, and beside it the nodes of the parts alone.
-use Rattle.std.proofs.Common.{◌≡◌, ℕ, Bool, true, false, List, [], ◌∷◌, Option, None, Some, sym, subst}
+use Rattle.std.proofs.Common.{ℕ, Bool, true, false, List, Option, None, Some, sym, subst}
 use Rattle.limbo_types.specs.Types.{Ty, FnTy, Chars, Adt, RefAdt}
 use Rattle.limbo_layout.specs.Adts.{Def}
 use Rattle.limbo_tree.specs.declared.operators.AssignOp.{AssignOp}
@@ -10,16 +10,13 @@ use Rattle.limbo_tree.specs.declared.operators.UnaryOp.TheVariants as before
 use Rattle.limbo_tree.specs.declared.operators.PostfixOp.{PostfixOp}
 use Rattle.limbo_tree.specs.declared.operators.PostfixOp.TheVariants as behind
 use Rattle.limbo_tree.specs.Exprs as tree
-use Rattle.limbo_typed.specs.declared.operation.Operation.TheVariants as op
 use Rattle.limbo_typed.specs.declared.operation.Given.{Given}
 use Rattle.limbo_typed.specs.declared.operation.Given.TheVariants as given
 use Rattle.limbo_typed.specs.declared.print.Printed.{Printed}
-use Rattle.limbo_typed.specs.declared.print.Printed.TheVariants as printed
 use Rattle.limbo_typed.specs.Typed as typed
 use Rattle.limbo_typed.specs.Typed.{Expr, Of, Node, Exprs, NoExprs, MoreExprs, Optional, Absent, Present, Items, Read, Pattern}
-use Rattle.limbo_typed.specs.Typed.{Number, OpenNil, Apply, Filled, Channel, Call, CallThrough}
+use Rattle.limbo_typed.specs.Typed.{Number}
 use Rattle.limbo_typed.specs.Sound.{type_of}
-use Rattle.limbo_standing.specs.Standing.{Settles}
 use Rattle.limbo_operators.specs.Rows.{Row}
 use Rattle.limbo_prefixes.specs.Rows.{OneRow}
 use Rattle.limbo_combining.specs.Combining as combining
@@ -41,12 +38,12 @@ use Rattle.limbo_channels.specs.Channels.{Sends, Receives}
 use Rattle.limbo_channels.specs.Loading as loading
 use Rattle.limbo_channels.specs.Loading.{Loads}
 use Rattle.limbo_literals.specs.Literals as literals
-use Rattle.limbo_literals.specs.Literals.{Tuples, Lists, Fills, Sizes, Makes}
+use Rattle.limbo_literals.specs.Literals.{Lists, Fills, Sizes, Makes}
 use Rattle.limbo_calls.specs.Calls.{Calls, CallsThrough, Constructs}
 use Rattle.limbo_calls.specs.Prints as prints
 use Rattle.limbo_calls.specs.Prints.{Output, PrintsTo, Prints}
 use Rattle.limbo_things.specs.Things.{Thing, AType, AVariant, AFunction, AMethod, AMember}
-use Rattle.limbo_applying.specs.Applying.{with_object, CallsFunction, CallsMember, Applies}
+use Rattle.limbo_applying.specs.Applying.{with_object, CallsFunction, Applies}
 use Rattle.limbo_permits.specs.Permits.{node_of}
 use Rattle.limbo_context.specs.Context.{Context}
 use Rattle.limbo_value_forms.specs.Forms.{Before, Gives, AssignForms, Forms}
@@ -206,9 +203,9 @@ module _ (P : Node → Type 0) (plain : (n : Node) → StoresNothing n → P n) 
   pub prints_one : (fd : Option ℕ) (o : Output) (e : Expr) (text : List ℕ) (es : Exprs) (z : Expr) → Prints fd o e text es z
       → InOutput o → At e → InEach P es → Within z
   prints_one fd o e text es z m h i k = inner_same P z _ m.gives (
-      i,
-      in_file o fd m.which m.file m.to h,
-      settled_each P plain _ es m.values m.formats.arguments k,
+    i,
+    in_file o fd m.which m.file m.to h,
+    settled_each P plain _ es m.values m.formats.arguments k,
   )
 
   -- ---- the forms whose parts are values

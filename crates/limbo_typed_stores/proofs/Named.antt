@@ -8,7 +8,7 @@ use Rattle.limbo_layout.specs.Adts.{Def}
 use Rattle.limbo_typed.specs.declared.print.Printed.{Printed}
 use Rattle.limbo_typed.specs.declared.stmt.Constant.{Constant}
 use Rattle.limbo_typed.specs.declared.stmt.Constant.TheVariants as constant
-use Rattle.limbo_typed.specs.Typed.{Expr, Of, Node, Optional, Absent, Present, PlaceNode, Local, Global, Interface, Signature, Var}
+use Rattle.limbo_typed.specs.Typed.{Expr, Of, Node, Optional, Absent, Present, Local, Global, Interface, Signature, Var}
 use Rattle.limbo_typed.specs.Typed.{Number, Chars, Read, Part, At, Field, Target}
 use Rattle.limbo_scope.specs.declared.meaning.Meaning.{Meaning}
 use Rattle.limbo_scope.specs.declared.meaning.Meaning.TheVariants as meaning
@@ -21,10 +21,10 @@ use Rattle.limbo_places.specs.Targets as targets
 use Rattle.limbo_places.specs.Targets.{Selects}
 use Rattle.limbo_things.specs.Things as things
 use Rattle.limbo_things.specs.Things.{Thing, AValue, AType, AVariant, AMember, APrint, NameIs, MemberIs, PartIs, PartOfValue, PartOfAdt}
-use Rattle.limbo_things.specs.Things.{constant_at, type_at, declared, variable, printed_at, is_number, print_at, function_among, function_at}
-use Rattle.limbo_things.specs.Things.{function_through, export, exported, through_of, export_from, imported, imported_at, meant}
+use Rattle.limbo_things.specs.Things.{declared, variable, printed_at, is_number, print_at, function_among, function_at}
+use Rattle.limbo_things.specs.Things.{function_through, export, exported, through_of, export_from, imported, meant}
 use Rattle.limbo_things.specs.Things.{adt_member, member_at, constant_value}
-use Rattle.limbo_typed_stores.specs.Nodes.{AllNodes, InNode, InOptional, InThing}
+use Rattle.limbo_typed_stores.specs.Nodes.{AllNodes, InOptional, InThing}
 use Rattle.limbo_typed_stores.proofs.Settled.{StoresNothing}
 
 module _ (P : Node → Type 0) (plain : (n : Node) → StoresNothing n → P n) where

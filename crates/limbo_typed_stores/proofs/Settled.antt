@@ -1,9 +1,9 @@
 -- What holds of nodes that store nothing stays true of each node in a value where a type is asked for.
-use Rattle.std.proofs.Common.{◌≡◌, ℕ, ℤ, List, [], ◌∷◌, subst, sym}
-use Rattle.limbo_types.specs.Types.{Ty, Tys, ListOf}
+use Rattle.std.proofs.Common.{◌≡◌, List, [], ◌∷◌, subst, sym}
+use Rattle.limbo_types.specs.Types.{Ty, ListOf}
 use Rattle.limbo_layout.specs.Adts.{listed}
 use Rattle.limbo_typed.specs.declared.operation.Operation.TheVariants as op
-use Rattle.limbo_typed.specs.Typed.{Expr, Of, Node, Exprs, NoExprs, MoreExprs, Optional, Absent, Present, Items, NoItems, MoreItems}
+use Rattle.limbo_typed.specs.Typed.{Expr, Of, Node, Exprs, Optional, Items}
 use Rattle.limbo_typed.specs.Typed.{Nil, Apply, Filled, Assign, Update, Step, Copy, Send}
 use Rattle.limbo_standing.specs.Standing as standing
 use Rattle.limbo_standing.specs.Standing.{Settles, SettlesForm, SettleEach, SettleAll, SettleItems, SettleRest}

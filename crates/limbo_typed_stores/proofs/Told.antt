@@ -1,9 +1,8 @@
 -- What is allowed never comes to hold itself, and makes no ring.
-use Rattle.std.proofs.Common.{◌≡◌, ℕ, List, refl}
+use Rattle.std.proofs.Common.{List, refl}
 use Rattle.limbo_types.specs.Types.{Ty}
 use Rattle.limbo_layout.specs.Adts.{Def}
-use Rattle.limbo_typed.specs.Typed.{Node, Copy, Send}
-use Rattle.limbo_typed.specs.Sound.{type_at}
+use Rattle.limbo_typed.specs.Typed.{Node}
 use Rattle.limbo_refusals.specs.Refusals.{CyclicStore}
 use Rattle.limbo_adts.specs.Reaches.{Reaches}
 use Rattle.limbo_stores.specs.Stores as stores

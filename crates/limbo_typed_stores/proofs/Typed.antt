@@ -1,5 +1,5 @@
 -- What holds of each permitted expression's node, and of nodes that store nothing, holds of each node in a typed tree.
-use Rattle.std.proofs.Common.{◌≡◌, ℕ, ℤ, ◌+ℤ◌, pos, List, None, sym, subst}
+use Rattle.std.proofs.Common.{ℤ, ◌+ℤ◌, pos, List, sym, subst}
 use Rattle.limbo_types.specs.Types.{Ty, Tys}
 use Rattle.limbo_layout.specs.Adts.{Def}
 use Rattle.limbo_tree.specs.Exprs as tree
@@ -13,7 +13,6 @@ use Rattle.limbo_refusals.specs.Refusals.{Refusal}
 use Rattle.limbo_stores.specs.Stores as stores
 use Rattle.limbo_stores.specs.Stores.{StoresInto, Closes, RefusesStore}
 use Rattle.limbo_calls.specs.Prints.{Output}
-use Rattle.limbo_calls.specs.Prints as output
 use Rattle.limbo_things.specs.Things.{Thing, AValue, APrint}
 use Rattle.limbo_permits.specs.Permits.{node_of}
 use Rattle.limbo_context.specs.Context.{Context, Body}
