@@ -7,3 +7,4 @@ pub mod Valuing
 pub mod Filling
 pub mod Nils
 pub mod Starting
+pub mod Initials

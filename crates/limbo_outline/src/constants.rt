@@ -27,8 +27,11 @@ pub(crate) fn type_of(constant: &Constant) -> Ty
     }
 }
 
-// A constant as the typed tree has it.
-fn value_of(constant: &Constant) -> Result<limbo_typed::Constant, AllocError>
+/// A constant as the typed tree has it.
+///
+/// # Errors
+/// Want of memory.
+pub fn value_of(constant: &Constant) -> Result<limbo_typed::Constant, AllocError>
     ensures { IfOk result (λ v. v ≡ value_of_constant constant.now) }
 {
     match constant {
