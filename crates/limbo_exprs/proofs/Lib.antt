@@ -1,0 +1,5 @@
+mod Loops
+mod Outcomes
+mod Rules
+mod Steps
+mod Tested
