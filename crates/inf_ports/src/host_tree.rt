@@ -1,17 +1,17 @@
-ghost use Rattle.std.specs.Prelude.{◌≡◌, ◌≤◌, ℕ, IfOk, IsErrOf};
-ghost use Rattle.inf_ports.specs.Outside.{Told, Has, Lacks, Rose};
+ghost use Rattle.std.specs.Prelude.{◌≡◌, ◌≤◌, ℕ, Some, IfOk, OnOk, OnErr, IsErrOf};
+ghost use Rattle.inf_ports.specs.Outside.{Told, Has, Lacks, Stands, AnythingStands, Rose};
 
 use inf_text::Text;
 use std::alloc::{AllocError, Global};
 
-/// Why a file was not read.
+/// Why a file was not read or not written.
 #[derive(Clone, Copy, PartialEq, Eq, Debug)]
 pub enum HostFault {
     /// Want of memory.
     NoMemory,
-    /// No file is at the path.
+    /// No file is at the path. Only a read answers it.
     NoFile,
-    /// The read failed, and the tree's count of faults rose.
+    /// The read or the write failed, and the tree's count of faults rose.
     Failed,
 }
 
@@ -48,4 +48,15 @@ pub trait HostTree {
         ensures failed { IsErrOf result HostFault.Failed → Rose (faults self.old) (faults self.new) }
         ensures later { faults self.old ≤ faults self.new }
         ensures kept { told self.new ≡ told self.old };
+
+    /// Makes these the bytes of the file at the path, whether a file is there or not.
+    ///
+    /// # Errors
+    /// `Failed`, for which the count rises; `NoMemory`. Then any bytes stand at the path, or no file.
+    fn write_file(&mut self, alloc: Global, path: &Text, bytes: &[u8]) -> Result<(), HostFault>
+        ensures written { OnOk result (Stands (told self.old) (told self.new) path.now (Some bytes.now)) }
+        ensures unwritten { OnErr result (AnythingStands (told self.old) (told self.new) path.now) }
+        ensures unsought { ¬ IsErrOf result HostFault.NoFile }
+        ensures failed { IsErrOf result HostFault.Failed → Rose (faults self.old) (faults self.new) }
+        ensures later { faults self.old ≤ faults self.new };
 }

@@ -17,8 +17,8 @@ impl MemTree {
     ghost use Rattle.std.specs.Prelude.{Some};
     ghost use Rattle.inf_ports.specs.Memory.{IsFresh};
 
-    /// A tree with these files; of two with one path the first counts. Reads whose numbers are listed fail,
-    /// counted from 0. It takes no memory.
+    /// A tree with these files; of two with one path the first counts. Reads and writes whose numbers are listed fail,
+    /// counted together from 0. It takes no memory.
     pub fn new(files: Vec<(Text, Seq<u8>)>, failing: Vec<u64>) -> MemTree
         ensures told { ⟦<MemTree as HostTree>⟧.told result ≡ Some (bytes_at files.items) }
         ensures unused { ⟦<MemTree as HostTree>⟧.faults result ≡ 0 }
@@ -42,7 +42,7 @@ fn find<'a>(files: &'a Vec<(Text, Seq<u8>)>, path: &Text) -> Option<&'a [u8]>
 }
 
 impl HostTree for MemTree {
-    ghost use Rattle.std.specs.Prelude.{Some, None, IfOk, IsErrOf, ◌↔◌, ◌≤◌, ◌⊎◌};
+    ghost use Rattle.std.specs.Prelude.{Some, None, IfOk, OnOk, OnErr, IsErrOf, ◌↔◌, ◌≤◌, ◌⊎◌, ◌∷◌};
     ghost use Rattle.inf_ports.specs.Outside.{Rose};
     ghost use Rattle.inf_ports.specs.Memory.{Called, FailsNext};
 
@@ -73,5 +73,30 @@ impl HostTree for MemTree {
             return Err(HostFault::NoFile);
         };
         Ok(Vec::from_slice(alloc, bytes)?)
+    }
+
+    // The trait's clauses at what this tree tells: the file stands before all others, of which one with its path counts no more. A call
+    // fails exactly where it is listed, and what is refused leaves the files as they were.
+    fn write_file(&mut self, alloc: Global, path: &Text, bytes: &[u8]) -> Result<(), HostFault>
+        ensures first { OnOk result (self.new.files.items ≡ (path.now, bytes.now) ∷ self.old.files.items) }
+        ensures refused { OnErr result (self.new.files.items ≡ self.old.files.items) }
+        ensures unsought { ¬ IsErrOf result HostFault.NoFile }
+        ensures listed { IsErrOf result HostFault.Failed ↔ FailsNext self.old.plan }
+        ensures failed { IsErrOf result HostFault.Failed → Rose self.old.plan.faults self.new.plan.faults }
+        ensures quiet { IsErrOf result HostFault.Failed ⊎ (self.new.plan.faults ≡ self.old.plan.faults) }
+        ensures later { self.old.plan.faults ≤ self.new.plan.faults }
+        ensures called { Called self.old.plan self.new.plan }
+    {
+        if self.plan.is_next_failing() {
+            self.plan.fault();
+            Err(HostFault::Failed)
+        } else {
+            let bytes = Seq::from_vec(Vec::from_slice(alloc, bytes)?);
+            let path = path.clone()?;
+            match self.files.insert(0, (path, bytes)) {
+                Ok(()) => Ok(()),
+                Err(_) => Err(HostFault::NoMemory),
+            }
+        }
     }
 }

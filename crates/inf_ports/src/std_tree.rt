@@ -28,8 +28,8 @@ impl<R: Files> StdTree<R> {
     }
 }
 
-/// Want of memory, or any other error of a read.
-fn read_fault(error: &Error) -> HostFault
+/// Want of memory, or any other error of a read or a write.
+fn fault_of(error: &Error) -> HostFault
     ensures memory { error_kind error.now ≡ ErrorKind.OutOfMemory → result ≡ HostFault.NoMemory }
     ensures failed { error_kind error.now ≢ ErrorKind.OutOfMemory → result ≡ HostFault.Failed }
 {
@@ -50,7 +50,7 @@ fn read_bounded<F: Read + Drop>(alloc: Global, file: F) -> Result<Vec<u8>, HostF
     match first.read_to_end(&mut bytes) {
         Ok(count) if count <= MOST_BYTES => Ok(bytes),
         Ok(_) => Err(HostFault::Failed),
-        Err(error) => Err(read_fault(&error)),
+        Err(error) => Err(fault_of(&error)),
     }
 }
 
@@ -70,8 +70,19 @@ fn read_from<R: Files>(rt: &R, alloc: Global, path: &Text) -> Result<Vec<u8>, Ho
         Ok(file) => read_bounded(alloc, file),
         Err(error) => match error.kind() {
             ErrorKind::NotFound => Err(HostFault::NoFile),
-            _ => Err(read_fault(&error)),
+            _ => Err(fault_of(&error)),
         },
+    }
+}
+
+/// Makes these the bytes of a file of the runtime.
+fn write_to<R: Files>(rt: &R, alloc: Global, path: &Text, bytes: &[u8]) -> Result<(), HostFault>
+    ensures { ¬ IsErrOf result HostFault.NoFile }
+{
+    let name = name_of(alloc, path)?;
+    match fs::write(rt, name.as_str(), bytes) {
+        Ok(()) => Ok(()),
+        Err(error) => Err(fault_of(&error)),
     }
 }
 
@@ -99,5 +110,19 @@ impl<R: Files> HostTree for StdTree<R> {
             self.faults = self.faults.saturating_add(1);
         }
         read
+    }
+
+    // The trait's clauses.
+    fn write_file(&mut self, alloc: Global, path: &Text, bytes: &[u8]) -> Result<(), HostFault>
+        ensures unsought { ¬ IsErrOf result HostFault.NoFile }
+        ensures failed { IsErrOf result HostFault.Failed → Rose self.old.faults self.new.faults }
+        ensures quiet { IsErrOf result HostFault.Failed ⊎ (self.new.faults ≡ self.old.faults) }
+        ensures later { self.old.faults ≤ self.new.faults }
+    {
+        let written = write_to(&self.rt, alloc, path, bytes);
+        if matches!(written, Err(HostFault::Failed)) {
+            self.faults = self.faults.saturating_add(1);
+        }
+        written
     }
 }

@@ -46,6 +46,49 @@ fn keeps_content_in_memory(rt: HostRuntime) -> Result<(), Fail> {
     Ok(())
 }
 
+/// Writes in memory: a file that is new, one in place of another, and a listed call, which changes nothing.
+#[test]
+fn writes_files_in_memory(rt: HostRuntime) -> Result<(), Fail> {
+    let (here, other) = (text(rt.alloc(), &['a'])?, text(rt.alloc(), &['b'])?);
+    let mut tree = MemTree::new(Vec::new(rt.alloc()), vec![in rt.alloc(); 4]?);
+    for (path, bytes, wanted, held, faults) in [
+        (&here, b"x".as_slice(), Ok(()), b"x".as_slice(), 0),
+        (&other, b"y".as_slice(), Ok(()), b"y".as_slice(), 0),
+        (
+            &here,
+            b"z".as_slice(),
+            Err(HostFault::Failed),
+            b"x".as_slice(),
+            1,
+        ),
+        (&here, b"".as_slice(), Ok(()), b"".as_slice(), 1),
+    ] {
+        assert_eq!(rt; tree.write_file(rt.alloc(), path, bytes), wanted);
+        let now = tree.read_file(rt.alloc(), path);
+        assert_eq!(rt; now?.as_slice(), held);
+        assert_eq!(rt; tree.faults(), faults);
+    }
+    Ok(())
+}
+
+/// A real file is written twice, the second time shorter; no folder can be written as a file.
+#[test]
+fn writes_real_files(rt: HostRuntime) -> Result<(), Fail> {
+    let mut tree = StdTree::new(&rt);
+    let path = text(rt.alloc(), &['w', '.', 't', 'm', 'p'])?;
+    for bytes in [b"several".as_slice(), b"few".as_slice()] {
+        assert_eq!(rt; tree.write_file(rt.alloc(), &path, bytes), Ok(()));
+        let now = tree.read_file(rt.alloc(), &path);
+        assert_eq!(rt; now?.as_slice(), bytes);
+    }
+    fs::remove_file(&rt, "w.tmp")?;
+    let folder = text(rt.alloc(), &['.'])?;
+    let written = tree.write_file(rt.alloc(), &folder, b"x");
+    assert_eq!(rt; written, Err(HostFault::Failed));
+    assert_eq!(rt; tree.faults(), 1);
+    Ok(())
+}
+
 /// A real file, a path without one, and a folder, which can't be read as a file.
 #[test]
 fn reads_real_files(rt: HostRuntime) -> Result<(), Fail> {
