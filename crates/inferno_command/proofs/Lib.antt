@@ -1,0 +1,2 @@
+mod LastName
+pub mod Words
