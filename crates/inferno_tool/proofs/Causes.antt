@@ -1,6 +1,7 @@
 -- Why a source was not read, by what its parts answered.
-use Rattle.std.proofs.Common.{◌≡◌, ◌≤◌, ℕ, List, ◌⊎◌, inl, inr, true, false, subst, sym, arith}
-use Rattle.inf_ports.specs.Outside.{Told, Has, Rose}
+use Rattle.std.proofs.Common.{◌≡◌, ◌∙◌, ◌≤◌, ℕ, List, ◌⊎◌, inl, inr, true, false, subst, sym, ap, arith}
+use Rattle.std.specs.Prelude.{Some}
+use Rattle.inf_ports.specs.Outside.{Told, Has, Lacks, Rose}
 use Rattle.limbo_tree.specs.Sources.{Source}
 use Rattle.limbo_tree.specs.View.{view_source}
 use Rattle.limbo_tree.specs.declared.source.Source as code_source
@@ -17,6 +18,8 @@ use Rattle.source_names.proofs.Read.{reachable}
 use Rattle.inferno_tool.specs.Built.{HasTree, HasNames}
 use Rattle.inferno_tool.specs.Faults.{of_bytes, of_text, of_names, of_tree}
 use Rattle.inferno_tool.specs.Reading.{IsReadFault, IsTreeReadFault, IsFaultOf, IsUnnamed, IsUnread, itself, included, cause_of_files, cause_of_names}
+use Rattle.inferno_tool.specs.Outcome.{Course, IsCause, IsRefusal}
+use Rattle.inferno_command.specs.Words.{named_file}
 use Rattle.inferno_tool.specs.declared.cause.Cause.{Cause}
 use Rattle.inferno_tool.specs.declared.cause.Cause.TheVariants.{Done, Broke, Usage, BadSource, BadObject, Limit, Host, SinkFault, NoMemory}
 use Rattle.inferno_tool.specs.declared.cause.SourceFault.TheVariants.{Lex, Parse}
@@ -79,6 +82,34 @@ pub names_unnamed : (told : Told) (path : List ℕ) (tree : Source) (before now 
 names_unnamed told path tree before now names_fault.NoMemory texts is = tt
 names_unnamed told path tree before now (names_fault.Refused refusal file span) texts is =
     λ source has. of_names tree file refusal span has texts is
+
+-- a file that the words name to be run, and that isn't read, is refused
+pub unread_refused : (words : List (List ℕ)) (told : Told) (path : List ℕ) (before now : ℕ) (cause : Cause) → named_file words ≡ Some path
+    → IsUnread told path before now cause → IsRefusal words told before now cause
+unread_refused words told path before now (BadSource file fault) named is = (path, named, is)
+unread_refused words told path before now (Host file true) named is =
+    (named ∙ ap (λ (f : List ℕ). Some f) (sym is.0), subst (λ (f : List ℕ). Lacks told f) (sym is.0) is.1)
+unread_refused words told path before now (Host file false) named is = (path, named, is.0, is.1)
+unread_refused words told path before now NoMemory named is = tt
+unread_refused words told path before now Done named is = absurd is
+unread_refused words told path before now (Broke broken) named is = absurd is
+unread_refused words told path before now Usage named is = absurd is
+unread_refused words told path before now (BadObject file fault) named is = absurd is
+unread_refused words told path before now (Limit quanta) named is = absurd is
+unread_refused words told path before now (SinkFault out err) named is = absurd is
+
+-- a refusal is a cause
+pub refusal_cause : (c : Course) (cause : Cause) → IsRefusal c.words c.told c.files_before c.files_after cause → IsCause c cause
+refusal_cause c (BadSource file fault) is = is
+refusal_cause c (Host file true) is = is
+refusal_cause c (Host file false) is = is
+refusal_cause c NoMemory is = tt
+refusal_cause c Usage is = is
+refusal_cause c Done is = absurd is
+refusal_cause c (Broke broken) is = absurd is
+refusal_cause c (BadObject file fault) is = absurd is
+refusal_cause c (Limit quanta) is = absurd is
+refusal_cause c (SinkFault out err) is = absurd is
 
 -- a read of the first file that failed
 pub first_unread : (told : Told) (path : List ℕ) (before now : ℕ) (cause : Cause) → Rose before now → (cause ≡ Host path false) ⊎ (cause ≡ NoMemory)

@@ -1,8 +1,6 @@
 -- What follows of a dump, from what it leaves.
-use Rattle.std.proofs.Common.{◌≡◌, ◌≤◌, ℕ, List, ◌⊎◌, inl, inr, refl, subst, sym, Bool, true, false, cond, [], ◌∷◌, arith}
-use Rattle.std.specs.Prelude.{Option, Some, None, codes, ◌&&◌}
-use Rattle.std.specs.Str.{bytes_eq}
-use Rattle.std.proofs.lemmas.Slice.Eq.{bytes_eq-Decides}
+use Rattle.std.proofs.Common.{◌≡◌, ◌≤◌, ℕ, List, ◌⊎◌, inl, inr, refl, subst, sym, true, false, [], arith}
+use Rattle.std.specs.Prelude.{Option, Some, None}
 use Rattle.inf_ports.specs.Outside.{Told, Rose}
 use Rattle.dis_file.specs.declared.object.Object.{Object}
 use Rattle.dis_format.specs.declared.fault.FileFault.{FileFault}
@@ -17,7 +15,7 @@ use Rattle.machine_core.specs.declared.event.Journal.{Journal}
 use Rattle.inferno_tool.specs.Dumping.{HasDumped, TellsObject, IsListing, IsObjectRefusal, dump_cause}
 use Rattle.inferno_tool.specs.Outcome.{IsUnlessMemory, IsUnrun, Tells}
 use Rattle.inferno_tool.specs.Running.{NothingRan}
-use Rattle.inferno_tool.specs.Words.{named_file, dumped_file, is_file}
+use Rattle.inferno_command.specs.Words.{dumped_file}
 use Rattle.inferno_tool.specs.declared.cause.Cause.{Cause}
 use Rattle.inferno_tool.specs.declared.cause.Cause.TheVariants as cause
 use Rattle.inferno_tool.proofs.Exact.{same_bytes, told_not_lacking, risen_further}
@@ -194,22 +192,6 @@ absent (Some files) file before now s journal objects said d tells calm =
     (absent_at files file before now s d.end tells calm d.dumped)
 
 -- ---- words
-
-go_is_not_dump : (verb file other : List ℕ) → named_file (verb ∷ file ∷ []) ≡ Some other → dumped_file (verb ∷ file ∷ []) ≡ None
-go_is_not_dump verb file other named = at (bytes_eq verb (codes "go")) refl named
-  where
-    at : (b : Bool) → bytes_eq verb (codes "go") ≡ b → cond (b && is_file file) (Some file) None ≡ Some other
-        → dumped_file (verb ∷ file ∷ []) ≡ None
-    at true is named =
-        let same : verb ≡ codes "go" = (bytes_eq-Decides verb (codes "go")).0 is in
-        subst (λ (v : List ℕ). dumped_file (v ∷ file ∷ []) ≡ None) (sym same) refl
-    at false is named = absurd cc
-
-pub named_undumped : (words : List (List ℕ)) (file : List ℕ) → named_file words ≡ Some file → dumped_file words ≡ None
-named_undumped [] file named = refl
-named_undumped (verb ∷ []) file named = refl
-named_undumped (verb ∷ word ∷ []) file named = go_is_not_dump verb word file named
-named_undumped (verb ∷ word ∷ other ∷ words) file named = refl
 
 pub by_words : {P : Type 0} (words : List (List ℕ)) → (dumped_file words ≡ None → P)
     → ((file : List ℕ) → dumped_file words ≡ Some file → P) → P

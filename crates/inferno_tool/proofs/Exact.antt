@@ -5,7 +5,7 @@ use Rattle.inf_ports.specs.Outside.{Told, Has, Lacks, Rose}
 use Rattle.limbo_small.specs.Typed.{Module}
 use Rattle.inferno_tool.specs.Built.{IsBuilt}
 use Rattle.inferno_tool.specs.Outcome.{Course, HasProgram, IsAccepted, IsCause, IsEndUnlessMemory, IsRefusal, IsRunEnd, IsSinkFault, IsSourceRefusal, IsUnlessMemory, Tells, TellsProgram}
-use Rattle.inferno_tool.specs.Words.{named_file}
+use Rattle.inferno_command.specs.Words.{named_file}
 use Rattle.inferno_tool.specs.declared.cause.Cause.{Cause}
 use Rattle.inferno_tool.specs.declared.cause.Cause.TheVariants.{Done, Broke, Usage, BadSource, BadObject, Limit, Host, SinkFault, NoMemory}
 use Rattle.inferno_tool.specs.Faults.{IsFault}

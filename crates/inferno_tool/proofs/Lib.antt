@@ -3,7 +3,6 @@ mod Causes
 mod Dumped
 mod Exact
 mod Faults
-mod LastName
 mod Runs
 mod Sources
 mod Starts

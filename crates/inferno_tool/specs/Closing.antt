@@ -1,14 +1,18 @@
--- How a command ends: its status, and the line that it writes about it.
-use Rattle.std.specs.Prelude.{ℕ, List, [], ◌∷◌, ◌++◌, map, codes, decimal, encode_utf8_all, ◌⊎◌, Option, None, Some}
+-- How a command ends: its status, and the lines that it writes about it.
+use Rattle.std.specs.Prelude.{ℕ, Bool, if◌then◌else◌, List, [], ◌∷◌, ◌++◌, map, codes, decimal, encode_utf8_all, ◌⊎◌, Option, None, Some}
 use Rattle.std.specs.Io.KnownBytes.{Appends}
 use Rattle.inf_ports.specs.Outside.{Rose, AppendsPart}
 use Rattle.dis_format.specs.Answers.{refusal_number}
 use Rattle.machine_core.specs.Ends.{Breach}
 use Rattle.machine_core.specs.Kept.{view_broken}
+use Rattle.machine_core.specs.declared.event.Journal.{Journal}
+use Rattle.inferno_stats.specs.declared.stats.Stats.{Stats}
+use Rattle.inferno_stats.specs.Stats.{stats_in, stats_line}
 use Rattle.inferno_tool.specs.declared.cause.Cause.{Cause}
 use Rattle.inferno_tool.specs.declared.cause.Cause.TheVariants.{Done, Broke, Usage, BadSource, BadObject, Limit, Host, SinkFault, NoMemory}
 use Rattle.inferno_tool.specs.declared.cause.SourceFault.{SourceFault}
 use Rattle.inferno_tool.specs.Faults.{number_of, place_of}
+use Rattle.inferno_tool.specs.Outcome.{lacks_memory}
 
 -- the exit status of each cause
 abbrev pub status_of : Cause → ℕ
@@ -56,6 +60,19 @@ closing_line (BadObject file fault) = line (encode_utf8_all file ++ told_refusal
 closing_line (Host path missing) = line (codes "file " ++ encode_utf8_all path)
 closing_line (SinkFault out err) = line (codes "output failed")
 closing_line NoMemory = line (codes "no memory")
+
+-- what is told of a run, where one was started and that is wanted
+abbrev pub told_stats : Bool → Option Journal → Option Stats
+told_stats wanted None = None
+told_stats wanted (Some journal) = if wanted then Some (stats_in journal.events) else None
+
+abbrev pub stats_lines : Option Stats → List ℕ
+stats_lines None = []
+stats_lines (Some stats) = stats_line stats
+
+-- the bytes of all lines: those about the cause, and then what the run took, where that is told; want of memory is told alone
+abbrev pub closing_lines : Cause → Option Stats → List ℕ
+closing_lines cause stats = closing_line cause ++ (if lacks_memory cause then [] else stats_lines stats)
 
 -- the bytes were written, or a first part of them up to a fault
 abbrev pub IsWritten : Option (List ℕ) → Option (List ℕ) → ℕ → ℕ → List ℕ → Type 0

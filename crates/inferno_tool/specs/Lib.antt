@@ -5,4 +5,3 @@ pub mod Faults
 pub mod Outcome
 pub mod Reading
 pub mod Running
-pub mod Words

@@ -8,7 +8,7 @@ use Rattle.inferno_tool.specs.Built.{IsBuilt}
 use Rattle.inferno_tool.specs.Reading.{IsRead, IsFaulty, IsWanted}
 use Rattle.inferno_tool.specs.Faults.{IsFault}
 use Rattle.inferno_tool.specs.Running.{IsRun}
-use Rattle.inferno_tool.specs.Words.{named_file}
+use Rattle.inferno_command.specs.Words.{named_file, limit_of}
 use Rattle.inferno_tool.specs.declared.cause.Cause.{Cause}
 use Rattle.inferno_tool.specs.declared.cause.Cause.TheVariants.{Done, Broke, Usage, BadSource, BadObject, Limit, Host, SinkFault, NoMemory}
 
@@ -34,13 +34,13 @@ pub record HasProgram (words : List (List ℕ)) (told : Told) : Type 0 where
   pub program : Module
   pub accepted : IsAccepted words told file program
 
--- what was run is a program that the words name, and this is its run
+-- what was run is a program that the words name, and this is its run, for at most the quanta that they say
 pub record HasRun (words : List (List ℕ)) (told : Told) (journal : Option Journal) (objects : List (List ℕ × Object))
     (old new : Option (List ℕ)) (faults_before faults_after : ℕ) (cause : Cause) : Type 0 where
   pub file : List ℕ
   pub program : Module
   pub accepted : IsAccepted words told file program
-  pub run : IsRun file program journal objects old new faults_before faults_after cause
+  pub run : IsRun (limit_of words) file program journal objects old new faults_before faults_after cause
 
 -- the files tell what stands at the path: these bytes, or no file
 abbrev pub Tells : Told → List ℕ → Option (List ℕ) → Type 0

@@ -19,11 +19,7 @@ use Rattle.limbo_compiler.specs.Limits.{IsWithin}
 use Rattle.limbo_compiler.specs.Means.{Means}
 use Rattle.inferno_tool.specs.declared.cause.Cause.{Cause}
 use Rattle.inferno_tool.specs.declared.cause.Cause.TheVariants.{Done, Broke, Limit, SinkFault, NoMemory}
-use Rattle.inferno_tool.specs.Words.{base_name}
-
--- how many quanta a run may have
-abbrev pub quanta_limit : ℕ
-quanta_limit = 1000000
+use Rattle.inferno_command.specs.Base.{base_name}
 
 -- the module's function of this number is called `init`
 pub record Beginning (m : Module) (init : ℕ) : Type 0 where
@@ -52,25 +48,26 @@ IsOwnEnd _ = ⊥
 
 -- What the cause says of a run that ended so, in the state that its journal leads to: which processes broke and with what text, in
 -- order; how many quanta the limit is. Where a write of output failed, memory didn't run out.
-abbrev pub Says : State → End → Cause → Type 0
-Says t how Done = how ≡ end.Done
-Says t how (Broke broken) = (how ≡ end.Broke) × (map view_broken broken.items ≡ breaches t.trace)
-Says t how (Limit quanta) = (how ≡ end.Limit) × (quanta ≡ quanta_limit)
-Says t how (SinkFault out err) = how ≢ end.NoMemory
-Says t how NoMemory = Unit {0}
-Says t how _ = ⊥
+abbrev pub Says : (limit : ℕ) → State → End → Cause → Type 0
+Says limit t how Done = how ≡ end.Done
+Says limit t how (Broke broken) = (how ≡ end.Broke) × (map view_broken broken.items ≡ breaches t.trace)
+Says limit t how (Limit quanta) = (how ≡ end.Limit) × (quanta ≡ limit)
+Says limit t how (SinkFault out err) = how ≢ end.NoMemory
+Says limit t how NoMemory = Unit {0}
+Says limit t how _ = ⊥
 
--- The run of a module that this journal is of. The journal, the requests, the console's replies and the output's bytes are a
--- conversation, which leads to some state and ended so; beside it there is a run of the module from its function `init`, at the pace, of
--- which the same was told: requests, replies and how each process ended; and the cause says how it ended.
-pub record RunOf (m : Module) (journal : Journal) (old new : Option (List ℕ)) (faults_before faults_after : ℕ) (cause : Cause) : Type 0 where
+-- The run of a module that this journal is of, for at most so many quanta. The journal, the requests, the console's replies and the
+-- output's bytes are a conversation, which leads to some state and ended so; beside it there is a run of the module from its function
+-- `init`, at the pace, of which the same was told: requests, replies and how each process ended; and the cause says how it ended.
+pub record RunOf (limit : ℕ) (m : Module) (journal : Journal) (old new : Option (List ℕ)) (faults_before faults_after : ℕ)
+    (cause : Cause) : Type 0 where
   pub state : State
   pub how : End
-  pub conversation : Conversation (object_for m ∷ []) quanta_limit journal.events state old new faults_before faults_after how
+  pub conversation : Conversation (object_for m ∷ []) limit journal.events state old new faults_before faults_after how
   pub init : ℕ
   pub begins : Beginning m init
   pub means : Means m init journal.events state
-  pub says : Says state how cause
+  pub says : Says limit state how cause
 
 -- no machine was started: nothing was written, and there is no journal
 pub record NothingRan (journal : Option Journal) (objects : List (List ℕ × Object)) (old new : Option (List ℕ)) : Type 0 where
@@ -78,17 +75,18 @@ pub record NothingRan (journal : Option Journal) (objects : List (List ℕ × Ob
   pub none : objects ≡ []
   pub unwritten : new ≡ old
 
--- A run of the module of the file at the path. Where a machine was started, the objects are the file's base name and the module's
--- object; where none was, memory ran out.
-abbrev pub IsRun : List ℕ → Module → Option Journal → List (List ℕ × Object) → Option (List ℕ) → Option (List ℕ) → ℕ → ℕ → Cause → Type 0
-IsRun path m None objects old new faults_before faults_after cause = NothingRan None objects old new × (cause ≡ NoMemory)
-IsRun path m (Some journal) objects old new faults_before faults_after cause =
-    (objects ≡ (base_name path, object_for m) ∷ []) × RunOf m journal old new faults_before faults_after cause
+-- A run of the module of the file at the path, for at most so many quanta. Where a machine was started, the objects are the file's base
+-- name and the module's object; where none was, memory ran out.
+abbrev pub IsRun : (limit : ℕ) → List ℕ → Module → Option Journal → List (List ℕ × Object) → Option (List ℕ) → Option (List ℕ) → ℕ → ℕ
+    → Cause → Type 0
+IsRun limit path m None objects old new faults_before faults_after cause = NothingRan None objects old new × (cause ≡ NoMemory)
+IsRun limit path m (Some journal) objects old new faults_before faults_after cause =
+    (objects ≡ (base_name path, object_for m) ∷ []) × RunOf limit m journal old new faults_before faults_after cause
 
--- a machine that was started on the object, under the file's base name
-pub record IsStarted (path : List ℕ) (o : Object) (machine : Machine) : Type 0 where
+-- a machine that was started on the object, under the file's base name, for at most so many quanta
+pub record IsStarted (quanta : ℕ) (path : List ℕ) (o : Object) (machine : Machine) : Type 0 where
   pub objects : machine.objects.items ≡ (base_name path, o) ∷ []
-  pub limit : machine.limit ≡ quanta_limit
+  pub limit : machine.limit ≡ quanta
   pub begun : HasBegun machine.objects machine.limit machine
 
 -- how a run ends, before the counts of faults are looked at

@@ -1,16 +1,18 @@
-ghost use Rattle.std.specs.Prelude.{◌≡◌};
-ghost use Rattle.inferno_tool.specs.Closing.{status_of};
+ghost use Rattle.std.specs.Prelude.{◌≡◌, [], None};
+ghost use Rattle.inferno_tool.specs.Closing.{status_of, told_stats};
 ghost use Rattle.inferno_tool.specs.Outcome.{lacks_memory};
 ghost use Rattle.inferno_tool.specs.Faults.{number_of, place_of};
 
 use dis_file::Object;
 use dis_format::FileFault;
 use inf_text::{Span, Text};
+use inferno_stats::Stats;
 use limbo_lexer::LexFault;
 use limbo_names::Unmet;
 use limbo_parser::ParseFault;
 use machine_core::{Broken, Journal};
 use source_names::Refusal;
+use std::alloc::Global;
 
 /// Why a source was refused.
 #[derive(Clone, Copy)]
@@ -152,6 +154,28 @@ pub struct Left {
     pub journal: Option<Journal>,
     /// The base names and objects with which the machine was started, in order.
     pub objects: Vec<(Text, Object)>,
+}
+
+impl Left {
+    /// No machine was started.
+    pub fn nothing(alloc: Global) -> Left
+        ensures { (result.journal ≡ None) × (result.objects.items ≡ []) }
+    {
+        Left {
+            journal: None,
+            objects: Vec::new(alloc),
+        }
+    }
+
+    /// What the run took, where a machine was started and that is wanted.
+    pub fn stats(&self, wanted: bool) -> Option<Stats>
+        ensures { result ≡ told_stats wanted self.now.journal }
+    {
+        match &self.journal {
+            Some(journal) if wanted => Some(Stats::of(journal)),
+            _ => None,
+        }
+    }
 }
 
 /// How a command ended.

@@ -1,12 +1,13 @@
 ghost use Rattle.std.specs.Prelude.{◌≡◌, ◌≤◌, ◌⊎◌, ◌++◌, ◌∷◌, [], map, IfOk, string_bytes, decimal, codes, encode_utf8_all};
 ghost use Rattle.machine_core.specs.Kept.{view_broken};
 ghost use Rattle.dis_format.specs.Answers.{refusal_number};
-ghost use Rattle.inferno_tool.specs.Closing.{line, closing_line, told, told_refusal, broken_line, broken_lines, IsWritten};
+ghost use Rattle.inferno_tool.specs.Closing.{line, closing_line, closing_lines, told, told_refusal, broken_line, broken_lines, IsWritten};
 
 use crate::cause::{Cause, SourceFault};
 use dis_format::FileFault;
 use inf_ports::{Sink, write_whole};
 use inf_text::Text;
+use inferno_stats::Stats;
 use machine_core::Broken;
 use std::alloc::{AllocError, Global};
 
@@ -125,16 +126,30 @@ fn closing_line(alloc: Global, cause: &Cause) -> Result<Vec<u8>, AllocError>
     }
 }
 
-/// Writes the lines about the cause. They are made before any of them is written: where that takes more memory than
-/// there is, the cause is want of memory. A fault of `err` changes no cause.
-pub fn close<E: Sink>(alloc: Global, cause: Cause, err: &mut E) -> Cause
+/// All lines: those about the cause, and what the run took, where that is told and memory didn't run out.
+fn closing_lines(alloc: Global, cause: &Cause, stats: Option<Stats>) -> Result<Vec<u8>, AllocError>
+    ensures { IfOk result (λ bytes. bytes.items ≡ closing_lines cause.now stats) }
+{
+    let mut lines = closing_line(alloc, cause)?;
+    if !cause.lacks_memory() {
+        if let Some(stats) = stats {
+            let line = stats.line(alloc)?;
+            lines.extend_from_slice(line.as_slice())?;
+        }
+    }
+    Ok(lines)
+}
+
+/// Writes the lines about the cause, and what the run took, where that is told. They are made before any of them is written: where that
+/// takes more memory than there is, the cause is want of memory. A fault of `err` changes no cause.
+pub fn close<E: Sink>(alloc: Global, cause: Cause, stats: Option<Stats>, err: &mut E) -> Cause
     ensures cause { (result ≡ cause) ⊎ (result ≡ Cause.NoMemory) }
-    ensures written { IsWritten (E.held err.old) (E.held err.new) (E.faults err.old) (E.faults err.new) (closing_line result) }
+    ensures written { IsWritten (E.held err.old) (E.held err.new) (E.faults err.old) (E.faults err.new) (closing_lines result stats) }
     ensures later { E.faults err.old ≤ E.faults err.new }
 {
-    match closing_line(alloc, &cause) {
-        Ok(line) => {
-            let _ = write_whole(err, line.as_slice());
+    match closing_lines(alloc, &cause, stats) {
+        Ok(lines) => {
+            let _ = write_whole(err, lines.as_slice());
             cause
         }
         Err(_) => {

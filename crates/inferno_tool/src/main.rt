@@ -2,8 +2,9 @@
 //!
 //! One public call, `inferno` in `top`, does all that the program does, over words, a tree of files and two sinks; its
 //! contract cites `specs/Running.antt` (what a run is, and what it means), `specs/Outcome.antt` (where each cause comes),
-//! `specs/Dumping.antt` (what a dump leaves), `specs/Closing.antt` (the status and the closing lines), `specs/Built.antt` (which programs are built) and
-//! `specs/Faults.antt` (why a source is refused). `main` hands it the real files and streams.
+//! `specs/Dumping.antt` (what a dump leaves), `specs/Closing.antt` (the status and the closing lines), `specs/Built.antt` (which
+//! programs are built) and `specs/Faults.antt` (why a source is refused). What the words ask for is said in `inferno_command`, and what
+//! a run took in `inferno_stats`. `main` hands it the real files and streams.
 #![tactic(auto)]
 
 ghost use Rattle.std.specs.Prelude.{◌≡◌, ◌≢◌, ◌⊎◌, ◌↔◌, IfOk, IfErr, IsOkAnd, IsErrAnd, IsErrOf, map, drop, string_bytes, encode_utf8_all};
@@ -18,7 +19,6 @@ mod running;
 #[cfg(test)]
 mod tests;
 mod top;
-mod words;
 
 use cause::Cause;
 use closing::close;
@@ -85,7 +85,7 @@ fn main(rt: HostRuntime) -> ExitCode {
             let mut files = StdTree::new(&rt);
             inferno(rt.alloc(), &words, &mut files, &mut out, &mut err).status
         }
-        Err(cause) => close(rt.alloc(), cause, &mut err).status(),
+        Err(cause) => close(rt.alloc(), cause, None, &mut err).status(),
     };
     ExitCode::from(status)
 }

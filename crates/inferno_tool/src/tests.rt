@@ -176,6 +176,10 @@ fn rows(rt: HostRuntime) -> Result<(), Fail> {
     let rows = [
         Row::of(IDLE, 0, b"", b""),
         Row::of(HELLO, 0, b"hello, world\n", b""),
+        Row {
+            words: &["go", "hello.b", "--stats"],
+            ..Row::of(HELLO, 0, b"hello, world\n", b"stats: quanta 2 replies 1\n")
+        },
         Row::of(SEVERAL, 0, b"one\ttwo\"\\\n", b""),
         Row {
             out_fails: Some(0),
@@ -280,6 +284,54 @@ fn rows(rt: HostRuntime) -> Result<(), Fail> {
         assert_eq!(rt; status, row.status, "status of row {k}");
         assert_eq!(rt; out.as_slice(), row.out, "out of row {k}");
         assert_eq!(rt; err.as_slice(), row.err, "err of row {k}");
+    }
+    Ok(())
+}
+
+/// The words of a command over a program without an end, in `hello.b`, with its status and what is told, lines ended by `;`.
+const WORDS: &str = "\
+go hello.b -q 3|6|inferno: limit 3;
+go hello.b -q 3 --stats|6|inferno: limit 3;stats: quanta 3 replies 0;
+go --stats -q2 hello.b|6|inferno: limit 2;stats: quanta 2 replies 0;
+go -q=+1 -- hello.b|6|inferno: limit 1;
+go none.b --stats|7|inferno: file none.b;
+go hello.b -q 0|2|inferno: usage;
+go hello.b -q 10000001|2|inferno: usage;
+go hello.b -q 5 -q 5|2|inferno: usage;
+go hello.b -q|2|inferno: usage;
+go hello.b -q x|2|inferno: usage;
+go hello.b --stats --stats|2|inferno: usage;
+go hello.b --stats=yes|2|inferno: usage;
+go hello.b -o hello.dis|2|inferno: usage;
+go --help|2|inferno: usage;
+--help|2|inferno: usage;
+dump hello.b --stats|2|inferno: usage;
+";
+
+/// Each command ends so.
+#[test]
+fn words(rt: HostRuntime) -> Result<(), Fail> {
+    let alloc = rt.alloc();
+    let source = format!(in alloc; "{HEAD}{INIT} while (1) {{ }} }}")?;
+    for row in WORDS.lines() {
+        let (given, rest) = row.split_once('|').ok_or("a row without words")?;
+        let (status, told) = rest.split_once('|').ok_or("a row without a status")?;
+        let mut words = Vec::new(alloc);
+        for word in given.split(' ') {
+            words.push(text(alloc, word)?)?;
+        }
+        let mut wanted = String::new(alloc);
+        for line in told.split_terminator(';') {
+            wanted.push_str(line)?;
+            wanted.push('\n')?;
+        }
+        let mut files = tree(alloc, source.as_bytes(), None)?;
+        let mut out = MemSink::new(alloc, 100, Vec::new(alloc))?;
+        let mut err = MemSink::new(alloc, 100, Vec::new(alloc))?;
+        let ended = inferno(alloc, &words, &mut files, &mut out, &mut err);
+        assert_eq!(rt; u64::from(ended.status), status.parse::<u64>()?, "{row}");
+        assert_eq!(rt; out.as_slice(), b"".as_slice());
+        assert_eq!(rt; err.as_slice(), wanted.as_bytes());
     }
     Ok(())
 }

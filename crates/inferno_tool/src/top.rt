@@ -5,62 +5,45 @@ ghost use Rattle.inferno_tool.specs.Built.{IsBuilt};
 ghost use Rattle.dis_file.specs.declared.object.Object.{Object as AnyObject};
 ghost use Rattle.dis_format.specs.Objects.{Spells};
 ghost use Rattle.inferno_tool.specs.Dumping.{HasDumped, TellsObject, IsListing, IsObjectRefusal};
-ghost use Rattle.inferno_tool.specs.Closing.{status_of, closing_line, IsWritten};
-ghost use Rattle.inferno_tool.specs.Outcome.{Course, HasRun, IsAccepted, IsRefusal, IsCause, IsRunEnd, IsSinkFault, IsUnrun};
+ghost use Rattle.inferno_tool.specs.Closing.{status_of, closing_lines, told_stats, IsWritten};
+ghost use Rattle.inferno_tool.specs.Outcome.{HasRun, IsRefusal, IsCause, IsRunEnd, IsSinkFault, IsUnrun};
 ghost use Rattle.inferno_tool.specs.Outcome.{is_run_out, IsSourceRefusal, IsEndUnlessMemory, Tells, TellsProgram, IsUnlessMemory};
 ghost use Rattle.inferno_tool.specs.Running.{IsCompiled, IsRun, NothingRan};
-ghost use Rattle.inferno_tool.specs.Words.{named_file, dumped_file};
+ghost use Rattle.inferno_command.specs.Words.{named_file, dumped_file, limit_of, wants_stats, IsToRun};
 
 use crate::cause::{Cause, Ended, Left};
 use crate::closing::close;
 use crate::dumping::dump_cause;
 use crate::reading::read_source;
 use crate::running::{has_risen, run_program};
-use crate::words::{dumped_file, named_file};
 use dis_dump::dump_file;
 use dis_file::Object;
 use inf_ports::{HostTree, Sink};
 use inf_text::Text;
+use inferno_command::asked;
+use inferno_stats::Stats;
+use inferno_words::Command;
 use std::alloc::Global;
 
-/// The file that the words name, and the object of the program in it.
-///
-/// # Errors
-/// The cause for which there is none.
-fn prepare<'a, H: HostTree>(
-    alloc: Global,
-    words: &'a [Text],
-    files: &mut H,
-) -> Result<(&'a Text, Object), Cause>
-    ensures accepted { IfOk result (λ x. (m : Module) × IsAccepted words.now (H.told files.old) x.0.now m × IsCompiled m x.1) }
-    ensures refused { IfErr result (λ cause. IsRefusal words.now (H.told files.old) (H.faults files.old) (H.faults files.new) cause) }
-    ensures kept { H.told files.new ≡ H.told files.old }
-    ensures later { H.faults files.old ≤ H.faults files.new }
-{
-    let Some(path) = named_file(words) else {
-        return Err(Cause::Usage);
-    };
-    let object = read_source(alloc, path, files)?;
-    Ok((path, object))
-}
-
-/// Runs the object of the program in the file at the path, and says how that ended.
+/// Runs the object of the program in the file at the path for at most so many quanta, and says how that ended.
 fn carry_out<K: Sink, E: Sink>(
     alloc: Global,
     path: &Text,
     object: Object,
+    limit: u64,
     out: &mut K,
     err: &E,
 ) -> (Cause, Left)
     requires compiled { (m : Module) × IsCompiled m object }
+    requires bounded { (1 ≤ limit) × (limit ≤ 10000000) }
     ensures end { IsRunEnd (K.faults out.old) (K.faults out.new) (E.faults err.now) result.0 }
-    ensures run { (m : Module) → IsCompiled m object → IsRun path.now m result.1.journal result.1.objects.items
+    ensures run { (m : Module) → IsCompiled m object → IsRun limit path.now m result.1.journal result.1.objects.items
         (K.held out.old) (K.held out.new) (K.faults out.old) (K.faults out.new) result.0 }
     ensures later { K.faults out.old ≤ K.faults out.new }
 {
     let out_before = out.faults();
     let err_before = err.faults();
-    let (cause, left) = run_program(alloc, path, object, out);
+    let (cause, left) = run_program(alloc, path, object, limit, out);
     if cause.lacks_memory() {
         return (cause, left);
     }
@@ -76,16 +59,18 @@ fn carry_out<K: Sink, E: Sink>(
     (cause, left)
 }
 
-/// Compiles the file that the words name and runs it, up to the lines about the end.
+/// Compiles the file at the path and runs it for at most so many quanta, up to the lines about the end.
 fn compile_and_run<H: HostTree, K: Sink, E: Sink>(
     alloc: Global,
-    words: &[Text],
+    path: &Text,
+    limit: u64,
     files: &mut H,
     out: &mut K,
     err: &E,
 ) -> (Cause, Left)
-    ensures cause { IsCause (record {
-      words = words.now;
+    requires bounded { (1 ≤ limit) × (limit ≤ 10000000) }
+    ensures cause { (words : List (List ℕ)) → IsToRun words path.now limit → IsCause (record {
+      words = words;
       told = H.told files.old;
       files_before = H.faults files.old;
       files_after = H.faults files.new;
@@ -94,22 +79,17 @@ fn compile_and_run<H: HostTree, K: Sink, E: Sink>(
       err_before = E.faults err.now;
       err_after = E.faults err.now;
     }) result.0 }
-    ensures ran { HasRun words.now (H.told files.old) result.1.journal result.1.objects.items
+    ensures ran { (words : List (List ℕ)) → IsToRun words path.now limit
+        → HasRun words (H.told files.old) result.1.journal result.1.objects.items
         (K.held out.old) (K.held out.new) (K.faults out.old) (K.faults out.new) result.0
         ⊎ (NothingRan result.1.journal result.1.objects.items (K.held out.old) (K.held out.new)
-        × IsRefusal words.now (H.told files.old) (H.faults files.old) (H.faults files.new) result.0) }
+        × IsRefusal words (H.told files.old) (H.faults files.old) (H.faults files.new) result.0) }
     ensures kept { H.told files.new ≡ H.told files.old }
     ensures later { (H.faults files.old ≤ H.faults files.new) × (K.faults out.old ≤ K.faults out.new) }
 {
-    match prepare(alloc, words, files) {
-        Ok((path, object)) => carry_out(alloc, path, object, out, err),
-        Err(cause) => {
-            let left = Left {
-                journal: None,
-                objects: Vec::new(alloc),
-            };
-            (cause, left)
-        }
+    match read_source(alloc, path, files) {
+        Ok(object) => carry_out(alloc, path, object, limit, out, err),
+        Err(cause) => (cause, Left::nothing(alloc)),
     }
 }
 
@@ -133,21 +113,17 @@ fn dump<H: HostTree, K: Sink, E: Sink>(
     ensures later { (H.faults files.old ≤ H.faults files.new) × (K.faults out.old ≤ K.faults out.new) }
 {
     let end = dump_file(alloc, path, files, out, err);
-    let left = Left {
-        journal: None,
-        objects: Vec::new(alloc),
-    };
-    (dump_cause(path, end), left)
+    (dump_cause(path, end), Left::nothing(alloc))
 }
 
-/// Does the command's work, up to the lines about its end.
+/// Does the command's work, up to the lines about its end, and answers what the run took too, where that is to be told.
 fn decide<H: HostTree, K: Sink, E: Sink>(
     alloc: Global,
     words: &[Text],
     files: &mut H,
     out: &mut K,
     err: &E,
-) -> (Cause, Left)
+) -> (Cause, Left, Option<Stats>)
     ensures cause { dumped_file words.now ≡ None → IsCause (record {
       words = words.now;
       told = H.told files.old;
@@ -171,20 +147,38 @@ fn decide<H: HostTree, K: Sink, E: Sink>(
           err_before = E.faults err.now;
           err_after = E.faults err.now;
         }) result.1.journal result.1.objects.items result.0 }
+    ensures took { result.2 ≡ told_stats (wants_stats words.now) result.1.journal }
     ensures kept { H.told files.new ≡ H.told files.old }
     ensures later { (H.faults files.old ≤ H.faults files.new) × (K.faults out.old ≤ K.faults out.new) }
 {
-    match dumped_file(words) {
-        Some(path) => dump(alloc, path, files, out, err),
-        None => compile_and_run(alloc, words, files, out, err),
+    match asked(alloc, words) {
+        Ok(
+            Some(
+                Command::Go {
+                    file,
+                    quanta,
+                    stats,
+                },
+            ),
+        ) => {
+            let (cause, left) = compile_and_run(alloc, &file, u64::from(quanta), files, out, err);
+            let stats = left.stats(stats);
+            (cause, left, stats)
+        }
+        Ok(Some(Command::Dump { file })) => {
+            let (cause, left) = dump(alloc, &file, files, out, err);
+            (cause, left, None)
+        }
+        Ok(Some(Command::Limbo { .. }) | None) => (Cause::Usage, Left::nothing(alloc), None),
+        Err(_) => (Cause::NoMemory, Left::nothing(alloc), None),
     }
 }
 
 /// Carries out the command that the words ask for, and tells on `err` how it ended.
 ///
-/// The words are exactly `go FILE`, which compiles the file and runs it, or `dump FILE`, which lists the object in the
-/// file. `files` gives the source or the object, `out` takes what the program prints or the listing, and `err` the
-/// closing lines. The status is the cause's number.
+/// The words are `go FILE [-q N] [--stats]`, which compiles the file and runs it for at most so many quanta, or `dump FILE`, which lists
+/// the object in the file. `files` gives the source or the object, `out` takes what the program prints or the listing, and `err` the
+/// closing lines, the last of which is what the run took, where that is wanted. The status is the cause's number.
 pub fn inferno<H: HostTree, K: Sink, E: Sink>(
     alloc: Global,
     words: &[Text],
@@ -193,9 +187,10 @@ pub fn inferno<H: HostTree, K: Sink, E: Sink>(
     err: &mut E,
 ) -> Ended
     ensures status { result.status ≡ status_of result.cause }
-    ensures closing { IsWritten (E.held err.old) (E.held err.new) (E.faults err.old) (E.faults err.new) (closing_line result.cause) }
+    ensures closing { IsWritten (E.held err.old) (E.held err.new) (E.faults err.old) (E.faults err.new)
+        (closing_lines result.cause (told_stats (wants_stats words.now) result.journal)) }
 
-    // What happened, where the words aren't `dump FILE`: a program that the words name was run, and the requests and the
+    // What happened, where the words aren't those of `dump`: a program that the words name was run, and the requests and the
     // bytes on `out` are those of a run of its source's meaning, under the replies that came, for the journal that is
     // answered; how it ended is what the cause says. Or nothing was run, and nothing written.
     ensures ran { dumped_file words.now ≡ None → HasRun words.now (H.told files.old) result.journal result.objects.items
@@ -215,7 +210,7 @@ pub fn inferno<H: HostTree, K: Sink, E: Sink>(
       err_after = E.faults err.new;
     }) result.cause }
 
-    // Other words than `go FILE` and `dump FILE` are always refused, and so is a file that isn't there, and a source that
+    // Words that aren't those of `go` and `dump` are always refused, and so is a file that isn't there, and a source that
     // isn't a program of the built part, with a refusal that it has.
     ensures usage { dumped_file words.now ≡ None → named_file words.now ≡ None → IsUnlessMemory result.cause Cause.Usage }
     ensures missing { (file : List ℕ) → named_file words.now ≡ Some file → Tells (H.told files.old) file None
@@ -233,7 +228,7 @@ pub fn inferno<H: HostTree, K: Sink, E: Sink>(
         → IsEndUnlessMemory result.cause }
     ensures told { (m : Module) (t : TellsProgram words.now (H.told files.old) m)
         → (Rose (H.faults files.old) (H.faults files.new) → ⊥)
-        → IsRun t.file m result.journal result.objects.items
+        → IsRun (limit_of words.now) t.file m result.journal result.objects.items
         (K.held out.old) (K.held out.new) (K.faults out.old) (K.faults out.new) result.cause }
     ensures started { dumped_file words.now ≡ None → is_run_out result.cause ≡ true → IsSome result.journal }
     ensures quiet { IsUnrun result.cause → NothingRan result.journal result.objects.items (K.held out.old) (K.held out.new) }
@@ -284,8 +279,8 @@ pub fn inferno<H: HostTree, K: Sink, E: Sink>(
     ensures later { (H.faults files.old ≤ H.faults files.new) × (K.faults out.old ≤ K.faults out.new)
         × (E.faults err.old ≤ E.faults err.new) }
 {
-    let (cause, left) = decide(alloc, words, files, out, err);
-    let cause = close(alloc, cause, err);
+    let (cause, left, stats) = decide(alloc, words, files, out, err);
+    let cause = close(alloc, cause, stats, err);
     let Left { journal, objects } = left;
     Ended {
         status: cause.status(),

@@ -1,6 +1,6 @@
 use Rattle.inferno_tool.specs.Outcome.{Course, IsCause}
 use Rattle.inferno_tool.proofs.Dumped as dumping
-use Rattle.inferno_tool.proofs.Dumped.{named_undumped}
+use Rattle.inferno_command.proofs.Words.{named_undumped}
 use Rattle.inferno_tool.proofs.Exact as exact
 use Rattle.inferno_tool.proofs.Runs as runs
 use Rattle.inferno_tool.proofs.top.inferno.Goals as goal
