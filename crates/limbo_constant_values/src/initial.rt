@@ -21,8 +21,8 @@ use limbo_naming::Naming;
 use limbo_tree::Expr;
 use std::alloc::{AllocError, Global};
 
-// The initial value of a variable.
-fn initial_in<'a>(declared: Declared<'a>) -> Option<&'a Expr>
+/// The initial value of a variable, where one is written.
+pub fn initial_in<'a>(declared: Declared<'a>) -> Option<&'a Expr>
     ensures some { IfSome result (λ e. initial_value (view_declared declared.entry) ≡ Some (view_expr e.now)) }
     ensures none { IfNone result (initial_value (view_declared declared.entry) ≡ None) }
 {
@@ -33,8 +33,8 @@ fn initial_in<'a>(declared: Declared<'a>) -> Option<&'a Expr>
     }
 }
 
-// Whether it is `nil`.
-fn is_nil(e: &Expr) -> bool
+/// Whether it is `nil`.
+pub fn is_nil(e: &Expr) -> bool
     ensures yes { result ≡ true → view_expr e.now ≡ tree.Nil }
     ensures no { result ≡ false → view_expr e.now ≡ tree.Nil → ⊥ }
 {

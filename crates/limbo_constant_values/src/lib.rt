@@ -17,6 +17,6 @@ mod needs;
 mod values;
 
 pub use fault::ValuesFault;
-pub use initial::{check_initial, find_initials};
+pub use initial::{check_initial, find_initials, initial_in, is_nil};
 pub use laws::one_value;
 pub use values::evaluate_all;

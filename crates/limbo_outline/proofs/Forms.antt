@@ -1,9 +1,8 @@
 -- Which declarations are of a kind.
-use Rattle.std.proofs.Common.{◌≡◌, ◌⊎◌, ◌==◌, inl, inr, ℕ, Bool, true, false, if◌then◌else◌, List, Option, Some, None, refl, sym, ap, ◌∙◌}
+use Rattle.std.proofs.Common.{◌≡◌, ◌⊎◌, ◌==◌, inl, inr, ℕ, Bool, true, false, if◌then◌else◌, Option, Some, None, refl, sym, ◌∙◌}
 use Rattle.std.specs.Borrow.{Bor}
 use Rattle.limbo_tree.specs.Types as tree
 use Rattle.limbo_tree.specs.Exprs.{Expr}
-use Rattle.limbo_tree.specs.Decls.{FnType}
 use Rattle.limbo_tree.specs.declared.types.TypeTree as code_type
 use Rattle.limbo_declarations.specs.Rows as rows
 use Rattle.limbo_declarations.specs.Rows.{Declared}

@@ -1,20 +1,15 @@
 -- A name's number leads to what is told of its declaration.
-use Rattle.std.proofs.Common.{◌≡◌, ◌+◌, ◌==◌, ◌∷◌, [], ℕ, Bool, true, false, cond, if◌then◌else◌, List, Some, None, take, slice_get, count_by, refl, ap, subst, ◌∙◌, sym}
+use Rattle.std.proofs.Common.{◌≡◌, ◌+◌, ◌==◌, ◌∷◌, [], ℕ, Bool, true, false, cond, if◌then◌else◌, List, Some, None, take, slice_get, count_by, refl, ap, ◌∙◌, sym}
 use Rattle.std.specs.List.{sum_by}
 use Rattle.std.proofs.lemmas.List.Sums.{sum_by-cons}
 use Rattle.limbo_declarations.specs.Rows as rows
 use Rattle.limbo_declarations.specs.Rows.{Declared}
 use Rattle.limbo_naming.specs.Naming.{is_adt, is_module}
-use Rattle.limbo_type_names.specs.Numbers.{number_of}
 use Rattle.limbo_type_names.specs.Counts.{is_adt_entry, is_module_entry}
 use Rattle.limbo_source_adts.proofs.Counts.{adt_counts, module_counts}
 use Rattle.limbo_meanings.specs.Kinds.{kind_in, is_at, is_own, is_outermost}
-use Rattle.limbo_meanings.specs.Names.{scope_inside}
 use Rattle.limbo_outline.specs.Outline.{IsScopeOf}
 use Rattle.limbo_outline.specs.Laws.{ScopeOfNumber, AdtsByNumber, ModulesByNumber}
-use Rattle.limbo_types.specs.Types.{Ty}
-use Rattle.limbo_typed.specs.Typed.{Var, Exception}
-use Rattle.limbo_context.specs.Context.{Valued, Callee}
 use Rattle.limbo_entries.specs.Entries.{Entry, IsEntry}
 use Rattle.limbo_meanings.specs.declared.kind.Kind.{Kind}
 use Rattle.limbo_meanings.specs.declared.kind.Kind.TheVariants as kind

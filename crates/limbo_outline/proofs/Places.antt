@@ -1,9 +1,8 @@
 -- Entries by their numbers.
-use Rattle.std.proofs.Common.{◌≡◌, ◌<◌, ◌≤◌, ℕ, zero, suc, List, ◌∷◌, [], Some, length, get_or, slice_get, refl, sym, ap, arith}
+use Rattle.std.proofs.Common.{◌≡◌, ◌<◌, ℕ, zero, suc, List, ◌∷◌, [], Some, length, get_or, slice_get, refl, sym, ap, arith}
 use Rattle.limbo_entries.specs.declared.entry.Entry as code_entry
 use Rattle.limbo_entries.specs.Entries.{Entry, IsEntry}
 use Rattle.limbo_entries.specs.View.{view_entry, entries_of}
-use Rattle.limbo_meanings.proofs.Places.{as_many}
 
 pub one_entry : (es : List Entry) (k : ℕ) (a b : Entry) → IsEntry es k a → IsEntry es k b → a ≡ b
 one_entry es k a b f g = cc

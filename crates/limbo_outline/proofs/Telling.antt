@@ -1,5 +1,5 @@
 -- What is told of the declarations of each kind.
-use Rattle.std.proofs.Common.{◌≡◌, ◌<◌, ◌+◌, ◌⊎◌, inl, inr, ℕ, Bool, true, false, List, [], ◌∷◌, ◌++◌, Option, Some, None, Box, Vec, Global, map, take, slice_get, refl, sym, ap, subst, ◌∙◌}
+use Rattle.std.proofs.Common.{◌≡◌, ◌+◌, inl, inr, ℕ, Bool, true, false, List, [], ◌∷◌, ◌++◌, Option, Some, None, Box, Vec, Global, map, slice_get, refl, sym, ap, subst, ◌∙◌}
 use Rattle.limbo_tree.specs.Types as tree
 use Rattle.limbo_tree.specs.Exprs.{Expr}
 use Rattle.limbo_types.specs.Types.{Ty, FnTy}
@@ -19,8 +19,7 @@ use Rattle.limbo_headers.specs.Headers.{Heads, has_heading, IsHeader}
 use Rattle.limbo_type_names.specs.Means.{AllMean, Stands}
 use Rattle.limbo_context.specs.Context.{Valued, Callee}
 use Rattle.limbo_typed.specs.Typed.{Var, Exception}
-use Rattle.limbo_meanings.specs.declared.kind.Kind.TheVariants as kind
-use Rattle.limbo_meanings.specs.Kinds.{place, kind_in, has_kind, is_at, is_own, is_outermost}
+use Rattle.limbo_meanings.specs.Kinds.{kind_in, has_kind, is_at, is_own, is_outermost}
 use Rattle.limbo_meanings.proofs.Lists.{table_yes, table_no}
 use Rattle.limbo_outline.specs.Outline.{ConstantsTo, IsConstant, valued, known_at, ExceptionsTo, IsException, FunctionsTo, IsFunction, owner_of, TypesTo, IsType, GlobalsTo, IsGlobal, HasType, HasNoType}
 use Rattle.limbo_outline.specs.declared.fault.OutlineFault.TheVariants as fault

@@ -3,8 +3,8 @@ use Rattle.std.specs.Prelude.{◌≡◌, ℕ, List, Option, None, Some, take, sl
 use Rattle.limbo_tree.specs.Types as tree
 use Rattle.limbo_tree.specs.Exprs.{Expr}
 use Rattle.limbo_tree.specs.Decls.{FnType}
-use Rattle.limbo_types.specs.Types.{Ty, Tys, Byte, Int, Big, Chars}
-use Rattle.limbo_types.specs.View.{tys_of, view_ty}
+use Rattle.limbo_types.specs.Types.{Ty, Byte, Int, Big, Chars}
+use Rattle.limbo_types.specs.View.{tys_of}
 use Rattle.limbo_values.specs.declared.number.Number.{Number}
 use Rattle.limbo_values.specs.declared.number.Number.TheVariants as number
 use Rattle.limbo_values.specs.Numbers.{value_of}

@@ -16,7 +16,7 @@ use std::alloc::{AllocError, Global};
 
 /// The type of a constant.
 #[tactic(auto, using(limbo_types::proofs::View::the_types))]
-pub(crate) fn type_of(constant: &Constant) -> Ty
+pub fn type_of(constant: &Constant) -> Ty
     ensures { view_ty result ≡ type_of_constant constant.now }
 {
     match constant {

@@ -16,7 +16,7 @@ mod laws;
 mod members;
 mod types;
 
-pub use constants::{list_constants, value_of};
+pub use constants::{list_constants, type_of, value_of};
 pub use exceptions::list_exceptions;
 pub use fault::OutlineFault;
 pub use functions::list_functions;

@@ -3,7 +3,7 @@ use Rattle.limbo_entries.specs.Entries.{AreOnce}
 use Rattle.limbo_entries.specs.View.{entries_of}
 use Rattle.limbo_entries.specs.declared.table.Table.{Table}
 use Rattle.limbo_naming.proofs.Places.{as_many}
-use Rattle.limbo_constant_values.proofs.Initials.{none_yet, one_more, all_known}
+use Rattle.limbo_constant_values.proofs.Initials.{one_more, all_known}
 use Rattle.limbo_constant_values.proofs.initial.find_initials.Goals as goal
 
 pub loop-number-preserved : goal.loop-number-preserved

@@ -1,4 +1,3 @@
-use Rattle.std.proofs.Common.{ℕ}
 use Rattle.limbo_entries.specs.View.{entries_of}
 use Rattle.limbo_constant_values.proofs.Initials.{AreInitialsTo}
 use Rattle.limbo_constant_values.proofs.initial.find_initials.Given as goal

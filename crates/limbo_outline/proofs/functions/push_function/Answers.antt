@@ -1,10 +1,10 @@
-use Rattle.std.proofs.Common.{◌<◌, ◌≡◌, length, map, sym, ap, subst, ◌∙◌, arith}
+use Rattle.std.proofs.Common.{◌<◌, length, map, sym, subst, ◌∙◌, arith}
 use Rattle.std.proofs.lemmas.List.{map-append}
 use Rattle.limbo_entries.specs.View.{entries_of, view_entry}
 use Rattle.limbo_headers.specs.declared.header.Heading.{Heading}
 use Rattle.limbo_headers.specs.Headers.{Heads}
 use Rattle.limbo_meanings.proofs.Places.{entry_at}
-use Rattle.limbo_outline.proofs.Places.{entry_there, item_at, one_entry}
+use Rattle.limbo_outline.proofs.Places.{item_at}
 use Rattle.limbo_context.specs.View.{view_callee}
 use Rattle.limbo_outline.proofs.Telling.{function_yes, function_no}
 use Rattle.limbo_outline.proofs.functions.push_function.Goals as goal

@@ -1,4 +1,4 @@
-use Rattle.std.proofs.Common.{ℕ, map}
+use Rattle.std.proofs.Common.{map}
 use Rattle.limbo_entries.specs.View.{entries_of}
 use Rattle.limbo_typed.specs.View.{view_var}
 use Rattle.limbo_outline.specs.Outline.{GlobalsTo}

@@ -1,10 +1,8 @@
-use Rattle.std.proofs.Common.{◌<◌, ◌≡◌, true, length, map, sym, ap, subst, ◌∙◌, arith}
+use Rattle.std.proofs.Common.{◌≡◌, true, map, sym, subst}
 use Rattle.std.proofs.lemmas.List.{map-append}
 use Rattle.limbo_entries.specs.View.{entries_of, view_entry}
-use Rattle.limbo_headers.specs.declared.header.Heading.{Heading}
-use Rattle.limbo_headers.specs.Headers.{Heads}
 use Rattle.limbo_meanings.proofs.Places.{entry_at}
-use Rattle.limbo_outline.proofs.Places.{entry_there, item_at, one_entry}
+use Rattle.limbo_outline.proofs.Places.{one_entry}
 use Rattle.limbo_types.specs.Types.{Ty}
 use Rattle.limbo_typed.specs.View.{view_var}
 use Rattle.limbo_entries.specs.Entries as entries

@@ -1,12 +1,10 @@
-use Rattle.std.proofs.Common.{◌<◌, ◌≡◌, length, map, sym, ap, subst, ◌∙◌, arith}
-use Rattle.std.proofs.lemmas.List.{map-append}
-use Rattle.limbo_entries.specs.View.{entries_of, view_entry}
+use Rattle.std.proofs.Common.{◌<◌, length, sym, subst, arith}
+use Rattle.limbo_entries.specs.View.{entries_of}
 use Rattle.limbo_headers.specs.declared.header.Heading.{Heading}
 use Rattle.limbo_headers.specs.Headers.{Heads}
-use Rattle.limbo_meanings.proofs.Places.{entry_at}
-use Rattle.limbo_outline.proofs.Places.{entry_there, item_at, one_entry}
+use Rattle.limbo_outline.proofs.Places.{entry_there, item_at}
 use Rattle.limbo_types.specs.Types.{Ty}
-use Rattle.limbo_outline.specs.Outline.{HasType, written, inferred, HasNoType}
+use Rattle.limbo_outline.specs.Outline.{HasType, written, inferred}
 use Rattle.limbo_outline.proofs.Telling.{by_value, no_type_at}
 use Rattle.limbo_outline.proofs.globals.variable_type.Goals as goal
 

@@ -1,4 +1,4 @@
-use Rattle.std.proofs.Common.{◌≡◌, ◌≤◌, ◌<◌, ◌+◌, length, refl, sym, ◌∙◌, arith}
+use Rattle.std.proofs.Common.{◌≡◌, ◌≤◌, length, refl, sym, ◌∙◌, arith}
 use Rattle.limbo_entries.specs.View.{entries_of}
 use Rattle.limbo_meanings.specs.Kinds.{place, has_kind}
 use Rattle.limbo_meanings.specs.Listed.{none_left}

@@ -1,4 +1,4 @@
-use Rattle.std.proofs.Common.{◌≡◌, sym}
+use Rattle.std.proofs.Common.{sym}
 use Rattle.limbo_entries.specs.View.{entries_of, view_entry}
 use Rattle.limbo_meanings.proofs.Places.{entry_at}
 use Rattle.limbo_outline.proofs.Scoping.{scope_yes, scope_no}

@@ -1,5 +1,3 @@
-use Rattle.std.proofs.Common.{◌≡◌, length, refl}
-use Rattle.std.proofs.lemmas.Option.{slice_get_read}
 use Rattle.limbo_outline.proofs.Scoping.{set_other}
 use Rattle.limbo_outline.proofs.members.take_scope.Goals as goal
 

@@ -1,4 +1,4 @@
-use Rattle.std.proofs.Common.{ℕ, map}
+use Rattle.std.proofs.Common.{map}
 use Rattle.limbo_type_names.specs.Working.{entries_in}
 use Rattle.limbo_types.specs.View.{view_ty}
 use Rattle.limbo_outline.specs.Outline.{TypesTo}
