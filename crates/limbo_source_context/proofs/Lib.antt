@@ -1,0 +1,6 @@
+pub mod Knowing
+pub mod Refusing
+pub mod Beginnings
+pub mod Suiting
+pub mod Ones
+pub mod Contexts

@@ -1,0 +1,5 @@
+pub mod SourceContext
+pub mod Beginning
+pub mod Numbers
+pub mod Parts
+pub mod Laws
