@@ -6,7 +6,8 @@ ghost use Rattle.source_files.specs.Files.{text_of};
 
 use inf_text::{Text, is_spelled};
 
-/// The text of `sys.m`: the module of the system's calls (Limbo Language Reference, Sys; Inferno manual, sys-intro(2)).
+/// The text of `sys.m`: the module of the system's calls (Limbo Language Reference, Sys; Inferno manual, sys-intro(2)). Of the prints it
+/// declares the names; what they take behind their formats the formats say.
 pub(crate) const SYS: &str = "\
 Sys: module {
     PATH: con \"$Sys\";
@@ -58,6 +59,9 @@ Sys: module {
     pctl: fn(flags: int, movefd: list of int): int;
     pipe: fn(fds: array of ref FD): int;
     tokenize: fn(s, delim: string): (int, list of string);
+    print: fn(format: string): int;
+    fprint: fn(fd: ref FD, format: string): int;
+    sprint: fn(format: string): string;
 };
 ";
 
