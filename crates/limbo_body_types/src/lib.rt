@@ -15,4 +15,5 @@ mod written;
 
 pub use fault::WrittenFault;
 pub use laws::{fails_or_means, one_type};
+pub use meant::module_led;
 pub use written::type_in;

@@ -154,8 +154,8 @@ pub(crate) fn adt_led(context: &Context, body: &Body, meaning: Meaning) -> Optio
     }
 }
 
-/// The module that a name leads to.
-pub(crate) fn module_led(context: &Context, body: &Body, meaning: Meaning) -> Option<u32>
+/// The module that a name leads to: it is the module's name, or that of a variable or a type that is one.
+pub fn module_led(context: &Context, body: &Body, meaning: Meaning) -> Option<u32>
     ensures { result ≡ means.module_led (view_context context.now) (view_body body.now) meaning }
 {
     match type_led(context, body, meaning) {
