@@ -5,7 +5,7 @@ use Rattle.limbo_layout.specs.Adts.{Def}
 use Rattle.limbo_typed.specs.declared.operation.Operation.TheVariants as op
 use Rattle.limbo_typed.specs.Typed.{Expr, Of, Node, Read, Part, Apply, Exprs, Place, At, Field, Target}
 use Rattle.limbo_typed.specs.Fitting.{IsRefOf}
-use Rattle.limbo_typed.specs.Sound.{type_of, IsSettled}
+use Rattle.limbo_typed.specs.Sound.{type_of, IsSettled, AllSettled}
 use Rattle.limbo_fields.specs.Fields.{Names}
 use Rattle.limbo_places.specs.Places.{read, IsNoPlace, on_one}
 
@@ -13,9 +13,9 @@ use Rattle.limbo_places.specs.Places.{read, IsNoPlace, on_one}
 pub data Dereferences : (reference : Expr) → Expr → Type 0 where
   target : (adt : ℕ) (reference : Expr) → IsRefOf adt (type_of reference) → Dereferences reference (read (Adt adt) (Target reference))
 
--- The values whose parts are named are tuples and those of adts.
+-- The values whose parts are named are tuples in which nothing is open, and those of adts.
 abbrev pub HasParts : Ty → Type 0
-HasParts (Tuple ts) = Unit {0}
+HasParts (Tuple ts) = AllSettled ts
 HasParts (Adt n) = Unit {0}
 HasParts _ = ⊥
 

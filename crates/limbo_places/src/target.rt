@@ -46,7 +46,7 @@ struct Chosen {
     ty: Box<Ty>,
 }
 
-// The part that a name is, where its type is settled. Want of numbers is want of memory.
+// The part that a name is, where its type and that of the value are settled. Want of numbers is want of memory.
 fn choose(
     alloc: Global,
     adts: &[AdtDef],
@@ -54,10 +54,13 @@ fn choose(
     name: &Text,
 ) -> Result<Option<Chosen>, AllocError>
     ensures found { IfOk result (λ o. IfSome o (λ c. Names (view_defs adts.now) name.now (view_ty of.now) c.part (view_ty c.ty.value)
-        × IsSettled (view_ty c.ty.value))) }
+        × IsSettled (view_ty c.ty.value) × IsSettled (view_ty of.now))) }
     ensures absent { IfOk result (λ o. IfNone o ((part : ℕ) (t : types.Ty)
-        → Names (view_defs adts.now) name.now (view_ty of.now) part t → IsSettled t → ⊥)) }
+        → Names (view_defs adts.now) name.now (view_ty of.now) part t → IsSettled t → IsSettled (view_ty of.now) → ⊥)) }
 {
+    if !is_settled(of) {
+        return Ok(None);
+    }
     let Some(part) = part_of(adts, of, name)? else {
         return Ok(None);
     };

@@ -1,5 +1,5 @@
 -- Parts of values, and members and variants of adts, are what the definitions say.
-use Rattle.std.proofs.Common.{◌≡◌, ◌<◌, ℕ, Bool, true, false, List, Option, Some, None, refl, sym, ap, ◌∙◌, subst, arith}
+use Rattle.std.proofs.Common.{◌≡◌, ◌<◌, ◌&&◌, ℕ, Bool, true, false, List, Option, Some, None, refl, sym, ap, ◌∙◌, subst, arith}
 use Rattle.std.proofs.lemmas.Option.{none-some, same_Some}
 use Rattle.limbo_types.specs.Types.{Ty, Adt}
 use Rattle.limbo_types.specs.View.{view_ty}
@@ -11,7 +11,7 @@ use Rattle.limbo_typed.specs.Typed.{Expr, Absent, Present}
 use Rattle.limbo_typed.specs.Sound.{type_of, IsSettled}
 use Rattle.limbo_typed.specs.View.{view_expr}
 use Rattle.limbo_forms.specs.Forms.{is_settled}
-use Rattle.limbo_forms.proofs.Tests.{settled_is, not_settled}
+use Rattle.limbo_forms.proofs.Tests.{both_true, settled_is, settled_true}
 use Rattle.limbo_fields.specs.Fields.{Names}
 use Rattle.limbo_fields.proofs.Named.{one}
 use Rattle.limbo_refusals.specs.Refusals.{NoneIs}
@@ -19,7 +19,7 @@ use Rattle.limbo_scope.specs.declared.meaning.Meaning.{Meaning}
 use Rattle.limbo_context.specs.Context.{Context, named_in, IsFirstNamed, HasVariantNamed}
 use Rattle.limbo_places.specs.Targets.{Selects}
 use Rattle.limbo_places.specs.Targets as rule
-use Rattle.limbo_places.proofs.Targets.{selects_once}
+use Rattle.limbo_places.proofs.Targets.{selects_once, parts_settled, ref_settled}
 use Rattle.limbo_things.specs.Things.{Thing, AValue, AType, AVariant, adt_member, member_at, adt_of, PartOfValue, PartOfAdt, PartIs}
 use Rattle.limbo_things.specs.Things as things
 use Rattle.limbo_things.specs.Choosing.{own_adt, adt_member_of_value, HasPart, Tells, IsVariant}
@@ -28,16 +28,19 @@ use Rattle.limbo_things.proofs.Found.{bind_some, bind_none, bind_is}
 
 -- ---- of values
 
-pub tells_part : (defs : List Def) (name : List ℕ) (of : Ty) (k : ℕ) (t : Ty) (b : Bool) → b ≡ is_settled t → Names defs name of k t
-    → Tells b (HasPart defs name of)
-tells_part defs name of k t true e n = (k, t, n, settled_is t (sym e))
+pub tells_part : (defs : List Def) (name : List ℕ) (of : Ty) (k : ℕ) (t : Ty) (b : Bool) → b ≡ is_settled of && is_settled t
+    → Names defs name of k t → Tells b (HasPart defs name of)
+tells_part defs name of k t true e n = let p = both_true (is_settled of) (is_settled t) (sym e) in (k, t, n, settled_is t p.1, settled_is of p.0)
 tells_part defs name of k t false e n = λ h.
-    let p = one defs name of k h.0 t h.1 n h.2 in not_settled t (sym e) (subst (λ (z : Ty). IsSettled z) (sym p.1) h.3)
+    let p = one defs name of k h.0 t h.1 n h.2 in
+    let q : is_settled t ≡ true = settled_true t (subst (λ (z : Ty). IsSettled z) (sym p.1) h.3) in
+    let f : false ≡ true = e ∙ rw (settled_true of h.4, q) refl in
+    absurd cc
 
 no_selects : (defs : List Def) (name : List ℕ) (e x : Expr) → (HasPart defs name (type_of e) → ⊥) → Selects defs name e x → ⊥
-no_selects defs name _ _ none (rule.Selects.in_place of p k t h n s) = none (k, t, n, s)
-no_selects defs name _ _ none (rule.Selects.in_value of i k t h j n s) = none (k, t, n, s)
-no_selects defs name _ _ none (rule.in_target a r k t h n s) = none (k, t, n, s)
+no_selects defs name _ _ none (rule.Selects.in_place of p k t h n s) = none (k, t, n, s, parts_settled of h)
+no_selects defs name _ _ none (rule.Selects.in_value of i k t h j n s) = none (k, t, n, s, parts_settled of h)
+no_selects defs name _ _ none (rule.in_target a r k t h n s) = none (k, t, n, s, ref_settled a (type_of r) h)
 
 untold : (b : Bool) (P : Type 0) → Tells b P → b ≡ false → P → ⊥
 untold b P h e = let Q : Bool → Type 0 = λ z. Tells z P in subst Q e h

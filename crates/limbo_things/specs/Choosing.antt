@@ -33,9 +33,9 @@ own_adt _ = None
 abbrev pub adt_member_of_value : Context → List ℕ → Expr → Option Thing
 adt_member_of_value c name e = adt_of (type_of e) >>= λ a. member_at c a (Present e) name
 
--- A value of a type has a part of this name, of a type that is settled.
+-- A value of a type has a part of this name, and its type is settled, and so is the part's.
 abbrev pub HasPart : List Def → List ℕ → Ty → Type 0
-HasPart defs name of = (part : ℕ) × (t : Ty) × Names defs name of part t × IsSettled t
+HasPart defs name of = (part : ℕ) × (t : Ty) × Names defs name of part t × IsSettled t × IsSettled of
 
 -- What a test says.
 abbrev pub Tells : Bool → Type 0 → Type 0

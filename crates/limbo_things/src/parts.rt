@@ -1,11 +1,12 @@
 //! Parts of values, and members of adts.
 
-ghost use Rattle.std.specs.Prelude.{◌≡◌, ℕ, IfOk, IfErr, IfSome, IfNone, IsSome, None, Some, option_map};
+ghost use Rattle.std.specs.Prelude.{◌≡◌, ◌&&◌, ℕ, IfOk, IfErr, IfSome, IfNone, IsSome, None, Some, option_map};
 ghost use Rattle.limbo_types.specs.Types.{Ty as AnyTy};
 ghost use Rattle.limbo_types.specs.View.{view_ty};
 ghost use Rattle.limbo_layout.specs.View.{view_defs};
 ghost use Rattle.limbo_typed.specs.Sound.{IsSettled};
 ghost use Rattle.limbo_typed.specs.View.{view_expr, view_optional};
+ghost use Rattle.limbo_forms.specs.Forms as forms;
 ghost use Rattle.limbo_fields.specs.Fields.{Names};
 ghost use Rattle.limbo_refusals.specs.Refusals as refusals;
 ghost use Rattle.limbo_refusals.specs.Refusals.{Refuses, NoneIs};
@@ -94,12 +95,19 @@ fn own_adt(t: &Ty) -> Option<u32>
     }
 }
 
-// Whether a value of a type has a part of this name, of a type that is settled. Want of numbers is want of memory.
+// Whether nothing is open in the types of a value and of a part of it.
+fn are_settled(whole: &Ty, part: &Ty) -> bool
+    ensures { result ≡ (forms.is_settled (view_ty whole.now) && forms.is_settled (view_ty part.now)) }
+{
+    is_settled(whole) && is_settled(part)
+}
+
+// Whether a value of a type that is settled has a part of this name, of a type that is settled. Want of numbers is want of memory.
 fn has_part(adts: &[AdtDef], of: &Ty, name: &Text) -> Result<bool, AllocError>
     ensures { IfOk result (λ yes. Tells yes (HasPart (view_defs adts.now) name.now (view_ty of.now))) }
 {
     match part_of(adts, of, name)? {
-        Some(part) => Ok(is_settled(part.ty)),
+        Some(part) => Ok(are_settled(of, part.ty)),
         None => Ok(false),
     }
 }

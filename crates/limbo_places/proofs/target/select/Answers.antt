@@ -12,4 +12,4 @@ returns-in_default-clause-refused c =
 pub returns-clause-typed : goal.returns-clause-typed
 returns-clause-typed c =
     select_answered (view_defs c.args.adts.now) c.args.name.now c.args.base.value c.in_ok-part_at.field-0.value c.in-Some.chosen.part
-    (view_ty c.in-Some.chosen.ty.value) (search rules) (search rules) (search rules)
+    (view_ty c.in-Some.chosen.ty.value) (search rules) (search rules) (search rules) (search rules)
