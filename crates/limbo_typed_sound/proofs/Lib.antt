@@ -1,0 +1,12 @@
+pub mod Lists
+pub mod Ready
+pub mod More
+pub mod Rows
+pub mod Patterns
+pub mod Built
+pub mod Named
+pub mod Leading
+pub mod Bodies
+pub mod Typed
+pub mod Spelled
+pub mod Tokens
