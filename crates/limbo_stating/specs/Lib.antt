@@ -1,0 +1,11 @@
+pub mod Reasons
+pub mod Around
+pub mod Cases
+pub mod Alts
+pub mod Picks
+pub mod Handlers
+pub mod Raising
+pub mod Stating
+pub mod FailsToState
+pub mod Functions
+pub mod Laws
