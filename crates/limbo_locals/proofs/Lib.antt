@@ -1,0 +1,4 @@
+mod Freed
+mod Imported
+mod Pushed
+mod Rules
