@@ -1,0 +1,19 @@
+use Rattle.limbo_tree.specs.View as source
+use Rattle.limbo_typed.specs.View.{view_expr}
+use Rattle.limbo_context.specs.View.{view_context, view_body}
+use Rattle.limbo_stmt_values.proofs.Told.{if_err}
+use Rattle.limbo_stmt_values.proofs.Rules.{spawn_untyped, spawn_no_call}
+use Rattle.limbo_stmt_values.proofs.expressions.spawned.Goals as goal
+
+pub returns-in-Ok-clause-refused : goal.returns-in-Ok-clause-refused
+returns-in-Ok-clause-refused c =
+    if_err c.unanswered.result _ _
+    (λ f h.
+    spawn_no_call (view_context c.args.context.now) (view_body c.args.body.now) (source.view_expr c.args.e.now) (view_expr c.in-Ok.x.value)
+    (view_body c.check.new.body) f.cause c.in-Ok.ensures.typed h)
+    c.unanswered.ensures.refused
+
+pub returns-in-Err-clause-refused : goal.returns-in-Err-clause-refused
+returns-in-Err-clause-refused c =
+    spawn_untyped (view_context c.args.context.now) (view_body c.args.body.now) (source.view_expr c.args.e.now) c.in-Err.fault.cause
+    c.in-Err.ensures.refused

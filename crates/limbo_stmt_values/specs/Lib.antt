@@ -1,0 +1,5 @@
+pub mod Leading
+pub mod Answering
+pub mod Choosing
+pub mod Whys
+pub mod Labels
