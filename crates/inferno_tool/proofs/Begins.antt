@@ -1,5 +1,6 @@
 -- A module with a function of the name `init` begins in the first of that name.
-use Rattle.std.proofs.Common.{◌≡◌, ℕ, zero, suc, ◌+◌, Bool, true, false, List, [], ◌∷◌, map, Some, refl, sym, ap, ◌∙◌, arith, codes, if◌then◌else◌}
+use Rattle.std.proofs.Common.{◌≡◌, ℕ, zero, suc, ◌+◌, Bool, true, false, List, [], ◌∷◌, map, Some, refl, sym, ap, ◌∙◌, arith, codes}
+use Rattle.std.proofs.Common.{if◌then◌else◌}
 use Rattle.std.specs.Prelude.{slice_get}
 use Rattle.std.specs.Option.{option_map}
 use Rattle.std.specs.Str.{bytes_eq}
@@ -30,13 +31,15 @@ module _ (name : List ℕ) where
   first from [] n f at is = absurd cc
   first from (g ∷ fs) n f at is = go (bytes_eq g.name name) refl (λ k at. first (suc from) fs k f at is) n at
     where
-      go : (b : Bool) → bytes_eq g.name name ≡ b → ((k : ℕ) → slice_get fs k ≡ Some f → First (suc from) name fs) → (n : ℕ) → slice_get (g ∷ fs) n ≡ Some f → First from name (g ∷ fs)
+      go : (b : Bool) → bytes_eq g.name name ≡ b → ((k : ℕ) → slice_get fs k ≡ Some f → First (suc from) name fs) → (n : ℕ) → slice_get (g
+          ∷ fs) n ≡ Some f → First from name (g ∷ fs)
       go true e later n at = record {
         place = 0;
         function = g;
         there = refl;
         named = (bytes_eq-Decides g.name name).0 e;
-        found = ap (λ b. if b then Some from else find (suc from) name (map function_code fs)) e ∙ (let near : from ≡ 0 + from = omega arith in ap Some near);
+        found = ap (λ b. if b then Some from else find (suc from) name (map function_code fs)) e ∙ (let near : from ≡ 0 + from = omega
+            arith in ap Some near);
       }
       go false e later zero at =
           let here : g ≡ f = cc in
@@ -52,7 +55,8 @@ module _ (name : List ℕ) where
             found = ap (λ b. if b then Some from else find (suc from) name (map function_code fs)) e ∙ r.found ∙ ap Some far;
           }
 
-pub compiled : (m : Module) (o : Object) → IsProper m → IsWithin m → o ≡ object_for m → StringsSpell o → HasFunctionNamed (codes "init") m → IsCompiled m o
+pub compiled : (m : Module) (o : Object) → IsProper m → IsWithin m → o ≡ object_for m → StringsSpell o → HasFunctionNamed (codes "init") m
+    → IsCompiled m o
 compiled m o proper within same spelled has =
     let r = first (codes "init") 0 m.functions has.number has.function has.there has.named in
     let near : r.place + 0 ≡ r.place = omega arith in

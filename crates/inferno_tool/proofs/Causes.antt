@@ -17,7 +17,8 @@ use Rattle.source_names.specs.declared.refusal.NamesFault.TheVariants as names_f
 use Rattle.source_names.proofs.Read.{reachable}
 use Rattle.inferno_tool.specs.Built.{HasTree, HasNames}
 use Rattle.inferno_tool.specs.Faults.{of_bytes, of_text, of_names, of_tree}
-use Rattle.inferno_tool.specs.Reading.{IsReadFault, IsTreeReadFault, IsFaultOf, IsUnnamed, IsUnread, itself, included, cause_of_files, cause_of_names}
+use Rattle.inferno_tool.specs.Reading.{IsReadFault, IsTreeReadFault, IsFaultOf, IsUnnamed, IsUnread, itself, included, cause_of_files}
+use Rattle.inferno_tool.specs.Reading.{cause_of_names}
 use Rattle.inferno_tool.specs.Outcome.{Course, IsCause, IsRefusal}
 use Rattle.inferno_command.specs.Words.{named_file}
 use Rattle.inferno_tool.specs.declared.cause.Cause.{Cause}
@@ -31,14 +32,17 @@ rose_wider before middle now l rose = omega arith
 -- a source that is there and is refused by its bytes
 pub bytes_unread : (told : Told) (path source : List ℕ) (before now : ℕ) (fault : ReadFault) (cause : Cause) → Has told path source
     → IsReadFault source fault → IsFaultOf path fault cause → IsUnread told path before now cause
-bytes_unread told path source before now fault cause stands is (inl memory) = subst (λ (x : Cause). IsUnread told path before now x) (sym memory) tt
+bytes_unread told path source before now fault cause stands is (inl memory) = subst (λ (x : Cause). IsUnread told path before now x) (sym
+    memory) tt
 bytes_unread told path source before now fault cause stands is (inr of) =
     subst (λ (x : Cause). IsUnread told path before now x) (sym of.2)
     (record { source = source; stands = stands; because = of_bytes of.0 (subst (λ (x : ReadFault). IsReadFault source x) of.1 is) })
 
 -- one that is refused by its tree
-pub tree_unread : (told : Told) (path source : List ℕ) (tree : Source) (before now : ℕ) (fault : ReadFault) (cause : Cause) → Has told path source
-    → HasTree source tree → HasNames told path tree → IsTreeReadFault tree fault → IsFaultOf path fault cause → IsUnread told path before now cause
+pub tree_unread : (told : Told) (path source : List ℕ) (tree : Source) (before now : ℕ) (fault : ReadFault) (cause : Cause) → Has told
+    path source
+    → HasTree source tree → HasNames told path tree → IsTreeReadFault tree fault → IsFaultOf path fault cause → IsUnread told path before
+    now cause
 tree_unread told path source tree before now fault cause stands has names is (inl memory) =
     subst (λ (x : Cause). IsUnread told path before now x) (sym memory) tt
 tree_unread told path source tree before now fault cause stands has names is (inr of) =
@@ -78,7 +82,8 @@ files_unnamed told path source before now (files_fault.Parse file fault span) is
 
 -- names that are refused
 pub names_unnamed : (told : Told) (path : List ℕ) (tree : Source) (before now : ℕ) (fault : NamesFault)
-    → (AreTold told → AreTexts told path tree.tops) → FailsBy told path tree fault → IsUnnamed told path tree before now (cause_of_names fault)
+    → (AreTold told → AreTexts told path tree.tops) → FailsBy told path tree fault → IsUnnamed told path tree before now (cause_of_names
+    fault)
 names_unnamed told path tree before now names_fault.NoMemory texts is = tt
 names_unnamed told path tree before now (names_fault.Refused refusal file span) texts is =
     λ source has. of_names tree file refusal span has texts is
@@ -112,7 +117,8 @@ refusal_cause c (Limit quanta) is = absurd is
 refusal_cause c (SinkFault out err) is = absurd is
 
 -- a read of the first file that failed
-pub first_unread : (told : Told) (path : List ℕ) (before now : ℕ) (cause : Cause) → Rose before now → (cause ≡ Host path false) ⊎ (cause ≡ NoMemory)
+pub first_unread : (told : Told) (path : List ℕ) (before now : ℕ) (cause : Cause) → Rose before now → (cause ≡ Host path false) ⊎ (cause ≡
+    NoMemory)
     → IsUnread told path before now cause
 first_unread told path before now cause rose (inl e) = subst (λ (x : Cause). IsUnread told path before now x) (sym e) (itself, rose)
 first_unread told path before now cause rose (inr e) = subst (λ (x : Cause). IsUnread told path before now x) (sym e) tt

@@ -4,7 +4,8 @@ use Rattle.std.specs.Prelude.{Option, Some, None}
 use Rattle.inf_ports.specs.Outside.{Told, Has, Lacks, Rose}
 use Rattle.limbo_small.specs.Typed.{Module}
 use Rattle.inferno_tool.specs.Built.{IsBuilt}
-use Rattle.inferno_tool.specs.Outcome.{Course, HasProgram, IsAccepted, IsCause, IsEndUnlessMemory, IsRefusal, IsRunEnd, IsSinkFault, IsSourceRefusal, IsUnlessMemory, Tells, TellsProgram}
+use Rattle.inferno_tool.specs.Outcome.{Course, HasProgram, IsAccepted, IsCause, IsEndUnlessMemory, IsRefusal, IsRunEnd, IsSinkFault}
+use Rattle.inferno_tool.specs.Outcome.{IsSourceRefusal, IsUnlessMemory, Tells, TellsProgram}
 use Rattle.inferno_command.specs.Words.{named_file}
 use Rattle.inferno_tool.specs.declared.cause.Cause.{Cause}
 use Rattle.inferno_tool.specs.declared.cause.Cause.TheVariants.{Done, Broke, Usage, BadSource, BadObject, Limit, Host, SinkFault, NoMemory}
@@ -34,15 +35,20 @@ pub told_not_lacking : {A : Type 0} (told : Told) (path source : List ℕ) → T
 told_not_lacking None path source tells lacks = absurd tells
 told_not_lacking (Some files) path source tells lacks = let same : Some source ≡ None = sym tells ∙ lacks in cc
 
-refused_accepted : {A : Type 0} (c : Course) (a : HasProgram c.words c.told) (file source : List ℕ) → named_file c.words ≡ Some file → Tells c.told file (Some source) → ((m : Module) → IsBuilt c.told file source m → ⊥) → A
+refused_accepted : {A : Type 0} (c : Course) (a : HasProgram c.words c.told) (file source : List ℕ) → named_file c.words ≡ Some file →
+    Tells c.told file (Some source) → ((m : Module) → IsBuilt c.told file source m → ⊥) → A
 refused_accepted c a file source named tells outside =
-    let there : Has c.told file a.accepted.read.source = (let P : List ℕ → Type 0 = λ x. Has c.told x a.accepted.read.source in subst P (one_file c.words a.file file a.accepted.named named) a.accepted.read.stands) in
+    let there : Has c.told file a.accepted.read.source = (let P : List ℕ → Type 0 = λ x. Has c.told x a.accepted.read.source in subst P
+    (one_file c.words a.file file a.accepted.named named) a.accepted.read.stands) in
     let same : source ≡ a.accepted.read.source = same_bytes c.told file source a.accepted.read.source tells there in
     let here : IsBuilt c.told file a.accepted.read.source a.program =
-    (let P : List ℕ → Type 0 = λ x. IsBuilt c.told x a.accepted.read.source a.program in subst P (one_file c.words a.file file a.accepted.named named) a.accepted.read.built) in
+    (let P : List ℕ → Type 0 = λ x. IsBuilt c.told x a.accepted.read.source a.program in subst P (one_file c.words a.file file
+    a.accepted.named named) a.accepted.read.built) in
     absurd (outside a.program (let P : List ℕ → Type 0 = λ x. IsBuilt c.told file x a.program in subst P (sym same) here))
 
-pub refused : (c : Course) (cause : Cause) → IsCause c cause → (file source : List ℕ) → named_file c.words ≡ Some file → Tells c.told file (Some source) → ((m : Module) → IsBuilt c.told file source m → ⊥) → (Rose c.files_before c.files_after → ⊥) → IsSourceRefusal c.told file source cause
+pub refused : (c : Course) (cause : Cause) → IsCause c cause → (file source : List ℕ) → named_file c.words ≡ Some file → Tells c.told file
+    (Some source) → ((m : Module) → IsBuilt c.told file source m → ⊥) → (Rose c.files_before c.files_after → ⊥) → IsSourceRefusal c.told
+    file source cause
 refused c Done is file source named tells outside calm = refused_accepted c is.0 file source named tells outside
 refused c (Broke broken) is file source named tells outside calm = refused_accepted c is.0 file source named tells outside
 refused c (Limit quanta) is file source named tells outside calm = refused_accepted c is.0 file source named tells outside
@@ -51,7 +57,8 @@ refused c (BadSource other fault) is file source named tells outside calm =
     let here : is.0 ≡ file = one_file c.words is.0 file is.1 named in
     let there : Has c.told file is.2.source = (let P : List ℕ → Type 0 = λ x. Has c.told x is.2.source in subst P here is.2.stands) in
     let same : source ≡ is.2.source = same_bytes c.told file source is.2.source tells there in
-    let because : IsFault c.told file is.2.source other fault = (let P : List ℕ → Type 0 = λ x. IsFault c.told x is.2.source other fault in subst P here is.2.because) in
+    let because : IsFault c.told file is.2.source other fault = (let P : List ℕ → Type 0 = λ x. IsFault c.told x is.2.source other fault
+    in subst P here is.2.because) in
     let P : List ℕ → Type 0 = λ x. IsFault c.told file x other fault in
     subst P (sym same) because
 refused c (BadObject other fault) is file source named tells outside calm = absurd is
@@ -71,7 +78,8 @@ pub risen_further : (before now later : ℕ) → now ≤ later → Rose before n
 risen_further before now later up rose = omega arith
 
 -- a told program isn't refused, but for want of memory
-pub unrefused : (words : List (List ℕ)) (told : Told) (before after : ℕ) (cause : Cause) (program : Module) → IsRefusal words told before after cause → TellsProgram words told program → (Rose before after → ⊥) → cause ≡ NoMemory
+pub unrefused : (words : List (List ℕ)) (told : Told) (before after : ℕ) (cause : Cause) (program : Module) → IsRefusal words told before
+    after cause → TellsProgram words told program → (Rose before after → ⊥) → cause ≡ NoMemory
 unrefused words told before after Done program is t calm = absurd is
 unrefused words told before after (Broke broken) program is t calm = absurd is
 unrefused words told before after (Limit quanta) program is t calm = absurd is
@@ -82,8 +90,10 @@ unrefused words told before after (BadSource other fault) program is t calm =
     let here : is.0 ≡ t.file = one_file words is.0 t.file is.1 t.named in
     let there : Has told t.file is.2.source = (let P : List ℕ → Type 0 = λ x. Has told x is.2.source in subst P here is.2.stands) in
     let same : t.source ≡ is.2.source = same_bytes told t.file t.source is.2.source t.tells there in
-    let because : IsFault told t.file is.2.source other fault = (let P : List ℕ → Type 0 = λ x. IsFault told x is.2.source other fault in subst P here is.2.because) in
-    let built : IsBuilt told t.file is.2.source program = (let P : List ℕ → Type 0 = λ x. IsBuilt told t.file x program in subst P same t.built) in
+    let because : IsFault told t.file is.2.source other fault = (let P : List ℕ → Type 0 = λ x. IsFault told x is.2.source other fault in
+    subst P here is.2.because) in
+    let built : IsBuilt told t.file is.2.source program = (let P : List ℕ → Type 0 = λ x. IsBuilt told t.file x program in subst P same
+    t.built) in
     absurd (faulty told (are_told told t.file (Some t.source) t.tells) t.file is.2.source other fault because program built)
 unrefused words told before after (BadObject other fault) program is t calm = absurd is
 unrefused words told before after (Host path true) program is t calm =
@@ -92,14 +102,19 @@ unrefused words told before after (Host path true) program is t calm =
 unrefused words told before after (Host path false) program is t calm = absurd (calm is.3)
 
 -- a told program ends by itself where no count rises, unless memory runs out
-pub ends : (c : Course) (cause : Cause) → IsCause c cause → (program : Module) → TellsProgram c.words c.told program → (Rose c.files_before c.files_after → ⊥) → (Rose c.out_before c.out_after → ⊥) → (Rose c.err_before c.err_after → ⊥) → IsEndUnlessMemory cause
+pub ends : (c : Course) (cause : Cause) → IsCause c cause → (program : Module) → TellsProgram c.words c.told program → (Rose
+    c.files_before c.files_after → ⊥) → (Rose c.out_before c.out_after → ⊥) → (Rose c.err_before c.err_after → ⊥) → IsEndUnlessMemory
+    cause
 ends c Done is program t calm quiet silent = tt
 ends c (Broke broken) is program t calm quiet silent = tt
 ends c (Limit quanta) is program t calm quiet silent = tt
-ends c Usage is program t calm quiet silent = subst IsEndUnlessMemory (sym (unrefused c.words c.told c.files_before c.files_after Usage program is t calm)) tt
-ends c (BadSource file fault) is program t calm quiet silent = subst IsEndUnlessMemory (sym (unrefused c.words c.told c.files_before c.files_after (BadSource file fault) program is t calm)) tt
+ends c Usage is program t calm quiet silent = subst IsEndUnlessMemory (sym (unrefused c.words c.told c.files_before c.files_after Usage
+    program is t calm)) tt
+ends c (BadSource file fault) is program t calm quiet silent = subst IsEndUnlessMemory (sym (unrefused c.words c.told c.files_before
+    c.files_after (BadSource file fault) program is t calm)) tt
 ends c (BadObject file fault) is program t calm quiet silent = absurd is
-ends c (Host path missing) is program t calm quiet silent = subst IsEndUnlessMemory (sym (unrefused c.words c.told c.files_before c.files_after (Host path missing) program is t calm)) tt
+ends c (Host path missing) is program t calm quiet silent = subst IsEndUnlessMemory (sym (unrefused c.words c.told c.files_before
+    c.files_after (Host path missing) program is t calm)) tt
 ends c (SinkFault out err) is program t calm quiet silent =
     elim is.3 [
       | inl rose ↦ absurd (quiet (let P : ℕ → Type 0 = λ x. Rose c.out_before x in subst P is.1 rose))
@@ -108,7 +123,9 @@ ends c (SinkFault out err) is program t calm quiet silent =
 ends c NoMemory is program t calm quiet silent = tt
 
 -- the closing line changes no cause, whatever it does to the count of `err`
-pub later_cause : (c : Course) (after : ℕ) (cause : Cause) → c.err_after ≤ after → IsCause c cause → IsCause (record c { err_after = after }) cause
+pub later_cause : (c : Course) (after : ℕ) (cause : Cause) → c.err_after ≤ after → IsCause c cause → IsCause (record c {
+  err_after = after;
+}) cause
 later_cause c after Done up is = (is.0, (is.1.0, omega (arith, is.1.1), is.1.2))
 later_cause c after (Broke broken) up is = (is.0, (is.1.0, omega (arith, is.1.1), is.1.2))
 later_cause c after (Limit quanta) up is = (is.0, (is.1.0, omega (arith, is.1.1), is.1.2))
@@ -121,19 +138,58 @@ later_cause c after (SinkFault out err) up is = (is.0, is.1, omega arith, is.3)
 later_cause c after NoMemory up is = tt
 
 -- the accepted program is the one that the told program is, in the same file
-pub same_program : (words : List (List ℕ)) (told : Told) (program : Module) (t : TellsProgram words told program) (file : List ℕ) (m : Module) → IsAccepted words told file m → (file ≡ t.file) × (m ≡ program)
+pub same_program : (words : List (List ℕ)) (told : Told) (program : Module) (t : TellsProgram words told program) (file : List ℕ) (m :
+    Module) → IsAccepted words told file m → (file ≡ t.file) × (m ≡ program)
 same_program words told program t file m a =
     let here : file ≡ t.file = one_file words file t.file a.named t.named in
     let there : Has told t.file a.read.source = (let P : List ℕ → Type 0 = λ x. Has told x a.read.source in subst P here a.read.stands) in
     let same : t.source ≡ a.read.source = same_bytes told t.file t.source a.read.source t.tells there in
-    let own : IsBuilt told t.file a.read.source m = (let P : List ℕ → Type 0 = λ x. IsBuilt told x a.read.source m in subst P here a.read.built) in
-    (here, one_module told t.file a.read.source m program own (let P : List ℕ → Type 0 = λ x. IsBuilt told t.file x program in subst P same t.built))
+    let own : IsBuilt told t.file a.read.source m = (let P : List ℕ → Type 0 = λ x. IsBuilt told x a.read.source m in subst P here
+    a.read.built) in (
+      here,
+      one_module told t.file a.read.source m program own (let P : List ℕ → Type 0 = λ x. IsBuilt told t.file x program in subst P
+          same t.built),
+    )
 
 -- how the run of an accepted program ends is a cause
-pub run_cause : (c : Course) (cause : Cause) → HasProgram c.words c.told → IsRunEnd c.out_before c.out_after c.err_after cause → c.err_before ≡ c.err_after → IsCause c cause
-run_cause c Done program end same = (program, (c.err_after, omega arith, (end.0, (let P : ℕ → Type 0 = λ n. Rose n c.err_after → ⊥ in subst P (sym same) end.1))))
-run_cause c (Broke broken) program end same = (program, (c.err_after, omega arith, (end.0, (let P : ℕ → Type 0 = λ n. Rose n c.err_after → ⊥ in subst P (sym same) end.1))))
-run_cause c (Limit quanta) program end same = (program, (c.err_after, omega arith, (end.0, (let P : ℕ → Type 0 = λ n. Rose n c.err_after → ⊥ in subst P (sym same) end.1))))
+pub run_cause : (c : Course) (cause : Cause) → HasProgram c.words c.told → IsRunEnd c.out_before c.out_after c.err_after cause →
+    c.err_before ≡ c.err_after → IsCause c cause
+run_cause c Done program end same = (
+  program,
+  (
+    c.err_after,
+    omega arith,
+    (
+      end.0,
+      (let P : ℕ → Type 0 = λ n. Rose n c.err_after → ⊥ in
+          subst P (sym same) end.1),
+    ),
+  ),
+)
+run_cause c (Broke broken) program end same = (
+  program,
+  (
+    c.err_after,
+    omega arith,
+    (
+      end.0,
+      (let P : ℕ → Type 0 = λ n. Rose n c.err_after →
+          ⊥ in subst P (sym same) end.1),
+    ),
+  ),
+)
+run_cause c (Limit quanta) program end same = (
+  program,
+  (
+    c.err_after,
+    omega arith,
+    (
+      end.0,
+      (let P : ℕ → Type 0 = λ n. Rose n c.err_after →
+          ⊥ in subst P (sym same) end.1),
+    ),
+  ),
+)
 run_cause c Usage program end same = absurd end
 run_cause c (BadSource other fault) program end same = absurd end
 run_cause c (BadObject other fault) program end same = absurd end
@@ -144,20 +200,24 @@ run_cause c (SinkFault out err) program end same = (
   omega (arith, end.1),
   elim end.2 [
     | inl rose ↦ inl (let P : ℕ → Type 0 = λ n. Rose c.out_before n in subst P (sym end.0) rose)
-    | inr rose ↦ inr (let P : ℕ → Type 0 = λ n. Rose n err in subst P (sym same) (let Q : ℕ → Type 0 = λ n. Rose c.err_after n in subst Q (sym end.1) rose))
+    | inr rose ↦ inr (let P : ℕ → Type 0 = λ n. Rose n err in subst P (sym same) (let Q : ℕ → Type 0 = λ n. Rose c.err_after n in subst Q
+        (sym end.1) rose))
   ],
 )
 run_cause c NoMemory program end same = tt
 
 -- where a count of output rose, a told program ends so, unless memory ran out
-pub failed : (c : Course) (cause : Cause) → IsCause c cause → (program : Module) → TellsProgram c.words c.told program → (Rose c.files_before c.files_after → ⊥) → Rose c.out_before c.out_after → IsSinkFault cause ⊎ (cause ≡ NoMemory)
+pub failed : (c : Course) (cause : Cause) → IsCause c cause → (program : Module) → TellsProgram c.words c.told program → (Rose
+    c.files_before c.files_after → ⊥) → Rose c.out_before c.out_after → IsSinkFault cause ⊎ (cause ≡ NoMemory)
 failed c Done is program t calm rose = absurd (is.1.2.0 rose)
 failed c (Broke broken) is program t calm rose = absurd (is.1.2.0 rose)
 failed c (Limit quanta) is program t calm rose = absurd (is.1.2.0 rose)
 failed c Usage is program t calm rose = inr (unrefused c.words c.told c.files_before c.files_after Usage program is t calm)
-failed c (BadSource other fault) is program t calm rose = inr (unrefused c.words c.told c.files_before c.files_after (BadSource other fault) program is t calm)
+failed c (BadSource other fault) is program t calm rose = inr (unrefused c.words c.told c.files_before c.files_after (BadSource other
+    fault) program is t calm)
 failed c (BadObject other fault) is program t calm rose = absurd is
-failed c (Host path missing) is program t calm rose = inr (unrefused c.words c.told c.files_before c.files_after (Host path missing) program is t calm)
+failed c (Host path missing) is program t calm rose = inr (unrefused c.words c.told c.files_before c.files_after (Host path missing)
+    program is t calm)
 failed c (SinkFault out err) is program t calm rose = inl tt
 failed c NoMemory is program t calm rose = inr refl
 

@@ -13,7 +13,8 @@ use Rattle.source_names.specs.Declares.{Fails}
 use Rattle.source_names.specs.Laws.{IsNoText}
 use Rattle.source_names.proofs.Refused.{refused, no_text_there}
 use Rattle.inferno_tool.specs.declared.cause.SourceFault.{SourceFault}
-use Rattle.inferno_tool.specs.declared.cause.SourceFault.TheVariants.{Lex, Parse, Names, Unbuilt, Unmet, NoInit, FrameTooLarge, CodeTooLarge}
+use Rattle.inferno_tool.specs.declared.cause.SourceFault.TheVariants.{Lex, Parse, Names, Unbuilt, Unmet, NoInit, FrameTooLarge}
+use Rattle.inferno_tool.specs.declared.cause.SourceFault.TheVariants.{CodeTooLarge}
 use Rattle.inferno_tool.proofs.Trees.{tree_of}
 
 unprogrammed : (tree : Source) (fault : SourceFault) → IsTreeFault tree fault → (m : Module) → IsProgram tree m → ⊥

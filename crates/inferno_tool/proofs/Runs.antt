@@ -1,5 +1,6 @@
 -- What a run of a program leaves, from what the run of its machine does.
-use Rattle.std.proofs.Common.{◌≡◌, ◌≢◌, ℕ, List, [], ◌∷◌, map, Bool, true, false, Option, Some, None, ◌⊎◌, inl, inr, refl, subst, sym, ap, ◌∙◌, if◌then◌else◌}
+use Rattle.std.proofs.Common.{◌≡◌, ◌≢◌, ℕ, List, [], ◌∷◌, map, Bool, true, false, Option, Some, None, ◌⊎◌, inl, inr, refl, subst, sym, ap}
+use Rattle.std.proofs.Common.{◌∙◌, if◌then◌else◌}
 use Rattle.std.specs.Prelude.{IsSome, nat_le, ◌&&◌}
 use Rattle.inf_ports.specs.Outside.{Told, Rose}
 use Rattle.dis_file.specs.declared.object.Object.{Object}
@@ -28,7 +29,8 @@ use Rattle.inferno_tool.specs.declared.cause.Cause.TheVariants.{Done, Broke, Usa
 
 -- ---- how a run of a program ends
 
-own_end : (limit n : ℕ) (t : State) (how : End) → fault_in t.trace ≡ None → (how ≡ end.NoMemory) ⊎ (ended_in limit n t ≡ Some how) → IsOwnEnd how
+own_end : (limit n : ℕ) (t : State) (how : End) → fault_in t.trace ≡ None → (how ≡ end.NoMemory) ⊎ (ended_in limit n t ≡ Some how) →
+    IsOwnEnd how
 own_end limit n t how sound (inl e) = subst IsOwnEnd (sym e) tt
 own_end limit n t how sound (inr e) = by_limit (nat_le limit n && any_live t.processes) e
   where
@@ -37,11 +39,13 @@ own_end limit n t how sound (inr e) = by_limit (nat_le limit n && any_live t.pro
     by_over false [] e = let same : end.Done ≡ how = cc in subst IsOwnEnd same tt
     by_over false (b ∷ bs) e = let same : end.Broke ≡ how = cc in subst IsOwnEnd same tt
 
-    by_fault : (f : Option Fault) → f ≡ None → or_else (faulted f) (over (any_live t.processes) (breaches t.trace)) ≡ Some how → IsOwnEnd how
+    by_fault : (f : Option Fault) → f ≡ None → or_else (faulted f) (over (any_live t.processes) (breaches t.trace)) ≡ Some how → IsOwnEnd
+        how
     by_fault None s e = by_over (any_live t.processes) (breaches t.trace) e
     by_fault (Some f) s e = absurd cc
 
-    by_limit : (b : Bool) → or_else (if b then Some end.Limit else None) (or_else (faulted (fault_in t.trace)) (over (any_live t.processes) (breaches t.trace))) ≡ Some how → IsOwnEnd how
+    by_limit : (b : Bool) → or_else (if b then Some end.Limit else None) (or_else (faulted (fault_in t.trace)) (over (any_live
+        t.processes) (breaches t.trace))) ≡ Some how → IsOwnEnd how
     by_limit true e = let same : end.Limit ≡ how = cc in subst IsOwnEnd same tt
     by_limit false e = by_fault (fault_in t.trace) sound e
 
@@ -53,25 +57,32 @@ pub record Led (limit : ℕ) (m : Module) (o : Object) (r : Ran) (old new : Opti
   pub means : (c : IsCompiled m o) → Means m c.init r.journal.events leads.state
   pub own : IsOwnEnd r.end
 
-pub led : (limit : ℕ) (m : Module) (o : Object) (r : Ran) (old new : Option (List ℕ)) (before after : ℕ) → IsCompiled m o → Leads (o ∷ []) limit r old new before after → Led limit m o r old new before after
+pub led : (limit : ℕ) (m : Module) (o : Object) (r : Ran) (old new : Option (List ℕ)) (before after : ℕ) → IsCompiled m o → Leads (o ∷ [])
+    limit r old new before after → Led limit m o r old new before after
 led limit m o r old new before after c l =
-    let there : Leads (object_for m ∷ []) limit r old new before after = subst (λ (x : Object). Leads (x ∷ []) limit r old new before after) c.same l in
+    let there : Leads (object_for m ∷ []) limit r old new before after = subst (λ (x : Object). Leads (x ∷ []) limit r old new before
+    after) c.same l in
     let reached = there.conversation.reached in
     record {
       leads = there;
-      means = λ d. subst (λ (es : List Event). Means m d.init es there.state) (sym reached.all) (journals_mean m c.proper c.within.frames d.init d.first d.enters reached.journal reached.cut there.state reached.reaches);
-      own = own_end limit (quanta r.journal.events) there.state r.end (none_fault m c.proper c.within.frames c.init c.first c.enters reached.journal reached.cut there.state reached.reaches) there.conversation.ended;
+      means = λ d. subst (λ (es : List Event). Means m d.init es there.state) (sym reached.all) (journals_mean m c.proper c.within.frames
+          d.init d.first d.enters reached.journal reached.cut there.state reached.reaches);
+      own = own_end limit (quanta r.journal.events) there.state r.end (none_fault m c.proper c.within.frames c.init c.first c.enters
+          reached.journal reached.cut there.state reached.reaches) there.conversation.ended;
     }
 
 pub started_codes : (limit : ℕ) (path : List ℕ) (o : Object) (machine : Machine) → IsStarted limit path o machine → codes machine ≡ o ∷ []
 started_codes limit path o machine s = ap (map (λ x. x.1)) s.objects
 
-pub run_as : (limit : ℕ) (path : List ℕ) (m : Module) (o : Object) (machine : Machine) (r : Ran) (cause : Cause) (old new : Option (List ℕ)) (before after : ℕ) →
-    IsCompiled m o → IsStarted limit path o machine → Leads (codes machine) machine.limit r old new before after → r.objects ≡ machine.objects →
+pub run_as : (limit : ℕ) (path : List ℕ) (m : Module) (o : Object) (machine : Machine) (r : Ran) (cause : Cause) (old new : Option (List
+    ℕ)) (before after : ℕ) →
+    IsCompiled m o → IsStarted limit path o machine → Leads (codes machine) machine.limit r old new before after → r.objects ≡
+    machine.objects →
     ((t : State) → map view_broken r.broken.items ≡ breaches t.trace → Says limit t r.end cause) →
     IsRun limit path m (Some r.journal) r.objects.items old new before after cause
 run_as limit path m o machine r cause old new before after c s l same says =
-    let at : Leads (o ∷ []) limit r old new before after = subst (λ (n : ℕ). Leads (o ∷ []) n r old new before after) s.limit (subst (λ (os : List Object). Leads os machine.limit r old new before after) (started_codes limit path o machine s) l) in
+    let at : Leads (o ∷ []) limit r old new before after = subst (λ (n : ℕ). Leads (o ∷ []) n r old new before after) s.limit (subst (λ
+    (os : List Object). Leads os machine.limit r old new before after) (started_codes limit path o machine s) l) in
     let k = led limit m o r old new before after c at in (
       ap (λ v. v.items) same ∙ s.objects ∙ ap (λ x. (base_name path, x) ∷ []) c.same,
       record {
@@ -85,10 +96,12 @@ run_as limit path m o machine r cause old new before after c s l same says =
       },
     )
 
-pub own_of : (limit : ℕ) (path : List ℕ) (m : Module) (o : Object) (machine : Machine) (r : Ran) (old new : Option (List ℕ)) (before after : ℕ) →
+pub own_of : (limit : ℕ) (path : List ℕ) (m : Module) (o : Object) (machine : Machine) (r : Ran) (old new : Option (List ℕ)) (before after
+    : ℕ) →
     IsCompiled m o → IsStarted limit path o machine → Leads (codes machine) machine.limit r old new before after → IsOwnEnd r.end
 own_of limit path m o machine r old new before after c s l =
-    let at : Leads (o ∷ []) limit r old new before after = subst (λ (n : ℕ). Leads (o ∷ []) n r old new before after) s.limit (subst (λ (os : List Object). Leads os machine.limit r old new before after) (started_codes limit path o machine s) l) in
+    let at : Leads (o ∷ []) limit r old new before after = subst (λ (n : ℕ). Leads (o ∷ []) n r old new before after) s.limit (subst (λ
+    (os : List Object). Leads os machine.limit r old new before after) (started_codes limit path o machine s) l) in
     (led limit m o r old new before after c at).own
 
 -- ---- the same run, told as another end
@@ -113,7 +126,8 @@ lasted limit t how (BadObject file fault) says e = absurd says
 lasted limit t how (Host path missing) says e = absurd says
 
 module _ (limit : ℕ) (path : List ℕ) (m : Module) (objects : List (List ℕ × Object)) (old new : Option (List ℕ)) (before after : ℕ) where
-  pub run_failed : (journal : Option Journal) (cause : Cause) (out err : ℕ) → IsRun limit path m journal objects old new before after cause → lacks_memory cause ≡ false → IsRun limit path m journal objects old new before after (SinkFault out err)
+  pub run_failed : (journal : Option Journal) (cause : Cause) (out err : ℕ) → IsRun limit path m journal objects old new before after
+      cause → lacks_memory cause ≡ false → IsRun limit path m journal objects old new before after (SinkFault out err)
   run_failed None cause out err r e = absurd (let bad : true ≡ false = sym (ap lacks_memory r.1) ∙ e in cc)
   run_failed (Some journal) cause out err r e = (
     r.0,
@@ -128,7 +142,8 @@ module _ (limit : ℕ) (path : List ℕ) (m : Module) (objects : List (List ℕ 
     },
   )
 
-  pub run_unsaid : (journal : Option Journal) (cause : Cause) → IsRun limit path m journal objects old new before after cause → IsRun limit path m journal objects old new before after NoMemory
+  pub run_unsaid : (journal : Option Journal) (cause : Cause) → IsRun limit path m journal objects old new before after cause → IsRun
+      limit path m journal objects old new before after NoMemory
   run_unsaid None cause r = (r.0, refl)
   run_unsaid (Some journal) cause r = (
     r.0,
@@ -143,7 +158,8 @@ module _ (limit : ℕ) (path : List ℕ) (m : Module) (objects : List (List ℕ 
     },
   )
 
-  run_starts : (journal : Option Journal) (cause : Cause) → IsRun limit path m journal objects old new before after cause → is_run_out cause ≡ true → IsSome journal
+  run_starts : (journal : Option Journal) (cause : Cause) → IsRun limit path m journal objects old new before after cause → is_run_out
+      cause ≡ true → IsSome journal
   run_starts None cause r out = absurd (let bad : false ≡ true = sym (ap is_run_out r.1) ∙ out in cc)
   run_starts (Some journal) cause r out = refl
 
@@ -158,17 +174,20 @@ module _ (limit : ℕ) (path : List ℕ) (m : Module) (objects : List (List ℕ 
   says_unrun t how (BadObject file fault) says un = absurd says
   says_unrun t how (Host path missing) says un = absurd says
 
-  run_not_unrun : {A : Type 0} (journal : Option Journal) (cause : Cause) → IsRun limit path m journal objects old new before after cause → IsUnrun cause → A
+  run_not_unrun : {A : Type 0} (journal : Option Journal) (cause : Cause) → IsRun limit path m journal objects old new before after cause
+      → IsUnrun cause → A
   run_not_unrun None cause r un = absurd (subst IsUnrun r.1 un)
   run_not_unrun (Some journal) cause r un = says_unrun r.1.state r.1.how cause r.1.says un
 
-  nothing_run : (journal : Option Journal) (cause : Cause) → NothingRan journal objects old new → cause ≡ NoMemory → IsRun limit path m journal objects old new before after cause
+  nothing_run : (journal : Option Journal) (cause : Cause) → NothingRan journal objects old new → cause ≡ NoMemory → IsRun limit path m
+      journal objects old new before after cause
   nothing_run None cause n e = (n, e)
   nothing_run (Some journal) cause n e = absurd cc
 
 -- ---- how a run's cause ends it
 
-pub end_of_run : (before after err : ℕ) (cause : Cause) → IsOwnCause cause → (Rose before after → ⊥) → (Rose err err → ⊥) → IsRunEnd before after err cause
+pub end_of_run : (before after err : ℕ) (cause : Cause) → IsOwnCause cause → (Rose before after → ⊥) → (Rose err err → ⊥) → IsRunEnd
+    before after err cause
 end_of_run before after err Done own a b = (a, b)
 end_of_run before after err (Broke broken) own a b = (a, b)
 end_of_run before after err (Limit quanta) own a b = (a, b)
@@ -192,15 +211,23 @@ lacking_end before after err (SinkFault o f) e = absurd cc
 
 -- ---- the whole command
 
-module _ (words : List (List ℕ)) (told : Told) (journal : Option Journal) (objects : List (List ℕ × Object)) (old new : Option (List ℕ)) (before after files_before files_after : ℕ) where
+module _ (words : List (List ℕ)) (told : Told) (journal : Option Journal) (objects : List (List ℕ × Object)) (old new : Option (List ℕ))
+    (before after files_before files_after : ℕ) where
   -- a program was run, or nothing
   abbrev pub Happened : Cause → Type 0
-  Happened cause = HasRun words told journal objects old new before after cause ⊎ (NothingRan journal objects old new × IsRefusal words told files_before files_after cause)
+  Happened cause = HasRun words told journal objects old new before after cause ⊎ (NothingRan journal objects old new × IsRefusal words
+      told files_before files_after cause)
 
   pub closed_ran : (cause last : Cause) → Happened cause → (last ≡ cause) ⊎ (last ≡ NoMemory) → Happened last
   closed_ran cause last h (inl same) = subst Happened (sym same) h
   closed_ran cause last (inl run) (inr memory) =
-      subst Happened (sym memory) (inl (record { file = run.file; program = run.program; accepted = run.accepted; run = run_unsaid (limit_of words) run.file run.program objects old new before after journal cause run.run }))
+      subst Happened (sym memory) (inl (record {
+        file = run.file;
+        program = run.program;
+        accepted = run.accepted;
+        run = run_unsaid
+            (limit_of words) run.file run.program objects old new before after journal cause run.run;
+      }))
   closed_ran cause last (inr none) (inr memory) = subst Happened (sym memory) (inr (none.0, tt))
 
   refused_out : {A : Type 0} (cause : Cause) → IsRefusal words told files_before files_after cause → is_run_out cause ≡ true → A
@@ -228,5 +255,7 @@ module _ (words : List (List ℕ)) (told : Told) (journal : Option Journal) (obj
       IsRun (limit_of words) t.file m journal objects old new before after cause
   told_ran cause m t (inl run) same calm =
       let both = same run.file run.program run.accepted in
-      subst (λ (n : Module). IsRun (limit_of words) t.file n journal objects old new before after cause) both.1 (subst (λ (f : List ℕ). IsRun (limit_of words) f run.program journal objects old new before after cause) both.0 run.run)
-  told_ran cause m t (inr none) same calm = nothing_run (limit_of words) t.file m objects old new before after journal cause none.0 (calm none.1)
+      subst (λ (n : Module). IsRun (limit_of words) t.file n journal objects old new before after cause) both.1 (subst (λ (f : List ℕ).
+      IsRun (limit_of words) f run.program journal objects old new before after cause) both.0 run.run)
+  told_ran cause m t (inr none) same calm = nothing_run (limit_of words) t.file m objects old new before after journal cause none.0 (calm
+      none.1)

@@ -21,7 +21,8 @@ kinds tokens = map (λ t. t.kind) tokens
 abbrev NoList : List ℕ → LexFault → Type 0
 NoList source fault = fault ≢ lex.NoMemory → (text : List ℕ) (list : List Kind) → IsSource source text → HasTokenList text list → ⊥
 
-none_of : (source : List ℕ) (fault : LexFault) → NoList source fault → fault ≢ lex.NoMemory → (tokens : List Kind) → HasTokens source tokens → ⊥
+none_of : (source : List ℕ) (fault : LexFault) → NoList source fault → fault ≢ lex.NoMemory → (tokens : List Kind) → HasTokens source
+    tokens → ⊥
 none_of source fault none other tokens has = none other has.text tokens has.spelled has.cut
 
 pub unlexed_is : (source : List ℕ) (fault : LexFault) → IsRefused source fault → NoList source fault → IsReadFault source (unlexed fault)
@@ -38,7 +39,8 @@ pub record Lexed (source : List ℕ) (tokens : List Token) : Type 0 where
   pub has : HasTokens source (kinds tokens)
   pub only : (list : List Kind) → HasTokens source list → kinds tokens ≡ list
 
-pub lexed_of : (source : List ℕ) (items tokens : List Token) → tokens ≡ items → ((text : List ℕ) × IsSource source text × HasTokenList text (kinds items))
+pub lexed_of : (source : List ℕ) (items tokens : List Token) → tokens ≡ items → ((text : List ℕ) × IsSource source text × HasTokenList
+    text (kinds items))
     → ((text : List ℕ) (list : List Kind) → IsSource source text → HasTokenList text list → kinds items ≡ list) → Lexed source tokens
 lexed_of source items tokens same found only = record {
   has = record { text = found.0; spelled = found.1; cut = subst (λ (l : List Token). HasTokenList found.0 (kinds l)) (sym same) found.2 };

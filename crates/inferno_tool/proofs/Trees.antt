@@ -18,7 +18,8 @@ one_tokens source a b x y =
 
 pub tree_of : (source : List ℕ) (t u : Source) → HasTree source t → HasTree source u → t ≡ u
 tree_of source t u x y =
-    one_tree false y.tokens t u (subst (λ (l : List Kind). IsTree false l t) (one_tokens source x.tokens y.tokens x.lexed y.lexed) x.parsed) y.parsed
+    one_tree false y.tokens t u (subst (λ (l : List Kind). IsTree false l t) (one_tokens source x.tokens y.tokens x.lexed y.lexed)
+    x.parsed) y.parsed
 
 pub one_module : (told : Told) (path source : List ℕ) (m n : Module) → IsBuilt told path source m → IsBuilt told path source n → m ≡ n
 one_module told path source m n x y =

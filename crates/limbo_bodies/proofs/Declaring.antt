@@ -52,7 +52,8 @@ module _ (es : List Entry) (m : ℕ) (name : List ℕ) (once : AreOnce es) where
       none k o (subst (λ (z : ℕ). IsEntry es z o) y i) is
       (subst (λ (z : ℕ). IsMember es (Some z) p k) y (subst (λ (z : List ℕ). IsMember es (Some b) z k) x h))
 
-  pub no_function : (part : Option (List ℕ)) (number : ℕ) (means : List (Option Meaning)) → AreMeanings es m means → IsOf es m name part number
+  pub no_function : (part : Option (List ℕ)) (number : ℕ) (means : List (Option Meaning)) → AreMeanings es m means → IsOf es m name part
+      number
       → function_at means number ≡ None → IsUndeclared es m name part
   no_function part number means meant is none k n e w at h =
       let p : k ≡ number = one_of part k number w is in
@@ -69,9 +70,11 @@ callee_at [] n f h = absurd cc
 callee_at (g ∷ fs) zero f h = let e : g ≡ f = cc in ap (λ z. Some (view_callee z)) e
 callee_at (g ∷ fs) (suc n) f h = callee_at fs n f h
 
-pub of_function : (es : List Entry) (m : ℕ) (name : List ℕ) (part : Option (List ℕ)) (fs : List code_callee.Callee) (number place : ℕ) (e : Entry)
+pub of_function : (es : List Entry) (m : ℕ) (name : List ℕ) (part : Option (List ℕ)) (fs : List code_callee.Callee) (number place : ℕ) (e
+    : Entry)
     (f : code_callee.Callee) → FunctionsAre es m (map view_callee fs) → IsOf es m name part number → IsEntry es number e
-    → meaning_of es m number e ≡ Some (meaning.Function place) → slice_get fs place ≡ Some f → IsOfFunction es m name part place (view_callee f)
+    → meaning_of es m number e ≡ Some (meaning.Function place) → slice_get fs place ≡ Some f → IsOfFunction es m name part place
+    (view_callee f)
 of_function es m name part fs number place e f are is at means there =
     let r = function_of es m number place e (map view_callee fs) are at means in
     let w : slice_get (map view_callee fs) place ≡ Some (view_callee f) = callee_at fs place f there in

@@ -1,5 +1,6 @@
 -- Parameters of which two have one name.
-use Rattle.std.proofs.Common.{◌≡◌, ◌<◌, ℕ, zero, suc, List, [], ◌∷◌, ◌++◌, Option, None, Some, length, slice_get, refl, sym, ap, subst, ◌∙◌, append_assoc, arith}
+use Rattle.std.proofs.Common.{◌≡◌, ◌<◌, ℕ, zero, suc, List, [], ◌∷◌, ◌++◌, Option, None, Some, length, slice_get, refl, sym, ap, subst}
+use Rattle.std.proofs.Common.{◌∙◌, append_assoc, arith}
 use Rattle.std.proofs.lemmas.Option.{slice_get_within}
 use Rattle.limbo_tree.specs.Decls.{Param}
 use Rattle.limbo_types.specs.Types.{Ty}
@@ -53,7 +54,8 @@ repeated _ _ _ ds outer are once (this name ns t ts b x h) =
     let a = f.1 in
     let i : IsAt (names ds) a.place name = name_there ds a.place name f.0 a.there in
     let same : a.place ≡ length (names ds) =
-    once a.place (length (names ds)) name (at_left (names ds) (name ∷ present ns) a.place name i) (at_middle (names ds) (present ns) name) in
+    once a.place (length (names ds)) name (at_left (names ds) (name ∷ present ns) a.place name i) (at_middle (names ds) (present ns) name)
+    in
     let l : a.place < length (names ds) = slice_get_within (names ds) a.place name i in
     absurd (omega arith)
 repeated _ _ _ ds outer are once (further None ns t ts b r) = repeated ns ts (with_parameter None t b) ds outer are once r

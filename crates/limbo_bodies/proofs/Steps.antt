@@ -1,5 +1,6 @@
 -- Parameters that are declared one after the other.
-use Rattle.std.proofs.Common.{◌≡◌, ◌<◌, ◌≤◌, ◌+◌, ℕ, zero, suc, List, [], ◌∷◌, Option, Some, length, drop, get_or, map, refl, sym, ap, subst, ◌∙◌, arith}
+use Rattle.std.proofs.Common.{◌≡◌, ◌<◌, ◌≤◌, ◌+◌, ℕ, zero, suc, List, [], ◌∷◌, Option, Some, length, drop, get_or, map, refl, sym, ap}
+use Rattle.std.proofs.Common.{subst, ◌∙◌, arith}
 use Rattle.std.specs.Borrow.{Bor}
 use Rattle.limbo_tree.specs.declared.name.Name as code_name
 use Rattle.limbo_types.specs.declared.ty.Ty as code_ty
@@ -24,9 +25,11 @@ dropped_all (x ∷ xs) (suc i) l = dropped_all xs i (omega arith)
 
 pub no_types_left : (ns : List (Option (List ℕ))) (types : List code_ty.Ty) (i : ℕ) (b : Body) → length types ≤ i
     → with_parameters ns (map view_ty (drop i types)) b ≡ b
-no_types_left ns types i b l = ap (λ (ts : List code_ty.Ty). with_parameters ns (map view_ty ts) b) (dropped_all types i l) ∙ without_types ns b
+no_types_left ns types i b l = ap (λ (ts : List code_ty.Ty). with_parameters ns (map view_ty ts) b) (dropped_all types i l) ∙
+    without_types ns b
 
-module _ (names : List (Option (Bor code_name.Name))) (types : List code_ty.Ty) (i : ℕ) (name : Option (Bor code_name.Name)) (t : code_ty.Ty) (u : Ty) (b : Body)
+module _ (names : List (Option (Bor code_name.Name))) (types : List code_ty.Ty) (i : ℕ) (name : Option (Bor code_name.Name)) (t :
+    code_ty.Ty) (u : Ty) (b : Body)
     (l : i < length names) (k : i < length types) (n : name ≡ get_or names i name) (y : t ≡ get_or types i t) (s : u ≡ view_ty t) where
   names_are : names_seen (drop i names) ≡ view_parameter name ∷ names_seen (drop (i + 1) names)
   names_are = drop_more view_parameter i names name l n
@@ -39,7 +42,8 @@ module _ (names : List (Option (Bor code_name.Name))) (types : List code_ty.Ty) 
   next = ap (λ ns. with_parameters ns (map view_ty (drop i types)) b) names_are
       ∙ ap (λ ts. with_parameters (view_parameter name ∷ names_seen (drop (i + 1) names)) ts b) types_are
 
-  pub repeats_further : RepeatsName (names_seen (drop (i + 1) names)) (map view_ty (drop (i + 1) types)) (with_parameter (view_parameter name) u b)
+  pub repeats_further : RepeatsName (names_seen (drop (i + 1) names)) (map view_ty (drop (i + 1) types)) (with_parameter (view_parameter
+      name) u b)
       → RepeatsName (names_seen (drop i names)) (map view_ty (drop i types)) b
   repeats_further r =
       subst (λ ns. RepeatsName ns (map view_ty (drop i types)) b) (sym names_are)

@@ -25,7 +25,8 @@ adt_kind : (own out : Bool) (d : Declared) → is_adt d ≡ true → kind_in own
 adt_kind own out (rows.Adt ms pick) h = refl
 adt_kind own out _ h = absurd cc
 
-meant : (es : List Entry) (m k : ℕ) (e : Entry) (l : Kind) → kind_of es m e ≡ Some l → meaning_of es m k e ≡ Some (numbered l (many_of es m l (take k es)))
+meant : (es : List Entry) (m k : ℕ) (e : Entry) (l : Kind) → kind_of es m e ≡ Some l → meaning_of es m k e ≡ Some (numbered l (many_of es
+    m l (take k es)))
 meant es m k e l h = ap (option_map (λ k'. numbered k' (many_of es m k' (take k es)))) h
 
 told : (f : Option Meaning → Option ℕ) (xs : List (Option Meaning)) (k : ℕ) (x : Option Meaning) → slice_get xs k ≡ Some x

@@ -1,5 +1,6 @@
 -- Declarations one after the other: those that a test holds for, and what is told of them.
-use Rattle.std.proofs.Common.{◌≡◌, ◌<◌, ◌+◌, ◌++◌, ◌∷◌, [], ℕ, zero, suc, List, Some, Bool, false, length, slice_get, refl, sym, ap, subst, ◌∙◌, arith}
+use Rattle.std.proofs.Common.{◌≡◌, ◌<◌, ◌+◌, ◌++◌, ◌∷◌, [], ℕ, zero, suc, List, Some, Bool, false, length, slice_get, refl, sym, ap}
+use Rattle.std.proofs.Common.{subst, ◌∙◌, arith}
 use Rattle.limbo_entries.specs.Entries.{Entry, IsEntry}
 
 -- one declaration more for which the test doesn't hold
@@ -19,7 +20,8 @@ appended [] i y v zero n l a b = ap Some (b (omega arith))
 appended [] i y v (suc k) n l a b = absurd (omega arith)
 appended (x ∷ all) zero y v k n l a b = absurd (omega arith)
 appended (x ∷ all) (suc i) y v zero n l a b = a (omega arith)
-appended (x ∷ all) (suc i) y v (suc k) n l a b = appended all i y v k (omega arith) (omega arith) (λ h. a (omega arith)) (λ h. b (omega arith))
+appended (x ∷ all) (suc i) y v (suc k) n l a b = appended all i y v k (omega arith) (omega arith) (λ h. a (omega arith)) (λ h. b (omega
+    arith))
 
 pub one_there : {A : Type 0} → (xs : List A) (i k : ℕ) (x y : A) → slice_get xs i ≡ Some x → slice_get xs k ≡ Some y → k ≡ i → x ≡ y
 one_there xs i k x y p q h = let r : slice_get xs i ≡ Some y = subst (λ z. slice_get xs z ≡ Some y) h q in cc

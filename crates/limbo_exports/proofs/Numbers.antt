@@ -1,5 +1,6 @@
 -- The numbers of functions that are members of modules.
-use Rattle.std.proofs.Common.{◌≡◌, ◌≤◌, ◌-◌, ◌+◌, ◌==◌, ◌&&◌, ℕ, Bool, true, List, Option, Some, None, take, count_by, refl, sym, ap, subst, ◌∙◌, arith}
+use Rattle.std.proofs.Common.{◌≡◌, ◌≤◌, ◌-◌, ◌+◌, ◌==◌, ◌&&◌, ℕ, Bool, true, List, Option, Some, None, take, count_by, refl, sym, ap}
+use Rattle.std.proofs.Common.{subst, ◌∙◌, arith}
 use Rattle.limbo_declarations.specs.Rows as rows
 use Rattle.limbo_declarations.specs.Rows.{Declared}
 use Rattle.limbo_scope.specs.declared.meaning.Meaning.{Meaning}

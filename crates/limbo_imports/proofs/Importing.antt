@@ -43,7 +43,8 @@ module _ (es : List Entry) (m : ℕ) (means others : List (Option Meaning)) (sco
     pub no_member : HasNone es (Some outer) name → HasNoImport es m means others scope source name
     no_member none x i = none i.number (subst (λ (z : ℕ). IsMember es (Some z) name i.number) (same x i) i.member)
 
-    pub no_export : (number : ℕ) → IsMember es (Some outer) name number → meaning_at others number ≡ None → HasNoImport es m means others scope source name
+    pub no_export : (number : ℕ) → IsMember es (Some outer) name number → meaning_at others number ≡ None → HasNoImport es m means others
+        scope source name
     no_export number member h x i =
         let q : i.number ≡ number =
         once (Some outer) name i.number number (subst (λ (z : ℕ). IsMember es (Some z) name i.number) (same x i) i.member) member in
@@ -67,7 +68,8 @@ other_kind own false (declared.Inferred e) n = refl
 other_kind own out _ n = refl
 
 module _ (es : List Entry) (m : ℕ) (means others : List (Option Meaning)) where
-  pub import_yes : (k : ℕ) (e : Entry) (source : List ℕ) (xs : List Imported) (x : Imported) → IsEntry es k e → e.row.means ≡ rows.Imported source
+  pub import_yes : (k : ℕ) (e : Entry) (source : List ℕ) (xs : List Imported) (x : Imported) → IsEntry es k e → e.row.means ≡
+      rows.Imported source
       → IsImported es m means others e.within source e.row.name x → ImportsTo es m means others k xs
       → ImportsTo es m means others (k + 1) (xs ++ (x ∷ []))
   import_yes k e source xs x i p h listed =
@@ -81,7 +83,8 @@ module _ (es : List Entry) (m : ℕ) (means others : List (Option Meaning)) wher
       table_no (has_kind es m 6) (IsImport es m means others) es k xs (view_entry x) listed i
       (other_kind (is_own es m x.within) (is_outermost m x.within) x.row.declared n)
 
-  pub missing_at : (k n : ℕ) (e : Entry) (source : List ℕ) → fault.NotThere k ≡ fault.NotThere n → IsEntry es k e → e.row.means ≡ rows.Imported source
+  pub missing_at : (k n : ℕ) (e : Entry) (source : List ℕ) → fault.NotThere k ≡ fault.NotThere n → IsEntry es k e → e.row.means ≡
+      rows.Imported source
       → HasNoImport es m means others e.within source e.row.name → IsMissing es m means others n
   missing_at k n e source p i q h =
       let s : k ≡ n = cc in

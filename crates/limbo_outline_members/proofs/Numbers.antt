@@ -1,5 +1,6 @@
 -- A member's number leads to the function that has the name.
-use Rattle.std.proofs.Common.{◌≡◌, ◌≤◌, ◌-◌, ◌+◌, ◌∷◌, [], ℕ, zero, suc, Bool, true, false, cond, List, Option, Some, None, length, take, slice_get, count_by, refl, sym, ap, subst, ◌∙◌, arith}
+use Rattle.std.proofs.Common.{◌≡◌, ◌≤◌, ◌-◌, ◌+◌, ◌∷◌, [], ℕ, zero, suc, Bool, true, false, cond, List, Option, Some, None, length, take}
+use Rattle.std.proofs.Common.{slice_get, count_by, refl, sym, ap, subst, ◌∙◌, arith}
 use Rattle.std.specs.List.{sum_by}
 use Rattle.std.proofs.lemmas.List.Sums.{sum_by-cons}
 use Rattle.limbo_entries.specs.Entries.{Entry}
@@ -23,7 +24,8 @@ pub signature_of : SignatureOfNumber
 signature_of es m k n a system e f xs are at w is none h =
     let p = function_is es m k n system e f is none h in
     let t : is_called system (Some a) e ≡ true = subst (λ (z : Option ℕ). is_called system z e ≡ true) w p.0 in
-    let c : count_by (is_called system (Some a)) (take k es) ≡ n = subst (λ (z : Option ℕ). count_by (is_called system z) (take k es) ≡ n) w p.1 in
+    let c : count_by (is_called system (Some a)) (take k es) ≡ n = subst (λ (z : Option ℕ). count_by (is_called system z) (take k es) ≡ n)
+    w p.1 in
     let r = listed_at (is_called system (Some a)) (IsSignature es m) es xs k e are at t in
     (r.0, ap (λ z. slice_get xs z) (sym c) ∙ r.1, r.2)
 
@@ -32,7 +34,8 @@ signature_of es m k n a system e f xs are at w is none h =
 module _ {A : Type 0} (test : Entry → Bool) (is : ℕ → Entry → A → Type 0) where
   counts : (x : Entry) (xs : List Entry) (n : ℕ) → cond (test x) 1 0 ≡ n → count_by test (x ∷ xs) ≡ n + count_by test xs
   counts x xs n h =
-      let f : sum_by (λ y. cond (test y) 1 0) (x ∷ xs) ≡ cond (test x) 1 0 + sum_by (λ y. cond (test y) 1 0) xs = sum_by-cons (λ y. cond (test y) 1 0) x xs in
+      let f : sum_by (λ y. cond (test y) 1 0) (x ∷ xs) ≡ cond (test x) 1 0 + sum_by (λ y. cond (test y) 1 0) xs = sum_by-cons (λ y. cond
+      (test y) 1 0) x xs in
       f ∙ ap (λ z. z + sum_by (λ y. cond (test y) 1 0) xs) h
 
   yes : (x : Entry) → test x ≡ true → ◌≡◌ {A = ℕ} (cond (test x) 1 0) 1

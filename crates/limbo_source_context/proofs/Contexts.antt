@@ -27,7 +27,8 @@ use Rattle.limbo_imports.specs.Imports.{meaning_at, origin_of, IsImported, IsImp
 use Rattle.limbo_source_context.specs.SourceContext.{IsFound}
 use Rattle.limbo_source_context.specs.Laws.{OneContext}
 use Rattle.limbo_source_context.proofs.Beginnings.{meant_at}
-use Rattle.limbo_source_context.proofs.Ones.{one_list, one_first, one_constant, one_name, one_global, one_function, one_exception, one_interface, one_adts}
+use Rattle.limbo_source_context.proofs.Ones.{one_list, one_first, one_constant, one_name, one_global, one_function, one_exception}
+use Rattle.limbo_source_context.proofs.Ones.{one_interface, one_adts}
 
 -- ---- meanings that agree at each declaration
 
@@ -55,7 +56,8 @@ module _ (es : List Entry) (xs ys : List (Option Meaning)) (agree : Agree es xs 
   same_at : (k : ℕ) (e : Entry) → IsEntry es k e → meaning_at xs k ≡ meaning_at ys k
   same_at k e at = let r = agree k e at in meant_at xs k r.0 r.1 ∙ sym (meant_at ys k r.0 r.2)
 
-  same_number : (told : Option Meaning → Option ℕ) (test : Entry → Bool) (o : Option ℕ) → IsFound test es o → number_at told xs o ≡ number_at told ys o
+  same_number : (told : Option Meaning → Option ℕ) (test : Entry → Bool) (o : Option ℕ) → IsFound test es o → number_at told xs o ≡
+      number_at told ys o
   same_number told test None f = refl
   same_number told test (Some k) f =
       let r = agree k f.entry f.there in
@@ -80,7 +82,8 @@ module _ (es : List Entry) (m : ℕ) (once : AreOnce es) (xs ys others more : Li
       let q : i.outer ≡ h.outer = one_named es m once scope (Simple source) i.outer h.outer i.names h.names in
       let g = filled es h.outer (names_there es m scope (Simple source) h.outer h.names) in
       let v : Some a.interface ≡ Some b.interface =
-      sym h.interface ∙ ap module_in (same_at es xs ys agree h.outer g.0 g.1) ∙ ap (λ z. module_in (meaning_at ys z)) (sym q) ∙ i.interface in
+      sym h.interface ∙ ap module_in (same_at es xs ys agree h.outer g.0 g.1) ∙ ap (λ z. module_in (meaning_at ys z)) (sym q) ∙
+      i.interface in
       let w : a.interface ≡ b.interface = cc in
       let n : i.number ≡ h.number =
       once (Some h.outer) name i.number h.number (subst (λ (z : ℕ). IsMember es (Some z) name i.number) q i.member) h.member in
@@ -105,21 +108,35 @@ module _ (c d : Context) where
       → c.globals ≡ d.globals → c.constants ≡ d.constants → c.types ≡ d.types → c.functions ≡ d.functions → c.imports ≡ d.imports
       → c.exceptions ≡ d.exceptions → c.system ≡ d.system → c.fd ≡ d.fd → c ≡ d
   same_context p1 p2 p3 p4 p5 p6 p7 p8 p9 p10 p11 p12 p13 =
-      ap (λ (z : List Def). make z c.modules c.members c.interfaces c.exports c.globals c.constants c.types c.functions c.imports c.exceptions c.system c.fd) p1
-      ∙ ap (λ (z : List (List ℕ)). make d.adts z c.members c.interfaces c.exports c.globals c.constants c.types c.functions c.imports c.exceptions c.system c.fd) p2
-      ∙ ap (λ (z : List (List Scope)). make d.adts d.modules z c.interfaces c.exports c.globals c.constants c.types c.functions c.imports c.exceptions c.system c.fd) p3
-      ∙ ap (λ (z : List Interface). make d.adts d.modules d.members z c.exports c.globals c.constants c.types c.functions c.imports c.exceptions c.system c.fd) p4
-      ∙ ap (λ (z : List (List Scope)). make d.adts d.modules d.members d.interfaces z c.globals c.constants c.types c.functions c.imports c.exceptions c.system c.fd) p5
-      ∙ ap (λ (z : List Var). make d.adts d.modules d.members d.interfaces d.exports z c.constants c.types c.functions c.imports c.exceptions c.system c.fd) p6
-      ∙ ap (λ (z : List Valued). make d.adts d.modules d.members d.interfaces d.exports d.globals z c.types c.functions c.imports c.exceptions c.system c.fd) p7
-      ∙ ap (λ (z : List Ty). make d.adts d.modules d.members d.interfaces d.exports d.globals d.constants z c.functions c.imports c.exceptions c.system c.fd) p8
-      ∙ ap (λ (z : List Callee). make d.adts d.modules d.members d.interfaces d.exports d.globals d.constants d.types z c.imports c.exceptions c.system c.fd) p9
-      ∙ ap (λ (z : List Imported). make d.adts d.modules d.members d.interfaces d.exports d.globals d.constants d.types d.functions z c.exceptions c.system c.fd) p10
-      ∙ ap (λ (z : List Exception). make d.adts d.modules d.members d.interfaces d.exports d.globals d.constants d.types d.functions d.imports z c.system c.fd) p11
-      ∙ ap (λ (z : Option ℕ). make d.adts d.modules d.members d.interfaces d.exports d.globals d.constants d.types d.functions d.imports d.exceptions z c.fd) p12
-      ∙ ap (λ (z : Option ℕ). make d.adts d.modules d.members d.interfaces d.exports d.globals d.constants d.types d.functions d.imports d.exceptions d.system z) p13
+      ap (λ (z : List Def). make z c.modules c.members c.interfaces c.exports c.globals c.constants c.types c.functions c.imports
+      c.exceptions c.system c.fd) p1
+      ∙ ap (λ (z : List (List ℕ)). make d.adts z c.members c.interfaces c.exports c.globals c.constants c.types c.functions c.imports
+      c.exceptions c.system c.fd) p2
+      ∙ ap (λ (z : List (List Scope)). make d.adts d.modules z c.interfaces c.exports c.globals c.constants c.types c.functions c.imports
+      c.exceptions c.system c.fd) p3
+      ∙ ap (λ (z : List Interface). make d.adts d.modules d.members z c.exports c.globals c.constants c.types c.functions c.imports
+      c.exceptions c.system c.fd) p4
+      ∙ ap (λ (z : List (List Scope)). make d.adts d.modules d.members d.interfaces z c.globals c.constants c.types c.functions c.imports
+      c.exceptions c.system c.fd) p5
+      ∙ ap (λ (z : List Var). make d.adts d.modules d.members d.interfaces d.exports z c.constants c.types c.functions c.imports
+      c.exceptions c.system c.fd) p6
+      ∙ ap (λ (z : List Valued). make d.adts d.modules d.members d.interfaces d.exports d.globals z c.types c.functions c.imports
+      c.exceptions c.system c.fd) p7
+      ∙ ap (λ (z : List Ty). make d.adts d.modules d.members d.interfaces d.exports d.globals d.constants z c.functions c.imports
+      c.exceptions c.system c.fd) p8
+      ∙ ap (λ (z : List Callee). make d.adts d.modules d.members d.interfaces d.exports d.globals d.constants d.types z c.imports
+      c.exceptions c.system c.fd) p9
+      ∙ ap (λ (z : List Imported). make d.adts d.modules d.members d.interfaces d.exports d.globals d.constants d.types d.functions z
+      c.exceptions c.system c.fd) p10
+      ∙ ap (λ (z : List Exception). make d.adts d.modules d.members d.interfaces d.exports d.globals d.constants d.types d.functions
+      d.imports z c.system c.fd) p11
+      ∙ ap (λ (z : Option ℕ). make d.adts d.modules d.members d.interfaces d.exports d.globals d.constants d.types d.functions d.imports
+      d.exceptions z c.fd) p12
+      ∙ ap (λ (z : Option ℕ). make d.adts d.modules d.members d.interfaces d.exports d.globals d.constants d.types d.functions d.imports
+      d.exceptions d.system z) p13
     where
-      make : List Def → List (List ℕ) → List (List Scope) → List Interface → List (List Scope) → List Var → List Valued → List Ty → List Callee
+      make : List Def → List (List ℕ) → List (List Scope) → List Interface → List (List Scope) → List Var → List Valued → List Ty → List
+          Callee
           → List Imported → List Exception → Option ℕ → Option ℕ → Context
       make a b c d e f g h i j k l m = record {
         adts = a;
@@ -148,17 +165,25 @@ one es m module_name c d once a b =
     same_context c d
     (one_adts es m once 0 es c.adts d.adts a.adts b.adts)
     (a.modules ∙ sym b.modules)
-    (one_list (has_kind es m 3) (IsScopeOf a.means es) (IsScopeOf b.means es) (one_scope es a.means b.means agree) 0 es c.members d.members a.members b.members)
-    (one_list (has_kind es m 4) (IsInterface es m a.system) (IsInterface es m a.system) (one_interface es m once a.system) 0 es c.interfaces d.interfaces
+    (one_list (has_kind es m 3) (IsScopeOf a.means es) (IsScopeOf b.means es) (one_scope es a.means b.means agree) 0 es c.members
+    d.members a.members b.members)
+    (one_list (has_kind es m 4) (IsInterface es m a.system) (IsInterface es m a.system) (one_interface es m once a.system) 0 es
+    c.interfaces d.interfaces
     a.interfaces (subst (λ (z : Option ℕ). InterfacesAre es m z d.interfaces) s b.interfaces))
-    (one_list (has_kind es m 4) (IsScopeOf a.others es) (IsScopeOf b.others es) (one_scope es a.others b.others further) 0 es c.exports d.exports a.exports b.exports)
+    (one_list (has_kind es m 4) (IsScopeOf a.others es) (IsScopeOf b.others es) (one_scope es a.others b.others further) 0 es c.exports
+    d.exports a.exports b.exports)
     (one_list (has_kind es m 0) (IsGlobal es m) (IsGlobal es m) (one_global es m once) 0 es c.globals d.globals a.globals b.globals)
-    (one_list (has_kind es m 1) (IsConstant es m) (IsConstant es m) (one_constant es m once) 0 es c.constants d.constants a.constants b.constants)
+    (one_list (has_kind es m 1) (IsConstant es m) (IsConstant es m) (one_constant es m once) 0 es c.constants d.constants a.constants
+    b.constants)
     (one_list (has_kind es m 2) (IsType es m) (IsType es m) (one_name es m once) 0 es c.types d.types a.types b.types)
-    (one_list (has_kind es m 5) (IsFunction es m) (IsFunction es m) (one_function es m once) 0 es c.functions d.functions a.functions b.functions)
+    (one_list (has_kind es m 5) (IsFunction es m) (IsFunction es m) (one_function es m once) 0 es c.functions d.functions a.functions
+    b.functions)
     (one_list (has_kind es m 6) (IsImport es m a.means a.others) (IsImport es m b.means b.others)
     (one_import es m once a.means b.means a.others b.others agree further) 0 es c.imports d.imports a.imports b.imports)
-    (one_list (has_kind es m 7) (IsException es m module_name) (IsException es m module_name) (one_exception es m once module_name) 0 es c.exceptions d.exceptions
+    (one_list (has_kind es m 7) (IsException es m module_name) (IsException es m module_name) (one_exception es m once module_name) 0 es
+    c.exceptions d.exceptions
     a.exceptions b.exceptions)
-    (a.is_system ∙ same_number es a.means b.means agree module_in is_system a.system a.meant.system_is ∙ ap (number_at module_in b.means) (sym s) ∙ sym b.is_system)
-    (a.is_fd ∙ same_number es a.means b.means agree adt_in (is_fd a.system) a.fd a.meant.fd_is ∙ ap (number_at adt_in b.means) (sym f) ∙ sym b.is_fd)
+    (a.is_system ∙ same_number es a.means b.means agree module_in is_system a.system a.meant.system_is ∙ ap (number_at module_in b.means)
+    (sym s) ∙ sym b.is_system)
+    (a.is_fd ∙ same_number es a.means b.means agree adt_in (is_fd a.system) a.fd a.meant.fd_is ∙ ap (number_at adt_in b.means) (sym f) ∙
+    sym b.is_fd)

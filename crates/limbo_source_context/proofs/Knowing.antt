@@ -16,7 +16,8 @@ use Rattle.limbo_exports.specs.System.{IsFirst, HasNone}
 use Rattle.limbo_outline.specs.Outline.{AreInitial, known_at}
 use Rattle.limbo_source_context.specs.SourceContext.{IsFound}
 
-pub found : (test : Entry → Bool) (es : List Entry) (o : Option ℕ) → IfSome o (λ k. IsFirst test es k) → IfNone o (HasNone test es) → IsFound test es o
+pub found : (test : Entry → Bool) (es : List Entry) (o : Option ℕ) → IfSome o (λ k. IsFirst test es k) → IfNone o (HasNone test es) →
+    IsFound test es o
 found test es None s n = n
 found test es (Some k) s n = s
 
@@ -35,7 +36,8 @@ known_is values k c h = go (slice_get values k) h
     go None h = absurd cc
     go (Some o) h = ap Some h
 
-pub initial_told : (es : List Entry) (m : ℕ) (initials : List (Option source.Constant)) → AreInitials es m initials → AreInitial es m initials
+pub initial_told : (es : List Entry) (m : ℕ) (initials : List (Option source.Constant)) → AreInitials es m initials → AreInitial es m
+    initials
 initial_told es m initials are k e expr c at is h =
     let i = are.known k c (known_is initials k c h) in
     let a : i.entry ≡ e = let f = i.there in cc in

@@ -1,5 +1,6 @@
 -- What is told of each declaration is one thing at most.
-use Rattle.std.proofs.Common.{◌≡◌, ◌<◌, ◌⊎◌, inl, inr, ℕ, suc, Bool, true, false, List, [], ◌∷◌, Option, None, Some, refl, sym, ap, subst, ◌∙◌, arith}
+use Rattle.std.proofs.Common.{◌≡◌, ◌<◌, ◌⊎◌, inl, inr, ℕ, suc, Bool, true, false, List, [], ◌∷◌, Option, None, Some, refl, sym, ap, subst}
+use Rattle.std.proofs.Common.{◌∙◌, arith}
 use Rattle.limbo_tree.specs.Types as tree
 use Rattle.limbo_tree.specs.Exprs.{Expr}
 use Rattle.limbo_tree.specs.Decls as decls
@@ -17,11 +18,13 @@ use Rattle.limbo_type_names.specs.Means.{Means, AllMean}
 use Rattle.limbo_type_names.proofs.Unique.{one_type, one_stands}
 use Rattle.limbo_headers.specs.Headers.{AnswerMeans, no_answer, an_answer, IsHeader}
 use Rattle.limbo_source_adts.specs.Inside.{numbers_inside}
-use Rattle.limbo_source_adts.specs.Definitions.{FieldsAre, no_fields, a_field, no_field, VariantsAre, no_variants, a_variant, no_variant, IsAdt, AdtsAre, no_adts, an_adt, no_adt}
+use Rattle.limbo_source_adts.specs.Definitions.{FieldsAre, no_fields, a_field, no_field, VariantsAre, no_variants, a_variant, no_variant}
+use Rattle.limbo_source_adts.specs.Definitions.{IsAdt, AdtsAre, no_adts, an_adt, no_adt}
 use Rattle.limbo_context.specs.Context.{Valued, Callee}
 use Rattle.limbo_meanings.specs.Listed.{Listed, none_left, one_told, none_told}
 use Rattle.limbo_exports.specs.Exports.{is_called}
-use Rattle.limbo_outline.specs.Outline.{IsConstant, valued, IsType, HasType, written, inferred, type_of_constant, IsGlobal, IsFunction, IsException}
+use Rattle.limbo_outline.specs.Outline.{IsConstant, valued, IsType, HasType, written, inferred, type_of_constant, IsGlobal, IsFunction}
+use Rattle.limbo_outline.specs.Outline.{IsException}
 use Rattle.limbo_outline_members.specs.Members.{IsSignature, IsInterface}
 use Rattle.limbo_source_context.specs.SourceContext.{IsFound}
 
@@ -30,7 +33,8 @@ never t f = let z : true ≡ false = sym t ∙ f in absurd cc
 
 -- ---- lists
 
-module _ {A : Type 0} (test : Entry → Bool) (is or : ℕ → Entry → A → Type 0) (one : (k : ℕ) (e : Entry) (a b : A) → is k e a → or k e b → a ≡ b) where
+module _ {A : Type 0} (test : Entry → Bool) (is or : ℕ → Entry → A → Type 0) (one : (k : ℕ) (e : Entry) (a b : A) → is k e a → or k e b →
+    a ≡ b) where
   pub one_list : (k : ℕ) (es : List Entry) (xs ys : List A) → Listed test is k es xs → Listed test or k es ys → xs ≡ ys
   one_list _ _ _ _ (none_left k) (none_left _) = refl
   one_list _ _ _ _ (one_told k e a es xs t h l) (one_told _ _ b _ ys u i r) =
@@ -85,7 +89,8 @@ module _ (es : List Entry) (m : ℕ) (once : AreOnce es) where
   pub one_header : (scope : Option ℕ) (f : decls.FnType) (a b : FnTy) (s r : Bool) → IsHeader es m scope f a s → IsHeader es m scope f b r
       → (a ≡ b) × (s ≡ r)
   one_header scope f a b s r h i = (
-    same_fn a b (tys_same a.args b.args (all_one scope _ (tys_of a.args) (tys_of b.args) h.args i.args)) (one_answer scope f.answer a.answer b.answer h.answer i.answer),
+    same_fn a b (tys_same a.args b.args (all_one scope _ (tys_of a.args) (tys_of b.args) h.args i.args)) (one_answer scope f.answer
+        a.answer b.answer h.answer i.answer),
     h.self_is ∙ sym i.self_is,
   )
 
@@ -136,8 +141,10 @@ module _ (es : List Entry) (m : ℕ) (once : AreOnce es) where
       let v : a.values ≡ b.values = tys_same a.values b.values
       (all_one e.within h.values (tys_of a.values) (tys_of b.values) h.mean
       (subst (λ (z : tree.Tys). AllMean es m e.within z (tys_of b.values)) q i.mean)) in
-      ap (λ (z : List ℕ). let r : Exception = record { module_name = z; name = a.name; values = a.values } in r) (h.of_module ∙ sym i.of_module)
-      ∙ ap (λ (z : List ℕ). let r : Exception = record { module_name = b.module_name; name = z; values = a.values } in r) (h.named ∙ sym i.named)
+      ap (λ (z : List ℕ). let r : Exception = record { module_name = z; name = a.name; values = a.values } in r) (h.of_module ∙ sym
+      i.of_module)
+      ∙ ap (λ (z : List ℕ). let r : Exception = record { module_name = b.module_name; name = z; values = a.values } in r) (h.named ∙ sym
+      i.named)
       ∙ ap (λ (z : List Ty). let r : Exception = record { module_name = b.module_name; name = b.name; values = z } in r) v
 
   one_signature : (k : ℕ) (e : Entry) (a b : Signature) → IsSignature es m k e a → IsSignature es m k e b → a ≡ b
@@ -148,12 +155,14 @@ module _ (es : List Entry) (m : ℕ) (once : AreOnce es) where
       ap (λ (z : List ℕ). let r : Signature = record { name = z; of = a.of } in r) (h.named ∙ sym i.named)
       ∙ ap (λ (z : FnTy). let r : Signature = record { name = b.name; of = z } in r) p.0
 
-  pub one_interface : (system : Option ℕ) (k : ℕ) (e : Entry) (a b : Interface) → IsInterface es m system k e a → IsInterface es m system k e b
+  pub one_interface : (system : Option ℕ) (k : ℕ) (e : Entry) (a b : Interface) → IsInterface es m system k e a → IsInterface es m system
+      k e b
       → a ≡ b
   one_interface system k e a b h i =
       ap (λ (z : List ℕ). let r : Interface = record { name = z; functions = a.functions } in r) (h.named ∙ sym i.named)
       ∙ ap (λ (z : List Signature). let r : Interface = record { name = b.name; functions = z } in r)
-      (one_list (is_called system (Some k)) (IsSignature es m) (IsSignature es m) one_signature 0 es a.functions b.functions h.functions i.functions)
+      (one_list (is_called system (Some k)) (IsSignature es m) (IsSignature es m) one_signature 0 es a.functions b.functions h.functions
+      i.functions)
 
   -- ---- adts
 

@@ -1,5 +1,6 @@
 -- Which values variables begin with.
-use Rattle.std.proofs.Common.{◌≡◌, ◌<◌, ◌≤◌, ◌+◌, ◌⊎◌, inl, inr, ◌↔◌, ℕ, zero, suc, Bool, true, false, IsTrue, List, [], ◌∷◌, map, Option, None, Some, option_copied, slice_get, length, refl, sym, ap, subst, ◌∙◌, arith}
+use Rattle.std.proofs.Common.{◌≡◌, ◌<◌, ◌≤◌, ◌+◌, ◌⊎◌, inl, inr, ◌↔◌, ℕ, zero, suc, Bool, true, false, IsTrue, List, [], ◌∷◌, map, Option}
+use Rattle.std.proofs.Common.{None, Some, option_copied, slice_get, length, refl, sym, ap, subst, ◌∙◌, arith}
 use Rattle.std.specs.Borrow.{Bor}
 use Rattle.std.specs.Option.{IfSome, IfNone}
 use Rattle.std.proofs.lemmas.Option.{slice_get_within}
@@ -21,7 +22,8 @@ use Rattle.limbo_meanings.specs.Meanings.{meaning_of, AreMeanings}
 use Rattle.limbo_imports.specs.Imports.{meaning_at}
 use Rattle.limbo_outline.specs.Outline.{type_of_constant, GlobalsAre, HasType}
 use Rattle.limbo_outline.proofs.Numbers.{global_of}
-use Rattle.limbo_source_context.specs.Beginning.{MayBegin, with_nothing, with_constant, with_nil, BeginsSo, AllBeginSo, BeginsOtherwise, global_in}
+use Rattle.limbo_source_context.specs.Beginning.{MayBegin, with_nothing, with_constant, with_nil, BeginsSo, AllBeginSo, BeginsOtherwise}
+use Rattle.limbo_source_context.specs.Beginning.{global_in}
 use Rattle.limbo_source_context.proofs.Beginnings.{global_from, meant_at}
 
 pub reference_has_nil : (t : Ty) → is_reference t ≡ true → HasNil t
@@ -53,12 +55,14 @@ other_has_none (Module n) e f h = absurd cc
 other_has_none _ e f h = h
 
 -- `nil` comes to no constant
-nil_comes_to_none : (es : List Entry) (m : ℕ) (scope iota : Option ℕ) (expr : Expr) (c : source.Constant) → Comes es m scope iota expr c → expr ≡ tree.Nil → ⊥
+nil_comes_to_none : (es : List Entry) (m : ℕ) (scope iota : Option ℕ) (expr : Expr) (c : source.Constant) → Comes es m scope iota expr c →
+    expr ≡ tree.Nil → ⊥
 nil_comes_to_none es m _ _ _ _ (comes scope iota expr c meant means gives) e =
     let h : constant_in meant tree.Nil ≡ Some c = subst (λ (x : Expr). constant_in meant x ≡ Some c) e gives in
     absurd cc
 
-module _ (es : List Entry) (m k : ℕ) (initials : List (Option source.Constant)) (are : AreInitials es m initials) (e : Entry) (there : IsEntry es k e)
+module _ (es : List Entry) (m k : ℕ) (initials : List (Option source.Constant)) (are : AreInitials es m initials) (e : Entry) (there :
+    IsEntry es k e)
     (expr : Expr) (written : initial_value e.row.means ≡ Some expr) where
   comes_from : (c : source.Constant) → IsKnown initials k c → Comes es m e.within None expr c
   comes_from c h =
@@ -91,7 +95,8 @@ module _ (es : List Entry) (m k : ℕ) (initials : List (Option source.Constant)
         is : IsKnown initials k c
         is = are.complete k c (record { entry = e; expr = x; there = there; written = w; comes = from })
 
-        go : (o : Option (Bor source.Constant)) → IfSome o (λ c. IsKnown initials k c.now) → IfNone o ((c : source.Constant) → IsKnown initials k c → ⊥)
+        go : (o : Option (Bor source.Constant)) → IfSome o (λ c. IsKnown initials k c.now) → IfNone o ((c : source.Constant) → IsKnown
+            initials k c → ⊥)
             → ((c : source.Constant) → option_copied o ≡ Some c → IsTrue b ↔ (type_of_constant c ≡ t)) → ⊥
         go None s n f = n c is
         go (Some d) s n f =
@@ -148,7 +153,8 @@ module _ (es : List Entry) (m k : ℕ) (means : List (Option Meaning)) (meant : 
             otherwise = never;
           }
 
-pub all_begin : (es : List Entry) (m n : ℕ) (globals : List Var) → length es ≤ n → ((k : ℕ) → k < n → BeginsSo es m globals k) → AllBeginSo es m globals
+pub all_begin : (es : List Entry) (m n : ℕ) (globals : List Var) → length es ≤ n → ((k : ℕ) → k < n → BeginsSo es m globals k) →
+    AllBeginSo es m globals
 all_begin es m n globals l f k i e v at is there = let w = slice_get_within es k e at in f k (omega arith) i e v at is there
 
 pub begin_more : (P : ℕ → Type 0) (n : ℕ) → ((k : ℕ) → k < n → P k) → P n → (k : ℕ) → k < n + 1 → P k

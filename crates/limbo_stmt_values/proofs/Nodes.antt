@@ -17,7 +17,8 @@ Exprs = Vec code_expr.TExpr Global
 
 abbrev HasNode : code_node.TNode → tree.Node → Type 0
 HasNode n (tree.Call f es) = (g : ℕ) × (fs : Exprs) × (n ≡ make.Call g fs)
-HasNode n (tree.CallThrough e i f es) = (m : Box code_expr.TExpr Global) × (j : ℕ) × (g : ℕ) × (fs : Exprs) × (n ≡ make.CallThrough m j g fs)
+HasNode n (tree.CallThrough e i f es) = (m : Box code_expr.TExpr Global) × (j : ℕ) × (g : ℕ) × (fs : Exprs) × (n ≡ make.CallThrough m j g
+    fs)
 HasNode n _ = Unit {0}
 
 has_node : (n : code_node.TNode) → HasNode n (view_node n)

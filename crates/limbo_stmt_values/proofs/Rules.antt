@@ -1,5 +1,6 @@
 -- Expressions in statements, by the rules.
-use Rattle.std.proofs.Common.{◌≡◌, ◌≢◌, refl, sym, ap, ◌∙◌, subst, ℕ, Bool, true, false, inl, inr, List, [], ◌∷◌, Option, None, Some, slice_get}
+use Rattle.std.proofs.Common.{◌≡◌, ◌≢◌, refl, sym, ap, ◌∙◌, subst, ℕ, Bool, true, false, inl, inr, List, [], ◌∷◌, Option, None, Some}
+use Rattle.std.proofs.Common.{slice_get}
 use Rattle.std.specs.Prelude.{if◌then◌else◌}
 use Rattle.std.proofs.lemmas.Bool.{false≢true}
 use Rattle.std.proofs.lemmas.Option.{none-some, same_Some}
@@ -72,7 +73,8 @@ module _ (c : Context) (b : Body) (e : tree.Expr) where
   pub spawn_untyped : (f : code.Cause) → FailsBy f (Fails c b e) → FailsBy f (λ k. From (λ p. FailsToSpawn p e k) c b)
   spawn_untyped f h = fails_weaker f _ _ (λ k g n. states.untyped k g) h
 
-  pub answer_unvalued : (asked : Ty) (f : code.Cause) → FailsBy f (FailsValue c b e) → FailsBy f (λ k. From (λ p. FailsToAnswer asked p e k) c b)
+  pub answer_unvalued : (asked : Ty) (f : code.Cause) → FailsBy f (FailsValue c b e) → FailsBy f (λ k. From (λ p. FailsToAnswer asked p e
+      k) c b)
   answer_unvalued asked f h = fails_weaker f _ _ (λ k g n. answering.no_value k g) h
 
   -- ---- it doesn't fit

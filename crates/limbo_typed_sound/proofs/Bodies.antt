@@ -42,7 +42,8 @@ goes_on b d e g h = (g.0 ++ h.0, h.1 ∙ ap (λ (z : List Var). z ++ h.0) g.1 �
 mutual
   pub defines_grows : (b d : Body) (e : tree.Expr) (t : Ty) (p : Pattern) → Defines b e t p d → Grows b d
   defines_grows _ _ _ _ _ (defining.name b n t f) = ((record { name = n; ty = t }) ∷ [], refl)
-  defines_grows _ _ _ _ _ (defining.Defines.parts b d e f es ts ps h) = define_each_grows b d (tree.MoreExprs e (tree.MoreExprs f es)) ts ps h
+  defines_grows _ _ _ _ _ (defining.Defines.parts b d e f es ts ps h) = define_each_grows b d (tree.MoreExprs e (tree.MoreExprs f es)) ts
+      ps h
 
   define_each_grows : (b d : Body) (es : tree.Exprs) (ts : Tys) (ps : Patterns) → DefineEach b es ts ps d → Grows b d
   define_each_grows _ _ _ _ _ (defining.DefineEach.no_more b) = stays b
@@ -61,7 +62,8 @@ seen_before : (name other : List ℕ) (x n : ℕ) (scopes : List Scope)
 seen_before name other x n [] h = h
 seen_before name other x n (scope ∷ outer) h =
     go (eq_by_cmp (slice_cmp nat_cmp) other name)
-    (sym (ap (λ (o : Option Meaning). option_or o (seen other outer)) (get-insert nat_list_cmp_total scope name (meaning.Variable x) other)) ∙ h)
+    (sym (ap (λ (o : Option Meaning). option_or o (seen other outer)) (get-insert nat_list_cmp_total scope name (meaning.Variable x)
+    other)) ∙ h)
   where
     go : (same : Bool) → option_or (cond same (Some (meaning.Variable x)) (get scope other)) (seen other outer) ≡ Some (meaning.Import n)
         → seen other (scope ∷ outer) ≡ Some (meaning.Import n)

@@ -75,11 +75,13 @@ use Rattle.limbo_value_forms.specs.Forms.{Before, Gives as GivesForm, AssignForm
 use Rattle.limbo_typed_sound.specs.Describing.{HasTypes, Describes, HasFunctionOf, IsNamedFunction}
 use Rattle.limbo_typed_sound.specs.Proper.{number_type, IsInRange}
 use Rattle.limbo_typed_sound.proofs.Lists.{each_at, each_and}
-use Rattle.limbo_typed_sound.proofs.Ready.{decides, stands_alone, IsPlain, MayBeOpen, HasNames, Ready, ReadyEach, ReadyItems, ReadyMaybe, as_ready}
+use Rattle.limbo_typed_sound.proofs.Ready.{decides, stands_alone, IsPlain, MayBeOpen, HasNames, Ready, ReadyEach, ReadyItems, ReadyMaybe}
+use Rattle.limbo_typed_sound.proofs.Ready.{as_ready}
 use Rattle.limbo_typed_sound.proofs.Ready.{sound, has_names, is_named, sound_at, sound_int, sound_place, all_sound}
 use Rattle.limbo_typed_sound.proofs.Ready.{asked, asked_each, asked_all, asked_items, asked_rest}
 use Rattle.limbo_typed_sound.proofs.More.{more_rows, more_constructs, fields_named}
-use Rattle.limbo_typed_sound.proofs.Rows.{is_asked, ref_settled, known, settled_or_open, row_named, row_gives, one_settled, one_named, one_gives}
+use Rattle.limbo_typed_sound.proofs.Rows.{is_asked, ref_settled, known, settled_or_open, row_named, row_gives, one_settled, one_named}
+use Rattle.limbo_typed_sound.proofs.Rows.{one_gives}
 use Rattle.limbo_typed_sound.proofs.Rows.{bytes_named, bytes_given}
 use Rattle.limbo_typed_sound.proofs.Patterns.{ReadyPattern, place_named, asks_named, asks_sound, sound_for}
 
@@ -172,9 +174,11 @@ module _ (m : Module) (vs : List Var) (c : Context) (types : HasTypes m) (descri
           by (inl i) =
               let n = row_named m u.sign t (type_of e) row u.row i (subst (λ (z : Ty). HasNames m z) (sym u.result) place.0.0) place.0.0
               (has_names m vs e k) (known m vs (Of t (Read p)) h) in
-              let a : Gives m.adts row.operation (t ∷ type_of f ∷ []) row.result = row_gives m m.adts u.sign t (type_of e) row u.row i t (type_of f)
+              let a : Gives m.adts row.operation (t ∷ type_of f ∷ []) row.result = row_gives m m.adts u.sign t (type_of e) row u.row i t
+              (type_of f)
               (inl (sym u.left), inr refl) (is_asked row.right e f s) in
-              let b : Gives m.adts row.operation (t ∷ type_of f ∷ []) t = subst (λ (z : Ty). Gives m.adts row.operation (t ∷ type_of f ∷ []) z) u.result a in
+              let b : Gives m.adts row.operation (t ∷ type_of f ∷ []) t = subst (λ (z : Ty). Gives m.adts row.operation (t ∷ type_of f ∷
+              []) z) u.result a in
               let d = subst (λ (z : Ty). Gives m.adts row.operation (z ∷ type_of f ∷ []) z) (sym place.1.1) b in
               inl (place.0, (place.1.0, asked m vs row.right e f s k n.1, d, place.1.1))
           by (inr q) = absurd (subst IsSettled (sym u.result ∙ q.2) place.0.1)
@@ -223,7 +227,8 @@ module _ (m : Module) (vs : List Var) (c : Context) (types : HasTypes m) (descri
       let b = sound m vs (Of (ArrayOf t) n) h s in
       inl (indexes_sound m vs _ _ _ (elements.element t n i s) b (sound m vs (Of Int i) k tt) b.0)
   indexes _ _ _ (elements.Indexes.in_place p i) h k =
-      inl (indexes_sound m vs _ _ _ (elements.Indexes.in_place p i) (sound m vs (Of Chars (Read p)) h tt) (sound m vs (Of Int i) k tt) (tt, tt))
+      inl (indexes_sound m vs _ _ _ (elements.Indexes.in_place p i) (sound m vs (Of Chars (Read p)) h tt) (sound m vs (Of Int i) k tt)
+      (tt, tt))
   indexes _ _ _ (elements.Indexes.in_value n i q) h k =
       inl (indexes_sound m vs _ _ _ (elements.Indexes.in_value n i q) (sound m vs (Of Chars n) h tt) (sound m vs (Of Int i) k tt) (tt, tt))
 
@@ -268,7 +273,8 @@ module _ (m : Module) (vs : List Var) (c : Context) (types : HasTypes m) (descri
   tuples : (es : Exprs) (z : Expr) → Tuples es z → ReadyEach m vs es → Named z → Is z
   tuples es z q h names = equal z _ q (λ n. go n (decides (Tuple (tys_of (types_of es))))) names
     where
-      go : HasNames m (Tuple (tys_of (types_of es))) → IsSettled (Tuple (tys_of (types_of es))) ⊎ (IsSettled (Tuple (tys_of (types_of es))) → ⊥)
+      go : HasNames m (Tuple (tys_of (types_of es))) → IsSettled (Tuple (tys_of (types_of es))) ⊎ (IsSettled (Tuple (tys_of (types_of
+          es))) → ⊥)
           → Is (Of (Tuple (tys_of (types_of es))) (Apply op.Tuple es))
       go n (inl s) = inl ((n, s), tuple_fits m vs es _ refl s (all_sound m vs es h s))
       go n (inr o) = inr (o, n, tt, h)
@@ -285,7 +291,19 @@ module _ (m : Module) (vs : List Var) (c : Context) (types : HasTypes m) (descri
   pub fills : (k : Optional) (is : Items) (rest : Optional) (z : Expr) → Fills k is rest z → ReadyMaybe m vs k → ReadyItems m vs is
       → ReadyMaybe m vs rest → Named z → Is z
   fills k is rest z (literals.of_elements t js last l j i s a q) g h r names =
-      equal z _ q (λ n. inl ((n, i), (t, refl, length_of k l g, asked_items m vs t is js s h (n, i), asked_rest m vs t rest last a r (n, i)))) names
+      equal z _ q (λ n. inl (
+        (n, i),
+        (
+          t,
+          refl,
+          length_of k l g,
+          asked_items m vs t is js s h (n, i),
+          asked_rest m vs t rest last a r (
+            n,
+            i,
+          ),
+        ),
+      )) names
   fills k is rest z (literals.open_elements t l j i q) g h r names =
       equal z _ q (λ n. inr (λ x. x, n, tt, (length_of k l g, h, r))) names
 

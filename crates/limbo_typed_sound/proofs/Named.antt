@@ -146,7 +146,8 @@ module _ (m : Module) (vs : List Var) (c : Context) (types : HasTypes m) (descri
 
   a_function_at : (i j : ℕ) (e : Expr) → IsOfModule i e → Maybe (function_at c i j e)
   a_function_at i j e h =
-      bound Interface (slice_get c.interfaces i) (λ of. function_among c.system i j of.functions e) (λ of q. a_function i j of.functions e h)
+      bound Interface (slice_get c.interfaces i) (λ of. function_among c.system i j of.functions e) (λ of q. a_function i j of.functions e
+      h)
 
   a_function_through : (i j : ℕ) (o : Optional) → Through i o → Maybe (function_through c i j o)
   a_function_through i j Absent h = tt

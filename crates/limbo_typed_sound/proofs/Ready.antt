@@ -152,8 +152,18 @@ module _ (m : Module) (vs : List Var) where
     asked_form : (t u : Ty) (n : Node) (f : Expr) → SettlesForm t u n f → Ready (Of u n) → IsNamed m t → SoundExpr m vs f
     asked_form _ _ _ _ (standing.nil t h) r k = (k, h)
     asked_form _ _ _ _ (standing.variant n v e) r k = sound (Of (ty.RefPick n v) e) r tt
-    asked_form _ _ _ _ (standing.tuple ts u es fs s) r k =
-        (k, (asked_each (listed ts) es fs s (parts_applied u op.Tuple es r) (all_named m ts k.0 k.1), (ts, refl, each_stand (listed ts) es fs s)))
+    asked_form _ _ _ _ (standing.tuple ts u es fs s) r k = (
+      k,
+      (
+        asked_each (listed ts) es fs s (parts_applied u op.Tuple es r) (all_named m ts k.0 k.1),
+        (
+          ts,
+          refl,
+          each_stand (listed ts) es
+              fs s,
+        ),
+      ),
+    )
     asked_form _ _ _ _ (standing.list t u es fs s) r k =
         (k, (asked_all t es fs s (parts_applied u op.List es r) k, (t, refl, all_stand t es fs s)))
     asked_form _ _ _ _ (standing.cons t u es fs s) r k = (

@@ -150,7 +150,8 @@ module _ (m : Module) where
   row_gives defs sign t u row h s a b p q = go sign t u row h s (binary_gives defs sign t u row h s) p q
     where
       go : (sign : Binary) (t u : Ty) (row : Row) → BinaryRow sign t u row → IsSettled row.result
-          → Gives defs row.operation (row.left ∷ row.right ∷ []) row.result → IsAsked a row.left t → IsAsked b row.right u → Gives defs row.operation (a ∷ b ∷ []) row.result
+          → Gives defs row.operation (row.left ∷ row.right ∷ []) row.result → IsAsked a row.left t → IsAsked b row.right u → Gives defs
+          row.operation (a ∷ b ∷ []) row.result
       go _ _ _ row (two.BinaryRow.numbers o k) s g p q =
           exactly defs row.operation a b row.left row.right row.result (alone a _ _ (kind_plain k) p) (alone b _ _ (kind_plain k) q) g
       go _ _ _ row (two.texts t u c d) s g p q =

@@ -6,7 +6,8 @@ use Rattle.limbo_tree.specs.Exprs.{spell, spell_part, spell_exprs, spell_more_ex
 use Rattle.limbo_tree.specs.Types as types
 use Rattle.limbo_tree.specs.Types.{spell_ty, spell_tys, spell_more_tys, spell_qual, spell_member}
 use Rattle.limbo_typed.specs.Sound.{Each}
-use Rattle.limbo_typed_sound.specs.Proper.{Throughout, ThroughoutPart, ThroughoutAll, ThroughoutInit, ThroughoutInits, IsInRange, TokenInRange}
+use Rattle.limbo_typed_sound.specs.Proper.{Throughout, ThroughoutPart, ThroughoutAll, ThroughoutInit, ThroughoutInits, IsInRange}
+use Rattle.limbo_typed_sound.specs.Proper.{TokenInRange}
 
 abbrev All : List Kind → Type 0
 All ts = Each TokenInRange ts

@@ -1,5 +1,6 @@
 -- The numbers of a text's tokens are in the ranges of their types.
-use Rattle.std.proofs.Common.{◌≡◌, ◌<◌, ◌≤◌, ◌+◌, ◌-◌, ◌*◌, ◌==◌, ◌||◌, ℕ, ℤ, pos, Bool, true, false, cond, List, [], ◌∷◌, ◌++◌, Option, Some, None}
+use Rattle.std.proofs.Common.{◌≡◌, ◌<◌, ◌≤◌, ◌+◌, ◌-◌, ◌*◌, ◌==◌, ◌||◌, ℕ, ℤ, pos, Bool, true, false, cond, List, [], ◌∷◌, ◌++◌, Option}
+use Rattle.std.proofs.Common.{Some, None}
 use Rattle.std.proofs.Common.{refl, sym, subst, arith, tests, nat_lt, w32, w64, SFits, Fits}
 use Rattle.std.specs.List.{flat_map}
 use Rattle.std.specs.Option.{unwrap_or}
@@ -15,7 +16,8 @@ use Rattle.limbo_lexer.specs.declared.token.Key.{Key}
 use Rattle.limbo_lexer.specs.Words.{key_or_name, listed, keywords}
 use Rattle.limbo_lexer.specs.Numbers.{digits_value, decimal_kind, is_decimal_value, radix_kind, is_radix_value}
 use Rattle.limbo_lexer.specs.Constants.{Part, Plain, Escape, Code, escaped, part_char, part_spelling, code_value}
-use Rattle.limbo_lexer.specs.Tokens.{Piece, Blank, Comment, Letters, Sign, Decimal, Based, Quoted, Character, is_narrow, spelling, tokens_of, AllStand}
+use Rattle.limbo_lexer.specs.Tokens.{Piece, Blank, Comment, Letters, Sign, Decimal, Based, Quoted, Character, is_narrow, spelling}
+use Rattle.limbo_lexer.specs.Tokens.{tokens_of, AllStand}
 use Rattle.limbo_lexer.specs.Tokens.{HasTokenList}
 use Rattle.limbo_typed.specs.Sound.{Each}
 use Rattle.limbo_typed_sound.specs.Proper.{TokenInRange}

@@ -191,7 +191,8 @@ module _ (m : Module) (vs : List Var) (c : Context) (types : HasTypes m) (descri
         → Begins d.variables vs → Ready m vs x
     in_typed _ _ _ _ (typing.permitted b d e x h k) w p g =
         within b e x d h w p g
-        (more_names c.adts m.adts describes.adts (length c.modules) (length m.interfaces) describes.modules (type_of x) k.type.allowed.names)
+        (more_names c.adts m.adts describes.adts (length c.modules) (length m.interfaces) describes.modules (type_of x)
+        k.type.allowed.names)
 
     within : (b : Body) (e : tree.Expr) (z : Expr) (d : Body) → Has c b e z d → IsWell m c b → Proper e → Begins d.variables vs
         → HasNames m (type_of z) → Ready m vs z

@@ -13,5 +13,6 @@ returns-in-Ok-compile-clause-found c =
     let made = c.in-Ok-compile.ensures {u = tt} in (
       m,
       record { built = is.built; checked = is.checked; begins = is.begins; within = made.within },
-      compiled m c.in-Ok-compile.object is.proper made.within made.object made.spelled (programs_begin tree m (given tree m is.checked) is.begins),
+      compiled m c.in-Ok-compile.object is.proper made.within made.object made.spelled (programs_begin tree m (given tree m is.checked)
+          is.begins),
     )

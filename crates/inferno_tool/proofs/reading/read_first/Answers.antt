@@ -6,8 +6,10 @@ use Rattle.inferno_tool.proofs.reading.read_first.Goals as goal
 
 pub returns-in-Err-Failed-clause-unread : goal.returns-in-Err-Failed-clause-unread
 returns-in-Err-Failed-clause-unread g c =
-    first_unread (g.H.HostTree.told c.args.files.now) c.args.path.now (g.H.HostTree.faults c.args.files.now) (g.H.HostTree.faults c.read_file.new.self)
-    c.unread-in-Err-Failed.result (c.in-Err-Failed.ensures.failed (ap (λ (f : HostFault). Err f) c.in-Err-Failed.field-0-is)) c.unread-in-Err-Failed.ensures
+    first_unread (g.H.HostTree.told c.args.files.now) c.args.path.now (g.H.HostTree.faults c.args.files.now) (g.H.HostTree.faults
+    c.read_file.new.self)
+    c.unread-in-Err-Failed.result (c.in-Err-Failed.ensures.failed (ap (λ (f : HostFault). Err f) c.in-Err-Failed.field-0-is))
+    c.unread-in-Err-Failed.ensures
 
 pub returns-clause-unread : goal.returns-clause-unread
 returns-clause-unread g c =

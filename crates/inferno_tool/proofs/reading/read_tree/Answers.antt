@@ -8,12 +8,14 @@ use Rattle.inferno_tool.proofs.reading.read_tree.Goals as goal
 pub returns-in-Err : goal.returns-in-Err
 returns-in-Err c = record {
   found = tt;
-  refused = subst (λ (f : ReadFault). IsReadFault c.args.source.now f) (sym c.unlexed.ensures) (unlexed_is c.args.source.now c.in-Err.fault c.in-Err.ensures.refused c.in-Err.ensures.none);
+  refused = subst (λ (f : ReadFault). IsReadFault c.args.source.now f) (sym c.unlexed.ensures) (unlexed_is c.args.source.now
+      c.in-Err.fault c.in-Err.ensures.refused c.in-Err.ensures.none);
 }
 
 pub returns-clause-refused : goal.returns-clause-refused
 returns-clause-refused c =
-    let lexed = lexed_of c.args.source.now c.in-Ok.tokens.items c.as_slice-tokens.result.now c.as_slice-tokens.ensures.value c.in-Ok.ensures.found c.in-Ok.ensures.only in
+    let lexed = lexed_of c.args.source.now c.in-Ok.tokens.items c.as_slice-tokens.result.now c.as_slice-tokens.ensures.value
+    c.in-Ok.ensures.found c.in-Ok.ensures.only in
     subst (λ (f : ReadFault). IsReadFault c.args.source.now f) (sym c.unparsed.ensures)
     (unparsed_is c.args.source.now c.as_slice-tokens.result.now c.in-Err-parse.fault lexed c.in-Err-parse.ensures.refused
     (λ token e. c.parse.ensures.syntax token (c.in-Err-parse.is ∙ ap (λ (f : ParseFault). Err f) e))

@@ -8,7 +8,10 @@ use Rattle.inferno_tool.proofs.top.inferno.Goals as goal
 pub returns-clause-ran : goal.returns-clause-ran
 returns-clause-ran g c undumped =
     let left = c.decide-cause.result.1 in
-    let ran = runs.closed_ran c.args.words.now (g.H.HostTree.told c.args.files.now) left.journal left.objects.items (g.K.Sink.held c.args.out.now) (g.K.Sink.held c.decide-cause.new.out) (g.K.Sink.faults c.args.out.now) (g.K.Sink.faults c.decide-cause.new.out) (g.H.HostTree.faults c.args.files.now) (g.H.HostTree.faults c.decide-cause.new.files) c.decide-cause.result.0 c.close-cause.result (c.decide-cause.ensures.ran undumped) c.close-cause.ensures.cause in
+    let ran = runs.closed_ran c.args.words.now (g.H.HostTree.told c.args.files.now) left.journal left.objects.items (g.K.Sink.held
+    c.args.out.now) (g.K.Sink.held c.decide-cause.new.out) (g.K.Sink.faults c.args.out.now) (g.K.Sink.faults c.decide-cause.new.out)
+    (g.H.HostTree.faults c.args.files.now) (g.H.HostTree.faults c.decide-cause.new.files) c.decide-cause.result.0 c.close-cause.result
+    (c.decide-cause.ensures.ran undumped) c.close-cause.ensures.cause in
     ran
 
 pub returns-clause-cause : goal.returns-clause-cause
@@ -23,7 +26,8 @@ returns-clause-cause g c undumped =
       err_before = g.E.Sink.faults c.args.err.now;
       err_after = g.E.Sink.faults c.args.err.now;
     } in
-    let is : IsCause course c.close-cause.result = exact.closed course c.decide-cause.result.0 c.close-cause.result (c.decide-cause.ensures.cause undumped) c.close-cause.ensures.cause in
+    let is : IsCause course c.close-cause.result = exact.closed course c.decide-cause.result.0 c.close-cause.result
+    (c.decide-cause.ensures.cause undumped) c.close-cause.ensures.cause in
     exact.later_cause course (g.E.Sink.faults c.close-cause.new.err) c.close-cause.result c.close-cause.ensures.later is
 
 pub returns-clause-refused : goal.returns-clause-refused
@@ -39,7 +43,8 @@ returns-clause-refused g c file source named tells outside calm =
       err_before = g.E.Sink.faults c.args.err.now;
       err_after = g.E.Sink.faults c.args.err.now;
     } in
-    let is : IsCause course c.close-cause.result = exact.closed course c.decide-cause.result.0 c.close-cause.result (c.decide-cause.ensures.cause undumped) c.close-cause.ensures.cause in
+    let is : IsCause course c.close-cause.result = exact.closed course c.decide-cause.result.0 c.close-cause.result
+    (c.decide-cause.ensures.cause undumped) c.close-cause.ensures.cause in
     exact.refused course _ is file source named tells outside calm
 
 pub returns-clause-ends : goal.returns-clause-ends
@@ -55,24 +60,37 @@ returns-clause-ends g c program tells calm quiet silent =
       err_before = g.E.Sink.faults c.args.err.now;
       err_after = g.E.Sink.faults c.args.err.now;
     } in
-    let is : IsCause course c.close-cause.result = exact.closed course c.decide-cause.result.0 c.close-cause.result (c.decide-cause.ensures.cause undumped) c.close-cause.ensures.cause in
+    let is : IsCause course c.close-cause.result = exact.closed course c.decide-cause.result.0 c.close-cause.result
+    (c.decide-cause.ensures.cause undumped) c.close-cause.ensures.cause in
     exact.ends (record course { err_after = g.E.Sink.faults c.close-cause.new.err }) c.close-cause.result
-    (exact.later_cause course (g.E.Sink.faults c.close-cause.new.err) c.close-cause.result c.close-cause.ensures.later is) program tells calm quiet silent
+    (exact.later_cause course (g.E.Sink.faults c.close-cause.new.err) c.close-cause.result c.close-cause.ensures.later is) program tells
+    calm quiet silent
 
 pub returns-clause-told : goal.returns-clause-told
 returns-clause-told g c program t calm =
     let undumped = named_undumped c.args.words.now t.file t.named in
     let left = c.decide-cause.result.1 in
-    let ran = runs.closed_ran c.args.words.now (g.H.HostTree.told c.args.files.now) left.journal left.objects.items (g.K.Sink.held c.args.out.now) (g.K.Sink.held c.decide-cause.new.out) (g.K.Sink.faults c.args.out.now) (g.K.Sink.faults c.decide-cause.new.out) (g.H.HostTree.faults c.args.files.now) (g.H.HostTree.faults c.decide-cause.new.files) c.decide-cause.result.0 c.close-cause.result (c.decide-cause.ensures.ran undumped) c.close-cause.ensures.cause in
-    runs.told_ran c.args.words.now (g.H.HostTree.told c.args.files.now) left.journal left.objects.items (g.K.Sink.held c.args.out.now) (g.K.Sink.held c.decide-cause.new.out) (g.K.Sink.faults c.args.out.now) (g.K.Sink.faults c.decide-cause.new.out) (g.H.HostTree.faults c.args.files.now) (g.H.HostTree.faults c.decide-cause.new.files) c.close-cause.result program t ran
+    let ran = runs.closed_ran c.args.words.now (g.H.HostTree.told c.args.files.now) left.journal left.objects.items (g.K.Sink.held
+    c.args.out.now) (g.K.Sink.held c.decide-cause.new.out) (g.K.Sink.faults c.args.out.now) (g.K.Sink.faults c.decide-cause.new.out)
+    (g.H.HostTree.faults c.args.files.now) (g.H.HostTree.faults c.decide-cause.new.files) c.decide-cause.result.0 c.close-cause.result
+    (c.decide-cause.ensures.ran undumped) c.close-cause.ensures.cause in
+    runs.told_ran c.args.words.now (g.H.HostTree.told c.args.files.now) left.journal left.objects.items (g.K.Sink.held c.args.out.now)
+    (g.K.Sink.held c.decide-cause.new.out) (g.K.Sink.faults c.args.out.now) (g.K.Sink.faults c.decide-cause.new.out)
+    (g.H.HostTree.faults c.args.files.now) (g.H.HostTree.faults c.decide-cause.new.files) c.close-cause.result program t ran
     (exact.same_program c.args.words.now (g.H.HostTree.told c.args.files.now) program t)
-    (λ refusal. exact.unrefused c.args.words.now (g.H.HostTree.told c.args.files.now) (g.H.HostTree.faults c.args.files.now) (g.H.HostTree.faults c.decide-cause.new.files) c.close-cause.result program refusal t calm)
+    (λ refusal. exact.unrefused c.args.words.now (g.H.HostTree.told c.args.files.now) (g.H.HostTree.faults c.args.files.now)
+    (g.H.HostTree.faults c.decide-cause.new.files) c.close-cause.result program refusal t calm)
 
 pub returns-clause-started : goal.returns-clause-started
 returns-clause-started g c undumped =
     let left = c.decide-cause.result.1 in
-    let ran = runs.closed_ran c.args.words.now (g.H.HostTree.told c.args.files.now) left.journal left.objects.items (g.K.Sink.held c.args.out.now) (g.K.Sink.held c.decide-cause.new.out) (g.K.Sink.faults c.args.out.now) (g.K.Sink.faults c.decide-cause.new.out) (g.H.HostTree.faults c.args.files.now) (g.H.HostTree.faults c.decide-cause.new.files) c.decide-cause.result.0 c.close-cause.result (c.decide-cause.ensures.ran undumped) c.close-cause.ensures.cause in
-    runs.started c.args.words.now (g.H.HostTree.told c.args.files.now) left.journal left.objects.items (g.K.Sink.held c.args.out.now) (g.K.Sink.held c.decide-cause.new.out) (g.K.Sink.faults c.args.out.now) (g.K.Sink.faults c.decide-cause.new.out) (g.H.HostTree.faults c.args.files.now) (g.H.HostTree.faults c.decide-cause.new.files) c.close-cause.result ran
+    let ran = runs.closed_ran c.args.words.now (g.H.HostTree.told c.args.files.now) left.journal left.objects.items (g.K.Sink.held
+    c.args.out.now) (g.K.Sink.held c.decide-cause.new.out) (g.K.Sink.faults c.args.out.now) (g.K.Sink.faults c.decide-cause.new.out)
+    (g.H.HostTree.faults c.args.files.now) (g.H.HostTree.faults c.decide-cause.new.files) c.decide-cause.result.0 c.close-cause.result
+    (c.decide-cause.ensures.ran undumped) c.close-cause.ensures.cause in
+    runs.started c.args.words.now (g.H.HostTree.told c.args.files.now) left.journal left.objects.items (g.K.Sink.held c.args.out.now)
+    (g.K.Sink.held c.decide-cause.new.out) (g.K.Sink.faults c.args.out.now) (g.K.Sink.faults c.decide-cause.new.out)
+    (g.H.HostTree.faults c.args.files.now) (g.H.HostTree.faults c.decide-cause.new.files) c.close-cause.result ran
 
 pub returns-clause-failed : goal.returns-clause-failed
 returns-clause-failed g c program tells calm rose =
@@ -87,7 +105,8 @@ returns-clause-failed g c program tells calm rose =
       err_before = g.E.Sink.faults c.args.err.now;
       err_after = g.E.Sink.faults c.args.err.now;
     } in
-    let is : IsCause course c.close-cause.result = exact.closed course c.decide-cause.result.0 c.close-cause.result (c.decide-cause.ensures.cause undumped) c.close-cause.ensures.cause in
+    let is : IsCause course c.close-cause.result = exact.closed course c.decide-cause.result.0 c.close-cause.result
+    (c.decide-cause.ensures.cause undumped) c.close-cause.ensures.cause in
     exact.failed course c.close-cause.result is program tells calm rose
 
 pub returns-clause-usage : goal.returns-clause-usage
@@ -102,7 +121,8 @@ returns-clause-usage g c undumped none =
       err_before = g.E.Sink.faults c.args.err.now;
       err_after = g.E.Sink.faults c.args.err.now;
     } in
-    let is : IsCause course c.close-cause.result = exact.closed course c.decide-cause.result.0 c.close-cause.result (c.decide-cause.ensures.cause undumped) c.close-cause.ensures.cause in
+    let is : IsCause course c.close-cause.result = exact.closed course c.decide-cause.result.0 c.close-cause.result
+    (c.decide-cause.ensures.cause undumped) c.close-cause.ensures.cause in
     exact.usage course c.close-cause.result is none
 
 pub returns-clause-missing : goal.returns-clause-missing
@@ -118,7 +138,8 @@ returns-clause-missing g c file named tells calm =
       err_before = g.E.Sink.faults c.args.err.now;
       err_after = g.E.Sink.faults c.args.err.now;
     } in
-    let is : IsCause course c.close-cause.result = exact.closed course c.decide-cause.result.0 c.close-cause.result (c.decide-cause.ensures.cause undumped) c.close-cause.ensures.cause in
+    let is : IsCause course c.close-cause.result = exact.closed course c.decide-cause.result.0 c.close-cause.result
+    (c.decide-cause.ensures.cause undumped) c.close-cause.ensures.cause in
     exact.missing course c.close-cause.result is file named tells calm
 
 pub returns-clause-dumped : goal.returns-clause-dumped
@@ -148,6 +169,11 @@ returns-clause-quiet g c unrun =
     dumping.by_words c.args.words.now
     (λ undumped.
     let left = c.decide-cause.result.1 in
-    let ran = runs.closed_ran c.args.words.now (g.H.HostTree.told c.args.files.now) left.journal left.objects.items (g.K.Sink.held c.args.out.now) (g.K.Sink.held c.decide-cause.new.out) (g.K.Sink.faults c.args.out.now) (g.K.Sink.faults c.decide-cause.new.out) (g.H.HostTree.faults c.args.files.now) (g.H.HostTree.faults c.decide-cause.new.files) c.decide-cause.result.0 c.close-cause.result (c.decide-cause.ensures.ran undumped) c.close-cause.ensures.cause in
-    runs.quiet c.args.words.now (g.H.HostTree.told c.args.files.now) left.journal left.objects.items (g.K.Sink.held c.args.out.now) (g.K.Sink.held c.decide-cause.new.out) (g.K.Sink.faults c.args.out.now) (g.K.Sink.faults c.decide-cause.new.out) (g.H.HostTree.faults c.args.files.now) (g.H.HostTree.faults c.decide-cause.new.files) c.close-cause.result ran unrun)
+    let ran = runs.closed_ran c.args.words.now (g.H.HostTree.told c.args.files.now) left.journal left.objects.items (g.K.Sink.held
+    c.args.out.now) (g.K.Sink.held c.decide-cause.new.out) (g.K.Sink.faults c.args.out.now) (g.K.Sink.faults c.decide-cause.new.out)
+    (g.H.HostTree.faults c.args.files.now) (g.H.HostTree.faults c.decide-cause.new.files) c.decide-cause.result.0 c.close-cause.result
+    (c.decide-cause.ensures.ran undumped) c.close-cause.ensures.cause in
+    runs.quiet c.args.words.now (g.H.HostTree.told c.args.files.now) left.journal left.objects.items (g.K.Sink.held c.args.out.now)
+    (g.K.Sink.held c.decide-cause.new.out) (g.K.Sink.faults c.args.out.now) (g.K.Sink.faults c.decide-cause.new.out)
+    (g.H.HostTree.faults c.args.files.now) (g.H.HostTree.faults c.decide-cause.new.files) c.close-cause.result ran unrun)
     (λ file dumps. dumping.quiet _ _ _ _ _ _ _ _ (returns-clause-dumped g c file dumps) unrun)

@@ -12,7 +12,8 @@ pub returns-in-Adt-clause-some : goal.returns-in-Adt-clause-some
 returns-in-Adt-clause-some c =
     let all = c.args.table.now.entries.items in
     let x = c.index.result.now in
-    some_member (entries_of all) c.args.outer c.args.name.now (view_entry x) c.member.result (entry_at all c.args.outer x c.requires.there c.index.ensures)
+    some_member (entries_of all) c.args.outer c.args.name.now (view_entry x) c.member.result (entry_at all c.args.outer x c.requires.there
+    c.index.ensures)
     (ap (λ z. is_adt (view_declared z)) c.in-Adt.is) c.member.ensures.found
 
 pub returns-in-Adt-clause-none : goal.returns-in-Adt-clause-none

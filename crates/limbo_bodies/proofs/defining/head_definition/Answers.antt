@@ -15,7 +15,8 @@ returns-then-is_same-clause-defines c =
     let there = item_at c.args.functions.now c.in-Some.place f w.3.0 w.1 in
     record {
       callee = view_callee f;
-      is_of = of_function (entries_of c.args.table.now.entries.items) c.args.implemented c.args.function.now.name.text (tree.name_of c.args.function.now.part) c.args.functions.now
+      is_of = of_function (entries_of c.args.table.now.entries.items) c.args.implemented c.args.function.now.name.text (tree.name_of
+          c.args.function.now.part) c.args.functions.now
           c.in-Some._number c.in-Some.place r.0 f c.requires.functions r.1 r.2 r.3 there;
       takes = c.in_ok-of.ensures.takes;
       same = c.if-is_same.ensures.yes refl;
@@ -31,7 +32,8 @@ returns-else-is_same-clause-fails c =
       function = c.in-Some.place;
       callee = view_callee f;
       of = view_fn c.in_ok-of.of;
-      is_of = of_function (entries_of c.args.table.now.entries.items) c.args.implemented c.args.function.now.name.text (tree.name_of c.args.function.now.part) c.args.functions.now
+      is_of = of_function (entries_of c.args.table.now.entries.items) c.args.implemented c.args.function.now.name.text (tree.name_of
+          c.args.function.now.part) c.args.functions.now
           c.in-Some._number c.in-Some.place r.0 f c.requires.functions r.1 r.2 r.3 there;
       takes = c.in_ok-of.ensures.takes;
       other = c.if-is_same.ensures.no refl;

@@ -13,7 +13,8 @@ loop-number-preserved c =
     let t = c.loop-number-test.true in
     let l : i < length all = omega arith in
     record {
-      counted = called_yes c.args.builtin c.args.scope (entries_of all) i c.loop-number.count (view_entry x) (one_more all i x l c.index-entry.ensures)
+      counted = called_yes c.args.builtin c.args.scope (entries_of all) i c.loop-number.count (view_entry x) (one_more all i x l
+          c.index-entry.ensures)
           c.loop-number.invariant.counted (sym c.if-not-is_called.ensures);
       few = omega arith;
     }
@@ -27,7 +28,8 @@ loop-number-preserved-then-not-is_called c =
     let t = c.loop-number-test.true in
     let l : i < length all = omega arith in
     record {
-      counted = called_no c.args.builtin c.args.scope (entries_of all) i c.loop-number.count (view_entry x) (one_more all i x l c.index-entry.ensures)
+      counted = called_no c.args.builtin c.args.scope (entries_of all) i c.loop-number.count (view_entry x) (one_more all i x l
+          c.index-entry.ensures)
           c.loop-number.invariant.counted (sym c.if-not-is_called.ensures);
       few = omega arith;
     }

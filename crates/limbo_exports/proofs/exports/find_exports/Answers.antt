@@ -18,7 +18,8 @@ loop-number-preserved c =
     record {
       as_many = rw c.in_ok-push.ensures.items (simp length-append (let h = c.loop-number.invariant.as_many in omega arith));
       told = rw c.in_ok-push.ensures.items
-          (exported es c.args.builtin c.args.meanings.now c.loop-number.all.items i (view_entry x) c.meaning_at-meaning.result c.in_ok-told.told
+          (exported es c.args.builtin c.args.meanings.now c.loop-number.all.items i (view_entry x) c.meaning_at-meaning.result
+          c.in_ok-told.told
           c.loop-number.invariant.as_many (entry_at all i x l c.index-entry.ensures)
           c.meaning_at-meaning.ensures
           c.in_ok-told.ensures c.loop-number.invariant.told);

@@ -27,7 +27,8 @@ loop-number-preserved c =
     let x = c.index-entry.result.now in
     let e : c.len-number-end.result ≡ length all = c.len-number-end.ensures ∙ c.args.table.now.entries.ok.0 in
     let l : k < length all = omega arith in
-    none_more is_system (entries_of all) k (view_entry x) (entry_at all k x l c.index-entry.ensures) (sym c.if-is_system.ensures) c.loop-number.invariant
+    none_more is_system (entries_of all) k (view_entry x) (entry_at all k x l c.index-entry.ensures) (sym c.if-is_system.ensures)
+    c.loop-number.invariant
 
 pub returns-clause-none : goal.returns-clause-none
 returns-clause-none c = λ k f h.

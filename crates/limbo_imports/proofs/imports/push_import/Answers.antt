@@ -12,7 +12,8 @@ returns-in_ok-push-in-Some-clause-imports c = λ listed.
     let x = c.index-entry.result.now in
     let at = entry_at all k x c.requires.there (rw c.table.ensures at c.index-entry.ensures) in
     rw c.in_ok-push-in-Some.ensures.items
-    (import_yes (entries_of all) c.args.implemented c.args.meanings.now c.args.others.now k (view_entry x) c.in-Imported.source.now.text c.args.imports.now.items
+    (import_yes (entries_of all) c.args.implemented c.args.meanings.now c.args.others.now k (view_entry x) c.in-Imported.source.now.text
+    c.args.imports.now.items
     c.in-Some.told at (ap view_declared c.in-Imported.is) c.in-Some.ensures.some listed)
 
 pub returns-in-None-clause-not_there : goal.returns-in-None-clause-not_there
@@ -21,7 +22,8 @@ returns-in-None-clause-not_there c = λ n e.
     let k = c.args.number in
     let x = c.index-entry.result.now in
     let at = entry_at all k x c.requires.there (rw c.table.ensures at c.index-entry.ensures) in
-    missing_at (entries_of all) c.args.implemented c.args.meanings.now c.args.others.now k n (view_entry x) c.in-Imported.source.now.text e at
+    missing_at (entries_of all) c.args.implemented c.args.meanings.now c.args.others.now k n (view_entry x) c.in-Imported.source.now.text
+    e at
     (ap view_declared c.in-Imported.is) c.in-None.ensures.none
 
 pub returns-in_default : goal.returns-in_default
@@ -31,6 +33,7 @@ returns-in_default c = record {
       let k = c.args.number in
       let x = c.index-entry.result.now in
       let at = entry_at all k x c.requires.there (rw c.table.ensures at c.index-entry.ensures) in
-      import_no (entries_of all) c.args.implemented c.args.meanings.now c.args.others.now k x c.args.imports.now.items at c.in_default.not-Imported listed;
+      import_no (entries_of all) c.args.implemented c.args.meanings.now c.args.others.now k x c.args.imports.now.items at
+      c.in_default.not-Imported listed;
   not_there = tt;
 }

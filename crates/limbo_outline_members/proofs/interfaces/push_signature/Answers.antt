@@ -32,6 +32,8 @@ returns-in_ok-push-in-Function c = λ m headed listed.
     let e = c.in_ok-told-in-Function.ensures in
     rw c.in_ok-push-in-Function.ensures.items
     (rw map-append
-    (signature_yes (entries_of all) m c.args.builtin c.args.outer k (view_entry x) c.in-Function.header (map view_signature c.args.signatures.now.items)
-    (view_signature told) (subst (λ (z : Heading). Heads (entries_of all) m (view_entry x) z) c.in-Function.is w) at (sym c.if-not-is_called.ensures)
+    (signature_yes (entries_of all) m c.args.builtin c.args.outer k (view_entry x) c.in-Function.header (map view_signature
+    c.args.signatures.now.items)
+    (view_signature told) (subst (λ (z : Heading). Heads (entries_of all) m (view_entry x) z) c.in-Function.is w) at (sym
+    c.if-not-is_called.ensures)
     e.name (rw c.deref.ensures at e.of) listed))

@@ -37,10 +37,15 @@ returns-in-Some-clause-raises c =
     let C = view_context c.args.context.now in
     let B = view_body c.args.body.now in
     let E = source.view_expr c.args.e.now in
-    let x = item_of (slice_get (map view_exception c.deref.result.now) c.in-Ok-Some.number) (map view_ty c.in-Some.asked.now) c.in-Some.ensures in
+    let x = item_of (slice_get (map view_exception c.deref.result.now) c.in-Ok-Some.number) (map view_ty c.in-Some.asked.now)
+    c.in-Some.ensures in
     let l =
     ap (λ (xs : List code_exception.TException). slice_get (map view_exception xs) c.in-Ok-Some.number) (sym c.deref.ensures.value) ∙ x.1 in
-    let names : NamesException C B c.args.name.now c.in-Ok-Some.number x.0 = record { is = c.in-Ok-Some.ensures.found c.in-Ok-Some.number c.in-Ok-Some.field-0-is; there = l } in
+    let names : NamesException C B c.args.name.now c.in-Ok-Some.number x.0 = record {
+      is = c.in-Ok-Some.ensures.found c.in-Ok-Some.number
+          c.in-Ok-Some.field-0-is;
+      there = l;
+    } in
     if_ok c.raise_exception.result _ _
     (λ s h m.
     raised_by C B E c.args.name.now c.in-Ok-Some.number x.0 (map view_ty c.in-Some.asked.now) (view_stmt s)
@@ -52,10 +57,15 @@ returns-in-Some-clause-refused c =
     let C = view_context c.args.context.now in
     let B = view_body c.args.body.now in
     let E = source.view_expr c.args.e.now in
-    let x = item_of (slice_get (map view_exception c.deref.result.now) c.in-Ok-Some.number) (map view_ty c.in-Some.asked.now) c.in-Some.ensures in
+    let x = item_of (slice_get (map view_exception c.deref.result.now) c.in-Ok-Some.number) (map view_ty c.in-Some.asked.now)
+    c.in-Some.ensures in
     let l =
     ap (λ (xs : List code_exception.TException). slice_get (map view_exception xs) c.in-Ok-Some.number) (sym c.deref.ensures.value) ∙ x.1 in
-    let names : NamesException C B c.args.name.now c.in-Ok-Some.number x.0 = record { is = c.in-Ok-Some.ensures.found c.in-Ok-Some.number c.in-Ok-Some.field-0-is; there = l } in
+    let names : NamesException C B c.args.name.now c.in-Ok-Some.number x.0 = record {
+      is = c.in-Ok-Some.ensures.found c.in-Ok-Some.number
+          c.in-Ok-Some.field-0-is;
+      there = l;
+    } in
     if_err c.raise_exception.result _ _
     (λ f g m.
     exception_fails C B E f.cause c.args.name.now c.in-Ok-Some.number x.0 (map view_ty c.in-Some.asked.now) m names x.2 g)

@@ -15,7 +15,8 @@ returns-in-None c =
     let k = c.args.number in
     let s = c.args.known.now in
     let h : global_in (meaning_at s.meant.meanings.items k) ≡ None = rw c.deref.ensures.value at (sym c.global_at.ensures ∙ c.in-None.is) in
-    begins_not es m k c.args.beginnings.now.items (not_global es m k s.meant.meanings.items s.initials.items c.requires.known.meant.meant.meanings c.requires.known.initials h)
+    begins_not es m k c.args.beginnings.now.items (not_global es m k s.meant.meanings.items s.initials.items
+    c.requires.known.meant.meant.meanings c.requires.known.initials h)
 
 pub returns-in-None-initial_at : goal.returns-in-None-initial_at
 returns-in-None-initial_at c =
@@ -37,10 +38,12 @@ returns-in_ok-push-in-Some-initial_at c =
     let b = c.requires.known.initials in
     let x : Initial = record { global = c.in-Some.global; value = c.in_ok-value-in-Some-initial_at.value } in
     let known = c.in-Some-initial_at.constant.now in
-    let is : global_in (meaning_at s.meant.meanings.items k) ≡ Some x.global = rw c.deref.ensures.value at (sym c.global_at.ensures ∙ c.in-Some.is) in
+    let is : global_in (meaning_at s.meant.meanings.items k) ≡ Some x.global = rw c.deref.ensures.value at (sym c.global_at.ensures ∙
+    c.in-Some.is) in
     let there : IsKnown s.initials.items k known = rw c.deref-in-Some.ensures.value at c.in-Some-initial_at.ensures.some in
     let value = c.in_ok-value-in-Some-initial_at.ensures in
     let e = entry_there c.args.table.now.entries.items k c.requires.there in
     rw c.in_ok-push-in-Some-initial_at.ensures.items
-    (begins_more es m k c.args.beginnings.now.items x (it_begins es m k s.meant.meanings.items s.initials.items a b x known is there value e.0 e.1)
+    (begins_more es m k c.args.beginnings.now.items x (it_begins es m k s.meant.meanings.items s.initials.items a b x known is there value
+    e.0 e.1)
     (begins_so es m k s.meant.meanings.items s.initials.items a b x known is there value))

@@ -26,8 +26,10 @@ returns-then-may_begin-clause-begins c =
     let global : global_in (meaning_at means k) ≡ Some g = rw c.deref.ensures.value at (sym c.global_at.ensures ∙ c.in-Some.is) in
     let there = mapped_at view_var c.args.globals.now g v (item_at c.args.globals.now g v w.3.0 w.1) in
     begins_here es m k means c.requires.known.meant.meant.meanings (map view_var c.args.globals.now) x at g (view_var v) global there
-    (it_may es m k s.initials.items c.requires.known.initials x at (view_expr c.in-Some-initial_in.value.now) c.in-Some-initial_in.ensures.some (view_ty v.ty) c.initial_at.result
-    (rw c.deref-in-Some-get.ensures.value at c.initial_at.ensures.some) (rw c.deref-in-Some-get.ensures.value at c.initial_at.ensures.none) true
+    (it_may es m k s.initials.items c.requires.known.initials x at (view_expr c.in-Some-initial_in.value.now)
+    c.in-Some-initial_in.ensures.some (view_ty v.ty) c.initial_at.result
+    (rw c.deref-in-Some-get.ensures.value at c.initial_at.ensures.some) (rw c.deref-in-Some-get.ensures.value at
+    c.initial_at.ensures.none) true
     c.if-may_begin.ensures.some c.if-may_begin.ensures.none refl)
 
 pub returns-else-may_begin-clause-fails : goal.returns-else-may_begin-clause-fails
@@ -45,7 +47,10 @@ returns-else-may_begin-clause-fails c =
     let w = c.in-Some-get.ensures.lookup in
     let global : global_in (meaning_at means k) ≡ Some g = rw c.deref.ensures.value at (sym c.global_at.ensures ∙ c.in-Some.is) in
     let there = mapped_at view_var c.args.globals.now g v (item_at c.args.globals.now g v w.3.0 w.1) in
-    begins_otherwise es m k means c.requires.known.meant.meant.meanings (map view_var c.args.globals.now) x at g (view_var v) global there c.requires.globals
-    (it_may_not es m k s.initials.items c.requires.known.initials x at (view_expr c.in-Some-initial_in.value.now) c.in-Some-initial_in.ensures.some (view_ty v.ty) c.initial_at.result
-    (rw c.deref-in-Some-get.ensures.value at c.initial_at.ensures.some) (rw c.deref-in-Some-get.ensures.value at c.initial_at.ensures.none) false
+    begins_otherwise es m k means c.requires.known.meant.meant.meanings (map view_var c.args.globals.now) x at g (view_var v) global there
+    c.requires.globals
+    (it_may_not es m k s.initials.items c.requires.known.initials x at (view_expr c.in-Some-initial_in.value.now)
+    c.in-Some-initial_in.ensures.some (view_ty v.ty) c.initial_at.result
+    (rw c.deref-in-Some-get.ensures.value at c.initial_at.ensures.some) (rw c.deref-in-Some-get.ensures.value at
+    c.initial_at.ensures.none) false
     c.if-may_begin.ensures.some c.if-may_begin.ensures.none refl)

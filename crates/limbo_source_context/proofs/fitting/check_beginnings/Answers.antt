@@ -9,7 +9,8 @@ use Rattle.limbo_source_context.proofs.fitting.check_beginnings.Goals as goal
 pub loop-number-preserved : goal.loop-number-preserved
 loop-number-preserved c =
     let es = entries_of c.args.table.now.entries.items in
-    begin_more (BeginsSo es c.args.implemented (map view_var c.args.globals.now)) c.loop-number.number c.loop-number.invariant c.in_ok-check_beginning.ensures.begins
+    begin_more (BeginsSo es c.args.implemented (map view_var c.args.globals.now)) c.loop-number.number c.loop-number.invariant
+    c.in_ok-check_beginning.ensures.begins
 
 pub returns-clause-begin : goal.returns-clause-begin
 returns-clause-begin c =

@@ -17,4 +17,5 @@ returns-in-Err-NoType-clause-fails c =
     let es = entries_of c.args.table.now.entries.items in
     let k = c.in-Err-NoType.number in
     no_type es c.args.implemented c.args.known.now.initials.items k c.requires.known.initials
-    (subst (λ (z : List (Option source.Constant)). outline.HasNoType es z k) c.deref-2.ensures.value (c.in-Err-NoType.ensures.no_type k c.in-Err-NoType.field-0-is))
+    (subst (λ (z : List (Option source.Constant)). outline.HasNoType es z k) c.deref-2.ensures.value (c.in-Err-NoType.ensures.no_type k
+    c.in-Err-NoType.field-0-is))

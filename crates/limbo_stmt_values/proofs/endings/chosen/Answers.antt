@@ -16,7 +16,8 @@ use Rattle.limbo_stmt_values.proofs.endings.chosen.Goals as goal
 pub returns-in-AsItIs-clause-chosen : goal.returns-in-AsItIs-clause-chosen
 returns-in-AsItIs-clause-chosen c =
     as_it_is
-    (subst (λ (t : Ty). IsCased t) (ap (λ (z : code_expr.TExpr). view_ty z.ty) c.deref.ensures ∙ type_is c.args.x.value) c.in-AsItIs.ensures)
+    (subst (λ (t : Ty). IsCased t) (ap (λ (z : code_expr.TExpr). view_ty z.ty) c.deref.ensures ∙ type_is c.args.x.value)
+    c.in-AsItIs.ensures)
 
 pub returns-in-AsString-clause-chosen : goal.returns-in-AsString-clause-chosen
 returns-in-AsString-clause-chosen c =

@@ -16,5 +16,6 @@ returns-in-Ok-clause-refused c =
 
 pub returns-in-Err-clause-refused : goal.returns-in-Err-clause-refused
 returns-in-Err-clause-refused c =
-    answer_unvalued (view_context c.args.context.now) (view_body c.args.body.now) (source.view_expr c.args.e.now) (view_ty c.args.asked.now) c.in-Err.fault.cause
+    answer_unvalued (view_context c.args.context.now) (view_body c.args.body.now) (source.view_expr c.args.e.now) (view_ty
+    c.args.asked.now) c.in-Err.fault.cause
     c.in-Err.ensures.refused

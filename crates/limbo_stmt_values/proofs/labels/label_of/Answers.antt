@@ -11,7 +11,8 @@ returns-then-equal-clause-of c =
 
 pub returns-then-equal-clause-refused : goal.returns-then-equal-clause-refused
 returns-then-equal-clause-refused c =
-    if_err c.constant_of.result _ _ (λ f h. no_constant (view_ty c.args.t.now) (view_expr c.args.x.now) f.why h) c.constant_of.ensures.refused
+    if_err c.constant_of.result _ _ (λ f h. no_constant (view_ty c.args.t.now) (view_expr c.args.x.now) f.why h)
+    c.constant_of.ensures.refused
 
 pub returns-else-equal-clause-refused : goal.returns-else-equal-clause-refused
 returns-else-equal-clause-refused c =

@@ -17,4 +17,5 @@ pub returns-in-None-clause-refused : goal.returns-in-None-clause-refused
 returns-in-None-clause-refused c =
     pick_none (view_context c.args.context.now) (view_body c.args.body.now) (source.view_expr c.args.e.now)
     (view_expr c.in-Ok.value.value) (view_body c.value.new.body) c.in-Ok.ensures.typed
-    (subst (λ (z : code_expr.TExpr). NoneIs (IsPicked (view_context c.args.context.now) (view_expr z))) c.deref.ensures c.in-None.ensures.none)
+    (subst (λ (z : code_expr.TExpr). NoneIs (IsPicked (view_context c.args.context.now) (view_expr z))) c.deref.ensures
+    c.in-None.ensures.none)
