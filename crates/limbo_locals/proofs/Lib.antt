@@ -1,4 +1,9 @@
-mod Freed
+mod Counted
+pub mod Freed
+pub mod Growing
 mod Imported
-mod Pushed
-mod Rules
+pub mod Known
+pub mod Listed
+mod Parts
+pub mod Pushed
+pub mod Rules

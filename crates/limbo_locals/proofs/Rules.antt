@@ -1,15 +1,22 @@
 -- The rules of declarations, as the code comes to them.
-use Rattle.std.proofs.Common.{◌≡◌, ◌∙◌, ℕ, List, Bool, false, Option, None, Some, Box, Global, refl, sym, ap, subst}
+use Rattle.std.proofs.Common.{◌≡◌, ◌∙◌, ◌++◌, ℕ, List, Bool, false, Option, None, Some, Box, Global, refl, sym, ap, subst}
 use Rattle.std.specs.Prelude.{IsTrue, ◌↔◌}
 use Rattle.std.proofs.lemmas.Bool.{false≢true}
 use Rattle.std.specs.Prelude.{Result, Ok, Err, IfOk, IfErr, length}
 use Rattle.std.proofs.lemmas.Result.{IfErr-weaker}
-use Rattle.limbo_types.specs.Types.{Ty}
+use Rattle.limbo_types.specs.Types.{Ty, Tuple}
+use Rattle.limbo_types.specs.View.{tys_of}
+use Rattle.limbo_layout.specs.Adts.{listed}
+use Rattle.limbo_fields.proofs.Named.{all_listed}
 use Rattle.limbo_tree.specs.Decls as decls
 use Rattle.limbo_tree.specs.Exprs as tree
 use Rattle.limbo_tree.specs.Types as written
 use Rattle.limbo_typed.specs.declared.stmt.TStmt as code_stmt
-use Rattle.limbo_typed.specs.Typed.{Expr, Stmt, Declare}
+use Rattle.limbo_typed.specs.Typed.{Expr, Stmt, Empty, Declare, Exception}
+use Rattle.limbo_scope.specs.Scopes.{Scope}
+use Rattle.limbo_scope.specs.Laws.{declared_all}
+use Rattle.limbo_local.specs.Points.{meaning_from}
+use Rattle.limbo_locals.specs.declared.names.Lead.TheVariants as lead
 use Rattle.limbo_typed.specs.Sound.{type_of, IsSettled}
 use Rattle.limbo_types.specs.View.{view_ty}
 use Rattle.limbo_typed.specs.declared.expr.TExpr as code_typed
@@ -25,8 +32,8 @@ use Rattle.limbo_typing.specs.Failing.{FailsValue}
 use Rattle.limbo_local.specs.Points.{ValueAt, numbers}
 use Rattle.limbo_local.specs.Failing.{FailsToDeclare, FailsModule, HasNoMember}
 use Rattle.limbo_local.specs.Failing as failing
-use Rattle.limbo_locals.specs.Named.{AreFree, with_variables_in}
-use Rattle.limbo_locals.specs.Anywhere.{at, DeclaresAt, FailsAt}
+use Rattle.limbo_locals.specs.Named.{AreFree, with_variables_in, exceptions_of, means}
+use Rattle.limbo_locals.specs.Anywhere.{at, DeclaresAt, DeclaresIn, FailsAt}
 use Rattle.limbo_causes.specs.declared.fault.TypingFault.{TypingFault}
 use Rattle.limbo_refusals.specs.declared.fault.ExprFault.{ExprFault}
 use Rattle.limbo_types.specs.declared.ty.Ty.TheVariants as make
@@ -172,3 +179,32 @@ begun_as (Err f) P A B w h a b rule = tt
 
 pub typed_as : (e : code_typed.TExpr) → type_of (view_expr e) ≡ view_ty e.ty
 typed_as e = ap type_of (view_expr-out e)
+
+-- ---- exceptions
+
+module _ (c : Context) (b : Body) (ns : List (List ℕ)) (ts : written.Tys) where
+  pub exceptions_fail : (f : code.Cause) → FailsBy f (FailsAsType c b (written.Tuple ts)) → FailsBy f (FailsAt c b (decls.Exception ns ts))
+  exceptions_fail f h = fails_weaker f _ _ (λ k x n. failing.values ns ts (at c b n) k x) h
+
+  pub exceptions_again : (f : code.Cause) → FailsBy f (λ k. (k ≡ Twice) × (AreFree ns b.scopes → ⊥))
+      → FailsBy f (FailsAt c b (decls.Exception ns ts))
+  exceptions_again f h =
+      fails_weaker f _ _
+      (λ k x n. subst (FailsToDeclare (decls.Exception ns ts) (at c b n)) (sym x.0) (failing.exception_again ns ts (at c b n) x.1)) h
+
+  pub exceptions_declare : (m : List ℕ) (us : List Ty) (xs : List Exception) (ss : List Scope) (first : ℕ) (z : Stmt)
+      → MeansPermitted c b (written.Tuple ts) (Tuple (tys_of us)) → AreFree ns b.scopes → z ≡ Empty
+      → xs ≡ c.exceptions ++ exceptions_of m ns us → first ≡ length c.exceptions
+      → ss ≡ declared_all (meaning_from (means lead.Exception) first ns) b.scopes
+      → DeclaresIn m c b (decls.Exception ns ts) z (record c { exceptions = xs }) (record { scopes = ss; variables = b.variables })
+  exceptions_declare m us xs ss first z h f is items begins scopes n = (
+    tys_of us,
+    h,
+    f,
+    is,
+    ap (λ (ys : List Exception). at (record c { exceptions = ys }) (record { scopes = ss; variables = b.variables }) n)
+        (items ∙ ap (λ (vs : List Ty). c.exceptions ++ exceptions_of m ns vs) (sym (all_listed us)))
+        ∙ ap (λ (zs : List Scope). at (record c { exceptions = c.exceptions ++ exceptions_of m ns (listed (tys_of us)) })
+        (record { scopes = zs; variables = b.variables }) n)
+        (scopes ∙ ap (λ (i : ℕ). declared_all (meaning_from (means lead.Exception) i ns) b.scopes) begins),
+  )

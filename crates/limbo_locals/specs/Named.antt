@@ -1,7 +1,7 @@
 -- Names that are declared one after the other, as the code hands them on.
 use Rattle.std.specs.Prelude.{◌≡◌, ◌++◌, ℕ, List, map, length, None}
 use Rattle.limbo_types.specs.Types.{Ty}
-use Rattle.limbo_typed.specs.Typed.{Var}
+use Rattle.limbo_typed.specs.Typed.{Var, Exception}
 use Rattle.limbo_context.specs.Context.{Body}
 use Rattle.limbo_scope.specs.Laws.{declared_all}
 use Rattle.limbo_local.specs.Points.{meaning_from}
@@ -19,6 +19,7 @@ means lead.Constant n = meaning.Constant n
 means lead.Type n = meaning.Type n
 means lead.Import n = meaning.Import n
 means lead.Exception n = meaning.Exception n
+means lead.Function n = meaning.Function n
 
 -- The innermost of the scopes declares none of them, and none stands twice.
 abbrev pub AreFree : List (List ℕ) → List Scope → Type 0
@@ -38,3 +39,7 @@ with_variables_in names t b = record {
 -- the type once more for each name
 abbrev pub types_of : List (List ℕ) → Ty → List Ty
 types_of names t = map (λ n. t) names
+
+-- exceptions of these names, of the module of this name, with values of these types
+abbrev pub exceptions_of : (module_name : List ℕ) → List (List ℕ) → List Ty → List Exception
+exceptions_of m names ts = map (λ n. record { module_name = m; name = n; values = ts }) names

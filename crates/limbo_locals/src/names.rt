@@ -20,6 +20,8 @@ pub enum Lead {
     Type,
     Import,
     Exception,
+    /// A function of a module type, among the functions of that.
+    Function,
 }
 
 impl Lead {
@@ -33,6 +35,7 @@ impl Lead {
             Lead::Type => Meaning::Type(number),
             Lead::Import => Meaning::Import(number),
             Lead::Exception => Meaning::Exception(number),
+            Lead::Function => Meaning::Function(number),
         }
     }
 }
@@ -41,7 +44,7 @@ impl Lead {
 ///
 /// # Errors
 /// Want of memory or of numbers. `Twice` only where the scope declares one of the names, or one stands twice.
-pub(crate) fn declare_names(
+pub fn declare_names(
     scopes: &mut Scopes,
     names: &[Name],
     lead: Lead,

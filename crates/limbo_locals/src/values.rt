@@ -14,7 +14,7 @@ ghost use Rattle.limbo_value_forms.specs.Forms.{itself};
 
 use inf_text::Span;
 use limbo_arguments::settle_or_clash;
-use limbo_causes::TypingFault;
+use limbo_causes::{Cause, TypingFault};
 use limbo_permits::is_settled;
 use limbo_refusals::clash_of;
 use limbo_typed::{TExpr, TStmt};
@@ -53,9 +53,16 @@ pub(crate) fn settled(alloc: Global, x: &TExpr, at: Span) -> Result<(), TypingFa
 
 /// The statement of a declaration that does nothing when it runs.
 #[tactic(auto, using(limbo_typed::proofs::View::the_stmts))]
-pub(crate) fn nothing_runs(alloc: Global) -> Result<Box<TStmt>, TypingFault>
+pub fn nothing_runs(alloc: Global) -> Result<Box<TStmt>, TypingFault>
     ensures empty { IfOk result (λ z. view_stmt z.value ≡ Empty) }
     ensures refused { IfErr result (λ f. f.cause ≡ NoMemory) }
 {
     Ok(Box::new(alloc, TStmt::Empty)?)
+}
+
+/// A cause that isn't told.
+pub(crate) fn untold(_cause: Cause) -> TypingFault
+    ensures { result.cause ≡ NoMemory }
+{
+    TypingFault::no_memory()
 }

@@ -1,0 +1,9 @@
+mod Added
+mod Closed
+mod Fielded
+mod Kept
+mod Named
+mod Permitted
+mod Shown
+mod Small
+mod Standing

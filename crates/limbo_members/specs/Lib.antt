@@ -1,0 +1,4 @@
+pub mod Written
+pub mod Tables
+pub mod Adding
+pub mod Standing
