@@ -1,0 +1,9 @@
+use Rattle.std.proofs.Common.{◌≡◌, map, take}
+use Rattle.std.specs.List.{filter_map}
+use Rattle.limbo_cases.specs.Texts.{text_label}
+use Rattle.limbo_heads.specs.Labels.{label_in, text_in}
+use Rattle.limbo_heads.proofs.apart.text_labels.Given as goal
+
+abbrev pub invariant-loop-pattern : goal.invariant-loop-pattern
+invariant-loop-pattern l =
+    map text_label l.all.items ≡ filter_map (label_in text_in) (map (λ p. p.now) (take l.pattern-index l.patterns))
