@@ -1,0 +1,4 @@
+mod Told
+mod Rows
+mod Nested
+mod Views

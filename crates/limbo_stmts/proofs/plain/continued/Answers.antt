@@ -1,0 +1,15 @@
+use Rattle.std.proofs.Common.{List}
+use Rattle.limbo_tree.specs.View as source
+use Rattle.limbo_stmts.proofs.plain.continued.Goals as goal
+use Rattle.std.proofs.Common.{subst, map}
+use Rattle.limbo_refusals.specs.Refusals.{NoneIs}
+use Rattle.limbo_stating.specs.Around.{Innermost, IsContinued}
+use Rattle.limbo_heads.specs.declared.around.Turn as code_turn
+use Rattle.limbo_heads.specs.Around.{view_turn}
+use Rattle.limbo_stating.specs.FailsToState as fails
+use Rattle.limbo_stating.specs.FailsToState.{FailsToState}
+
+pub returns-in-None-clause-refused : goal.returns-in-None-clause-refused
+returns-in-None-clause-refused c =
+    fails.continues_nothing _ _ _ (subst (λ (ts : List code_turn.Turn). NoneIs (Innermost (map view_turn ts) (IsContinued (source.name_of
+    c.args.label.now)))) c.deref.ensures.value c.in-None.ensures.none)
