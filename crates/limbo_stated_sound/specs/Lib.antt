@@ -1,0 +1,5 @@
+pub mod Growing
+pub mod Proper
+pub mod Standing
+pub mod Named
+pub mod Laws
