@@ -1,0 +1,4 @@
+mod Parameters
+mod Statements
+mod Whole
+mod Rows
