@@ -1,0 +1,10 @@
+mod Alike
+mod Listing
+mod There
+mod Types
+mod Named
+mod Numbers
+mod Through
+mod Ranged
+mod Constant
+mod Ready
