@@ -58,8 +58,9 @@ fn function_at(meanings: &[Option<Meaning>], number: u32) -> Option<u32>
     }
 }
 
-/// The declaration of the function that a definition is of, and the function.
-pub(crate) fn function_of(
+/// The declaration of the function that a definition is of, by its number, and the number of the function. `None` exactly where no function
+/// of the module is declared under the definition's name.
+pub fn function_of(
     table: &Table,
     implemented: u32,
     meanings: &[Option<Meaning>],

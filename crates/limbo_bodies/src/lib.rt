@@ -15,5 +15,6 @@ mod parameters;
 mod sameness;
 
 pub use beginning::begin_body;
+pub use declared::function_of;
 pub use defining::{Defined, head_definition};
 pub use fault::DefinitionFault;
