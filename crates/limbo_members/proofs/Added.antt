@@ -1,6 +1,6 @@
 -- Members that are added one after the other.
-use Rattle.std.proofs.Common.{◌≡◌, ◌<◌, ◌≤◌, ◌+◌, ◌++◌, ◌∷◌, [], ℕ, Bool, false, true, List, Option, Some, length, map, drop, get_or}
-use Rattle.std.proofs.Common.{refl, sym, ap, subst, ◌∙◌, append_assoc, arith}
+use Rattle.std.proofs.Common.{◌≡◌, ◌<◌, ◌≤◌, ◌+◌, ◌++◌, [], ℕ, Bool, true, List, Option, length, map, drop, get_or}
+use Rattle.std.proofs.Common.{refl, sym, ap, subst, ◌∙◌, append_assoc}
 use Rattle.std.specs.Prelude.{slice_get}
 use Rattle.std.proofs.lemmas.List.{append-nil, drop_all}
 use Rattle.limbo_tree.specs.Exprs as tree
@@ -10,9 +10,9 @@ use Rattle.limbo_tree.specs.Decls.{Member, VarMember, FnMember, ConMember, TypeM
 use Rattle.limbo_tree.specs.declared.decl.Member as code_member
 use Rattle.limbo_tree.specs.View.{view_member, view_members, members_of}
 use Rattle.limbo_types.specs.Types.{Ty, FnTy}
-use Rattle.limbo_layout.specs.Adts.{Field, Variant, Def}
+use Rattle.limbo_layout.specs.Adts.{Variant}
 use Rattle.limbo_scope.specs.declared.meaning.Meaning.TheVariants as meaning
-use Rattle.limbo_scope.specs.Scopes.{Scope, declared}
+use Rattle.limbo_scope.specs.Scopes.{declared}
 use Rattle.limbo_causes.specs.declared.fault.Cause as code
 use Rattle.limbo_causes.specs.Causes.{Cause, FailsBy}
 use Rattle.limbo_causes.proofs.Telling.{fails_weaker}
@@ -20,8 +20,8 @@ use Rattle.limbo_context.specs.Context.{Context, Body}
 use Rattle.limbo_written.specs.Written.{MeansPermitted, FailsAsType}
 use Rattle.limbo_local.specs.Points.{Point, leave}
 use Rattle.limbo_local.specs.Local.{IsHeader}
-use Rattle.limbo_local.specs.Members.{Inside, nothing_inside, beside, adt_inside, fields, showing_adt, variants_in, AreVariants, open_adt}
-use Rattle.limbo_local.specs.Members.{AddsToAdt, AllAddToAdt}
+use Rattle.limbo_local.specs.Members.{Inside, nothing_inside, beside, adt_inside, fields, variants_in, AreVariants, open_adt}
+use Rattle.limbo_local.specs.Members.{AllAddToAdt}
 use Rattle.limbo_local.specs.Failing as failing
 use Rattle.limbo_local.specs.Failing.{FailsInAdt, FailsAllInAdt, FailsHeader, FailsVariants}
 use Rattle.limbo_locals.specs.Anywhere.{at, FailsConstantsAt}

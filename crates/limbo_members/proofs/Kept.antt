@@ -1,19 +1,17 @@
 -- What stays where members are added to an adt: the rows of the adts that were there, and the scopes around.
-use Rattle.std.proofs.Common.{◌≡◌, ◌<◌, ◌≤◌, ◌+◌, ◌++◌, ◌∷◌, [], ℕ, zero, suc, Bool, List, Option, Some, None, length, map, take}
+use Rattle.std.proofs.Common.{◌≡◌, ◌<◌, ◌≤◌, ◌+◌, ◌++◌, ◌∷◌, [], ℕ, zero, suc, Bool, List, Option, Some, None, length, take}
 use Rattle.std.proofs.Common.{refl, sym, ap, subst, ◌∙◌, arith}
 use Rattle.std.specs.Prelude.{slice_get}
-use Rattle.std.proofs.lemmas.List.{length-map}
 use Rattle.limbo_tree.specs.Exprs as tree
 use Rattle.limbo_tree.specs.Decls as decls
 use Rattle.limbo_tree.specs.Decls.{Member, VarMember, FnMember, ConMember, TypeMember, AdtMember, Members, NoMembers, MoreMembers}
-use Rattle.limbo_layout.specs.Adts.{Def}
 use Rattle.limbo_scope.specs.declared.meaning.Meaning.{Meaning}
 use Rattle.limbo_scope.specs.declared.meaning.Meaning.TheVariants as meaning
 use Rattle.limbo_scope.specs.Scopes.{Scope, seen, entered, declared, left}
 use Rattle.limbo_scope.specs.Laws.{declared_all}
-use Rattle.limbo_context.specs.Context.{Context, Body, Valued}
-use Rattle.limbo_local.specs.Points.{Point, with_body, meaning_from, leave}
-use Rattle.limbo_local.specs.Local.{iota, counting, seeing, seen_behind, IsConstant, AreConstants, with_constants, with_types}
+use Rattle.limbo_context.specs.Context.{Context, Valued}
+use Rattle.limbo_local.specs.Points.{Point, with_body, meaning_from}
+use Rattle.limbo_local.specs.Local.{iota, counting, seeing, seen_behind, IsConstant, AreConstants}
 use Rattle.limbo_local.specs.Members.{Inside, changed, showing_adt, variants_in, open_adt, AddsToAdt, AllAddToAdt}
 use Rattle.limbo_typing.specs.Typing.{HasValue}
 use Rattle.limbo_locals.proofs.Growing.{value_grows, declared_further, back}
@@ -43,7 +41,7 @@ changed_same a y [] h = refl
 changed_same zero y (x ∷ xs) h = let e : x ≡ y = cc in ap (λ z. z ∷ xs) (sym e)
 changed_same (suc a) y (x ∷ xs) h = ap (λ z. x ∷ z) (changed_same a y xs h)
 
-length_changed : {A : Type 0} (a : ℕ) (f : A → A) (xs : List A) → length (changed a f xs) ≡ length xs
+pub length_changed : {A : Type 0} (a : ℕ) (f : A → A) (xs : List A) → length (changed a f xs) ≡ length xs
 length_changed a f [] = refl
 length_changed zero f (x ∷ xs) = refl
 length_changed (suc a) f (x ∷ xs) = ap suc (length_changed a f xs)
@@ -53,7 +51,7 @@ front_of [] y i l = absurd (omega arith)
 front_of (x ∷ xs) y zero l = refl
 front_of (x ∷ xs) y (suc i) l = front_of xs y i (omega arith)
 
-one_longer : {A : Type 0} (xs : List A) (y : A) → length (xs ++ y ∷ []) ≡ length xs + 1
+pub one_longer : {A : Type 0} (xs : List A) (y : A) → length (xs ++ y ∷ []) ≡ length xs + 1
 one_longer [] y = refl
 one_longer (x ∷ xs) y = let r : length (xs ++ y ∷ []) ≡ length xs + 1 = one_longer xs y in omega arith
 

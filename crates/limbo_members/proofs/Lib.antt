@@ -1,9 +1,10 @@
-mod Added
+pub mod Added
 mod Closed
 mod Fielded
-mod Kept
+pub mod Kept
 mod Named
 mod Permitted
-mod Shown
+pub mod Shown
 mod Small
-mod Standing
+pub mod Standing
+pub mod Untouched

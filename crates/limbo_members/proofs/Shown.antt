@@ -5,7 +5,6 @@ use Rattle.std.proofs.lemmas.Option.{slice_get_within}
 use Rattle.limbo_scope.specs.declared.meaning.Meaning.{Meaning}
 use Rattle.limbo_scope.specs.Scopes.{Scope, declared, entered}
 use Rattle.limbo_scope.specs.Laws.{declared_all}
-use Rattle.limbo_layout.specs.Adts.{Variant}
 use Rattle.limbo_tree.specs.Decls as decls
 use Rattle.limbo_context.specs.Context.{Context, Body}
 use Rattle.limbo_local.specs.Points.{Point}
@@ -39,23 +38,33 @@ pub shown_stays : (a : ℕ) (c : Context) (b : Body) (n : ℕ) → IsShown a c b
 shown_stays a c b n h =
     ap (λ (rows : List (List Scope)). at (record c { members = rows }) b n) (sym (changed_same a (take 1 b.scopes) c.members h))
 
+-- names that come behind those that a row shows, as they come in the innermost scope
+module _ (a : ℕ) (was now : List (List Scope)) (ds : List (List ℕ × Meaning)) (old scopes : List Scope)
+    (shown : slice_get was a ≡ Some (take 1 old)) (is : now ≡ changed a (declared_all ds) was) (later : scopes ≡ declared_all ds old) where
+  pub row_changed : now ≡ changed a (λ row. take 1 scopes) was
+  row_changed =
+      is
+      ∙ changed_as a (declared_all ds) was (take 1 old) (take 1 scopes) shown
+      (first_alone ds old ∙ ap (λ (ss : List Scope). take 1 ss) (sym later))
+
+  pub row_there : slice_get now a ≡ Some (take 1 scopes)
+  row_there =
+      ap (λ (zs : List (List Scope)). slice_get zs a) is
+      ∙ changed_there a (declared_all ds) was (take 1 old) shown
+      ∙ ap (λ (ss : List Scope). let r : Option (List Scope) = Some ss in r)
+      (first_alone ds old ∙ ap (λ (ss : List Scope). take 1 ss) (sym later))
+
 module _ (a : ℕ) (c : Context) (b : Body) (rows : List (List Scope)) (ds : List (List ℕ × Meaning)) (old : List Scope) where
   pub shown_on : slice_get c.members a ≡ Some (take 1 old) → rows ≡ changed a (declared_all ds) c.members → b.scopes ≡ declared_all ds old
       → (n : ℕ) → at (record c { members = rows }) b n ≡ showing_adt a (at c b n)
   shown_on h is s n =
-      ap (λ (zs : List (List Scope)). at (record c { members = zs }) b n)
-      (is ∙ changed_as a (declared_all ds) c.members (take 1 old) (take 1 b.scopes) h
-      (first_alone ds old ∙ ap (λ (ss : List Scope). take 1 ss) (sym s)))
+      ap (λ (zs : List (List Scope)). at (record c { members = zs }) b n) (row_changed a c.members rows ds old b.scopes h is s)
 
   pub shown_next : slice_get c.members a ≡ Some (take 1 old) → rows ≡ changed a (declared_all ds) c.members → b.scopes ≡ declared_all ds old
       → IsShown a (record c { members = rows }) b
-  shown_next h is s =
-      ap (λ (zs : List (List Scope)). slice_get zs a) is
-      ∙ changed_there a (declared_all ds) c.members (take 1 old) h
-      ∙ ap (λ (ss : List Scope). let r : Option (List Scope) = Some ss in r)
-      (first_alone ds old ∙ ap (λ (ss : List Scope). take 1 ss) (sym s))
+  shown_next h is s = row_there a c.members rows ds old b.scopes h is s
 
-last_of : {A : Type 0} (xs : List A) (y : A) → slice_get (xs ++ y ∷ []) (length xs) ≡ Some y
+pub last_of : {A : Type 0} (xs : List A) (y : A) → slice_get (xs ++ y ∷ []) (length xs) ≡ Some y
 last_of [] y = refl
 last_of (x ∷ xs) y = last_of xs y
 

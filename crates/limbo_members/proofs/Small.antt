@@ -8,7 +8,7 @@ use Rattle.limbo_typed.specs.Sound.{Each}
 use Rattle.limbo_permits.specs.Permits.{nodes, most_nodes}
 use Rattle.limbo_context.specs.Context.{Context, Body}
 use Rattle.limbo_local.specs.Points.{Point}
-use Rattle.limbo_local.specs.Members.{Inside, nothing_inside, beside, fields, adt_inside, showing_adt, variants_in, named_variants}
+use Rattle.limbo_local.specs.Members.{Inside, nothing_inside, fields, showing_adt, variants_in, named_variants}
 use Rattle.limbo_local.specs.Members.{AreFields, AreVariants, open_adt, AddsToAdt, AllAddToAdt}
 use Rattle.limbo_members.proofs.Named.{each_both, types_both, variant_types_both}
 

@@ -1,33 +1,31 @@
 -- Whether adts may stand.
-use Rattle.std.proofs.Common.{◌≡◌, ◌<◌, ◌≤◌, ◌+◌, ◌++◌, ◌∷◌, [], ◌⊎◌, inl, inr, ℕ, zero, suc, Bool, false, List, Option, Some, None}
-use Rattle.std.proofs.Common.{length, map}
+use Rattle.std.proofs.Common.{◌≡◌, ◌<◌, ◌≤◌, ◌++◌, ◌∷◌, [], ℕ, zero, suc, Bool, false, List, Option, Some, None}
+use Rattle.std.proofs.Common.{length}
 use Rattle.std.proofs.Common.{take, refl, sym, ap, subst, ◌∙◌, arith}
-use Rattle.std.specs.Prelude.{slice_get, IsSome}
-use Rattle.std.proofs.lemmas.Bool.{false≢true}
+use Rattle.std.specs.Prelude.{slice_get}
 use Rattle.limbo_fields.proofs.Named.{all_listed}
 use Rattle.limbo_types.specs.Types.{Ty, Tuple, Adt}
 use Rattle.limbo_types.specs.View.{tys_of}
 use Rattle.limbo_tree.specs.Decls as decls
 use Rattle.limbo_tree.specs.Decls.{AdtMember, Members}
-use Rattle.limbo_layout.specs.Adts.{Def, listed, parts, field_types, Names}
+use Rattle.limbo_layout.specs.Adts.{Def, listed, parts, field_types}
 use Rattle.limbo_layout.specs.Layout.{Room, Laid, AllLaid, of_tuple, of_adt, is_alone, in_order, alone, Fits}
 use Rattle.limbo_typed.specs.Typed.{Stmt, Empty}
 use Rattle.limbo_typed.specs.Sound.{Each}
 use Rattle.limbo_scope.specs.Scopes.{declared_here}
-use Rattle.limbo_permits.specs.Permits.{nodes, most_nodes}
-use Rattle.limbo_refusals.specs.Refusals.{Refusal, TypeTooLarge}
+use Rattle.limbo_refusals.specs.Refusals.{TypeTooLarge}
 use Rattle.limbo_declarations.specs.Names.{AreOnce}
 use Rattle.limbo_declarations.specs.Scopes.{AdtIsOnce}
 use Rattle.limbo_causes.specs.declared.fault.Cause as code
-use Rattle.limbo_causes.specs.Causes.{Cause, Twice, Refused, FailsBy, ByRefusal}
+use Rattle.limbo_causes.specs.Causes.{Twice, Refused, FailsBy, ByRefusal}
 use Rattle.limbo_causes.proofs.Telling.{fails_weaker}
 use Rattle.limbo_context.specs.Context.{Context, Body}
-use Rattle.limbo_local.specs.Points.{Point, AreNew}
-use Rattle.limbo_local.specs.Members.{Inside, IsAdt, MayStand, AllMayStand, with_adts, AddsToAdt}
+use Rattle.limbo_local.specs.Points.{AreNew}
+use Rattle.limbo_local.specs.Members.{Inside, IsAdt}
 use Rattle.limbo_local.specs.Failing as failing
 use Rattle.limbo_local.specs.Failing.{FailsAdt, FailsToStand, FailsToDeclare}
 use Rattle.limbo_locals.specs.Anywhere.{at, DeclaresAt, FailsAt}
-use Rattle.limbo_members.specs.Standing.{AreAllowed, IsAllowedIn, with_adts_in}
+use Rattle.limbo_members.specs.Standing.{AreAllowed, with_adts_in}
 use Rattle.limbo_members.specs.Adding.{AddsAdt, FailsMember}
 use Rattle.limbo_members.proofs.Small.{AreSmall, small_member}
 

@@ -1,10 +1,12 @@
 //! Adts that bodies declare.
 
-ghost use Rattle.std.specs.Prelude.{◌≡◌, ◌∷◌, [], ℕ, map, option_map, IfOk, IfErr, OnOk};
+ghost use Rattle.std.specs.Prelude.{◌≡◌, ◌∷◌, [], ℕ, length, map, option_map, IfOk, IfErr, OnOk};
 ghost use Rattle.limbo_tree.specs.Decls as decls;
 ghost use Rattle.limbo_tree.specs.View as source;
 ghost use Rattle.limbo_typed.specs.View.{view_stmt};
 ghost use Rattle.limbo_declarations.specs.Scopes.{AdtIsOnce};
+ghost use Rattle.limbo_scope.specs.declared.meaning.Meaning.TheVariants as meaning;
+ghost use Rattle.limbo_scope.specs.Scopes.{declared};
 ghost use Rattle.limbo_causes.specs.Causes as causes;
 ghost use Rattle.limbo_causes.specs.Causes.{FailsBy};
 ghost use Rattle.limbo_context.specs.View.{view_context, view_body};
@@ -23,11 +25,11 @@ use limbo_tree::{Member, Name, Variant};
 use limbo_typed::TStmt;
 use std::alloc::Global;
 
-/// An adt that stands in no other, where its name is seen to be new.
+/// An adt that stands in no other, where its name is seen to be new. It is declared, and leaves the modules as they are.
 ///
 /// # Errors
 /// Those of its members and of the fields of its variants; 51, 53 and 55 where it, or an adt that stands in it, may not stand.
-pub(crate) fn whole_adt(
+pub fn whole_adt(
     alloc: Global,
     context: &mut Context,
     body: &mut Body,
@@ -39,6 +41,10 @@ pub(crate) fn whole_adt(
     ensures is { OnOk result ((n : ℕ) → IsAdt in_module name.now.text (source.view_members members.now)
         (option_map (λ vs. map source.view_variant vs.items) pick.now) (at (view_context context.old) (view_body body.old) n)
         (at (view_context context.new) (view_body body.new) n)) }
+    ensures scopes { OnOk result (body.new.scopes
+        ≡ declared name.now.text (meaning.Adt (length (view_context context.old).adts)) body.old.scopes) }
+    ensures exports { OnOk result ((view_context context.new).exports ≡ (view_context context.old).exports) }
+    ensures interfaces { OnOk result ((view_context context.new).interfaces ≡ (view_context context.old).interfaces) }
     ensures refused { IfErr result (λ f. FailsBy f.cause (λ k. (n : ℕ) → FailsAdt in_module name.now.text
         (source.view_members members.now) (option_map (λ vs. map source.view_variant vs.items) pick.now)
         (at (view_context context.old) (view_body body.old) n) k)) }
@@ -51,7 +57,10 @@ pub(crate) fn whole_adt(
 }
 
 /// That the innermost scope doesn't declare a name.
-pub(crate) fn is_new(body: &Body, name: &Name, at: Span) -> Result<(), TypingFault>
+///
+/// # Errors
+/// 41 where it does.
+pub fn is_new(body: &Body, name: &Name, at: Span) -> Result<(), TypingFault>
     ensures new { OnOk result (AreNew (name.now.text ∷ []) (view_body body.now)) }
     ensures refused { IfErr result (λ f. FailsBy f.cause
         (λ k. (k ≡ causes.Twice) × (AreNew (name.now.text ∷ []) (view_body body.now) → ⊥))) }

@@ -23,8 +23,11 @@ use limbo_scope::{Meaning, ScopeFault, Scopes};
 use limbo_tree::{Name, Variant};
 use std::alloc::Global;
 
-// A name is declared, and the scope of its members entered.
-fn enter_named(body: &mut Body, name: &Name, means: Meaning) -> Result<(), Cause>
+/// A name is declared, and the scope of its members entered.
+///
+/// # Errors
+/// `Twice` only where the innermost scope declares the name already.
+pub fn enter_named(body: &mut Body, name: &Name, means: Meaning) -> Result<(), Cause>
     ensures entered { OnOk result (body.new.scopes ≡ entered (declared name.now.text means body.old.scopes)) }
     ensures variables { OnOk result (body.new.variables ≡ body.old.variables) }
     ensures free { OnOk result (declared_here name.now.text body.old.scopes ≡ None) }
@@ -67,6 +70,24 @@ fn push_adt(
         fields,
         picks,
     })?;
+    match set_table(alloc, context, defs, modules) {
+        Ok(()) => Ok(()),
+        Err(_) => Err(Cause::NoMemory),
+    }
+}
+
+/// One more module type, of this name.
+///
+/// # Errors
+/// Want of memory or of numbers.
+pub fn name_module(alloc: Global, context: &mut Context, name: &Name) -> Result<(), Cause>
+    ensures named { OnOk result (view_context context.new ≡ with_table (defs_of context.old.adts)
+        (context.old.adts.modules ++ name.now.text ∷ []) (view_context context.old)) }
+    ensures refused { IfErr result (λ f. f ≡ NoMemory) }
+{
+    let defs = copy_defs(alloc, context.adts.defs())?;
+    let mut modules = copy_texts(alloc, context.adts.modules())?;
+    modules.push(name.text.clone()?)?;
     match set_table(alloc, context, defs, modules) {
         Ok(()) => Ok(()),
         Err(_) => Err(Cause::NoMemory),

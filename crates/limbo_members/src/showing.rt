@@ -15,14 +15,17 @@ use limbo_scope::{Meaning, Scopes};
 use limbo_tree::Name;
 
 /// A cause that isn't told.
-pub(crate) fn untold(_cause: Cause) -> TypingFault
+pub fn untold(_cause: Cause) -> TypingFault
     ensures { result.cause ≡ NoMemory }
 {
     TypingFault::no_memory()
 }
 
 /// Shows names in a row. A row shows each name once, as its scope does, so that nothing but memory is wanting.
-pub(crate) fn show_names(
+///
+/// # Errors
+/// Want of memory or of numbers.
+pub fn show_names(
     rows: &mut Vec<Scopes>,
     row: u32,
     names: &[Name],
@@ -41,7 +44,10 @@ pub(crate) fn show_names(
 }
 
 /// Shows the name of an adt in a row, as above.
-pub(crate) fn show_adt(
+///
+/// # Errors
+/// Want of memory.
+pub fn show_adt(
     rows: &mut Vec<Scopes>,
     row: u32,
     name: &Name,

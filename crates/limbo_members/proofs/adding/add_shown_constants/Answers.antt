@@ -1,4 +1,4 @@
-use Rattle.std.proofs.Common.{rules, ◌≡◌, ℕ, length, sym, ap, subst, ◌∙◌, Some, List, take}
+use Rattle.std.proofs.Common.{rules, ◌≡◌, ℕ, length, ap, ◌∙◌, Some, List, take}
 use Rattle.std.specs.Prelude.{slice_get}
 use Rattle.limbo_tree.specs.View.{view_expr, names_of}
 use Rattle.limbo_scope.specs.Scopes.{Scope}

@@ -1,9 +1,8 @@
-use Rattle.std.proofs.Common.{rules, ◌≡◌, ℕ, length, map, sym, ap, subst, ◌∙◌, Some, List, take}
+use Rattle.std.proofs.Common.{rules, ◌≡◌, ℕ, length, ap, ◌∙◌, take}
 use Rattle.std.specs.Prelude.{slice_get}
 use Rattle.std.proofs.lemmas.List.{length-map}
 use Rattle.limbo_tree.specs.View.{view_type, names_of}
 use Rattle.limbo_types.specs.View.{view_ty}
-use Rattle.limbo_scope.specs.Scopes.{Scope}
 use Rattle.limbo_scope.specs.Laws.{declared_all}
 use Rattle.limbo_scope.specs.declared.meaning.Meaning.TheVariants as meaning
 use Rattle.limbo_context.specs.View.{view_context, view_body}

@@ -1,4 +1,4 @@
-use Rattle.std.proofs.Common.{rules, tests, ◌≡◌, true, sym, subst, ◌∙◌, List}
+use Rattle.std.proofs.Common.{rules, tests, ◌≡◌, true, subst, List}
 use Rattle.limbo_layout.specs.declared.def.Field as code_field
 use Rattle.limbo_layout.specs.Adts.{types_of}
 use Rattle.limbo_layout.specs.View.{view_defs, view_fields}
