@@ -1,0 +1,4 @@
+mod Added
+mod Declared
+mod Exported
+mod Numbered
