@@ -1,19 +1,17 @@
-//! Adts that bodies declare, and one call for any declaration (Limbo Language Reference, declarations, adts, modules and scope).
+//! Adts that bodies declare (Limbo Language Reference, declarations, adts and scope).
 //!
 //! `header` gives what a function takes and answers, as its declaration writes it where a body has come to; `declare_adt` gives the
-//! statement that an adt is there, and `declare` that of any declaration; `whole_adt` is an adt among the members of a module.
-//! `limbo_local` says by rules what each is, and why there is none. An adt that is open stands in the table of adts without its fields;
-//! they are known behind the adt that stands in no other. How modules begin, and how rows show the names of members, is public too: module
-//! types that bodies declare stand on it.
+//! statement that an adt is there, and `whole_adt` is an adt among the members of a module. `limbo_local` says by rules what each is, and
+//! why there is none. An adt that is open stands in the table of adts without its fields; they are known behind the adt that stands in no
+//! other. How modules begin, and how rows show the names of members, is public too: module types that bodies declare stand on it.
 //!
-//! Read `headers`, `fields`, `copying`, `naming`, `tables`, `opening`, `given`, `showing`, `adding`, `closing`, `adts`, `declaring`.
+//! Read `headers`, `fields`, `copying`, `naming`, `tables`, `opening`, `given`, `showing`, `adding`, `closing`, `adts`.
 #![tactic(auto)]
 
 mod adding;
 mod adts;
 mod closing;
 mod copying;
-mod declaring;
 mod fields;
 mod given;
 mod headers;
@@ -23,7 +21,6 @@ mod showing;
 mod tables;
 
 pub use adts::{declare_adt, is_new, whole_adt};
-pub use declaring::declare;
 pub use headers::header;
 pub use opening::{enter_named, name_module};
 pub use showing::{show_adt, show_names, untold};

@@ -10,7 +10,7 @@ use crate::point::Point;
 use inf_text::Span;
 use limbo_causes::TypingFault;
 use limbo_heads::{Around, innermost_continued, innermost_labelled};
-use limbo_members::declare;
+use limbo_interfaces::declare;
 use limbo_raising::raise;
 use limbo_refusals::clash_of;
 use limbo_stmt_values::{StmtFault, Why, evaluate, part_fault, returned, spawned};
