@@ -76,9 +76,13 @@ fn parts_of(alloc: Global, def: &AdtDef) -> Result<Vec<Ty>, AllocError>
     Ok(types)
 }
 
-// Whether an adt's parts together have a type that values may have.
+/// Whether an adt's parts together have a type that values may have.
+///
+/// # Errors
+/// Want of memory. 51 where one of them holds an `FD` as a value, 53 where one is, or holds, a value of a user's module, 55 where they take
+/// more than 65,536 bytes.
 #[tactic(auto, using(limbo_types::proofs::View::the_types))]
-fn allow_def(alloc: Global, context: &Context, def: &AdtDef) -> Result<(), ExprFault>
+pub fn allow_def(alloc: Global, context: &Context, def: &AdtDef) -> Result<(), ExprFault>
     ensures allowed { OnOk result (IsAllowedIn (view_context context.now) (view_def def.now)) }
     ensures refused { IfErr result (λ f. Refuses f (RefusesType (view_context context.now).adts
         (length (view_context context.now).modules) context.now.system context.now.fd (Tuple (tys_of (parts (view_def def.now)))))) }

@@ -21,6 +21,7 @@ mod showing;
 mod tables;
 
 pub use adts::{declare_adt, is_new, whole_adt};
+pub use closing::allow_def;
 pub use headers::header;
 pub use opening::{enter_named, name_module};
 pub use showing::{show_adt, show_names, untold};
