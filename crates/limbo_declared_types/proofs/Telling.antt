@@ -2,8 +2,6 @@
 use Rattle.std.proofs.Common.{◌≡◌, ℕ, Bool, true, false, List, Option, length, refl, sym, ap, subst, ◌∙◌}
 use Rattle.std.specs.Borrow.{Bor}
 use Rattle.limbo_tree.specs.declared.types.TypeTree as code_type
-use Rattle.limbo_tree.specs.declared.decl.Member as code_member
-use Rattle.limbo_tree.specs.declared.decl.Variant as code_variant
 use Rattle.limbo_tree.specs.Types as tree
 use Rattle.limbo_tree.specs.Exprs.{Expr}
 use Rattle.limbo_tree.specs.Decls as decls
@@ -48,10 +46,6 @@ of_table table m t h P p =
     subst (λ z. P table z) (ap (λ (n : Naming). n.implemented) h.2.by_naming ∙ h.1.by_module)
     (subst (λ z. P z t.naming.now.implemented) (ap (λ (n : Naming). n.table.now) h.2.by_naming ∙ h.1.by_table) p)
 
-pub same_table : (table : Table) (m : ℕ) (t : TypeNames) → ((n : Naming) × IsNaming table m n × AreTypesOf n t)
-    → t.naming.now.table.now ≡ table
-same_table table m t h = ap (λ (n : Naming). n.table.now) h.2.by_naming ∙ h.1.by_table
-
 never : {b : Bool} → b ≡ true → b ≡ false → ⊥
 never t f = let z : true ≡ false = sym t ∙ f in absurd cc
 
@@ -61,13 +55,8 @@ other test d x t f e = never t (ap test e ∙ f)
 
 -- ---- by the forms of the code
 
-pub no_adt : (d : code.Declared) → ((ms : Bor (List code_member.Member)) (pick : Option (Bor (List code_variant.Variant))) → d ≡ declared.Adt ms pick → ⊥)
-    → is_adt (view_declared d) ≡ false
-no_adt (declared.Adt ms pick) n = absurd (n ms pick refl)
-no_adt _ n = refl
-
-pub no_name : (d : code.Declared) → ((t : Bor code_type.TypeTree) → d ≡ declared.Alias t → ⊥) → (t : tree.Ty) → view_declared d ≡ rows.Alias t
-    → ⊥
+pub no_name : (d : code.Declared) → ((t : Bor code_type.TypeTree) → d ≡ declared.Alias t → ⊥) → (t : tree.Ty)
+    → view_declared d ≡ rows.Alias t → ⊥
 no_name (declared.Alias u) n t h = n u refl
 no_name _ n t h = absurd cc
 

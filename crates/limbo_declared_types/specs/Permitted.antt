@@ -23,7 +23,7 @@ use Rattle.limbo_members.specs.Standing.{IsAllowedIn}
 -- ---- functions
 
 -- A function may take and answer this: values may have the types of its arguments and of its answer, and it answers no value of a user's
--- module. Where it answers nothing, that is asked too, and holds.
+-- module. A function without an answer answers `Nothing`, of which both hold.
 pub record MayTake (c : Context) (of : FnTy) : Type 0 where
   pub args : Each (λ t. Permits c t) of.args
   pub answer : Permits c of.answer

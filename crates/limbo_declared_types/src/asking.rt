@@ -47,7 +47,7 @@ fn permit_function(alloc: Global, context: &Context, of: &FnTy) -> Result<(), Ex
     }
 }
 
-// Whether values of these types may stand together, as an exception carries them.
+// Whether an exception may carry values of these types: they count as one tuple.
 #[tactic(auto, using(limbo_types::proofs::View::the_types))]
 fn permit_values(alloc: Global, context: &Context, types: &[Ty]) -> Result<(), ExprFault>
     ensures permitted { OnOk result (Permits (view_context context.now) (Tuple (view_tys types.now))) }

@@ -53,7 +53,7 @@ fn permit_name(
     }
 }
 
-// Whether an adt's parts together are allowed. The context has each adt of the table.
+// Whether an adt's parts together are allowed. The context of a table has each of its adts.
 fn permit_adt(
     alloc: Global,
     table: &Table,
@@ -107,7 +107,7 @@ fn permit_entry(
 /// # Errors
 /// Want of memory. Of the first declaration that writes a type which values may not have: 51 where it holds an `FD` as a value, 53 where a
 /// user's module type stands inside it, or a function answers a value of one, 55 where it takes more than 65,536 bytes, or has more than
-/// 4,096 nodes.
+/// 4,096 nodes. The values of an exception count as one tuple, and so do the parts of an adt, of which the nodes aren't counted together.
 pub fn permit_all(
     alloc: Global,
     table: &Table,

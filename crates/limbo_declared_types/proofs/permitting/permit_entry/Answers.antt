@@ -7,11 +7,12 @@ use Rattle.limbo_entries.specs.Entries.{Entry}
 use Rattle.limbo_entries.specs.View.{entries_of, view_entry}
 use Rattle.limbo_naming.specs.Naming.{is_adt}
 use Rattle.limbo_naming.proofs.Places.{entry_at, state_at, one_entry}
+use Rattle.limbo_source_adts.proofs.Collecting.{not_adt}
 use Rattle.limbo_context.specs.View.{view_context}
 use Rattle.limbo_declared_types.specs.Permitted.{IsPermittedAt, IsForbiddenAt}
 use Rattle.limbo_declared_types.specs.Asked.{ForbidsHeading, ForbidsName, ForbidsAdtAt}
 use Rattle.limbo_declared_types.proofs.Lists.{refuses_weaker}
-use Rattle.limbo_declared_types.proofs.Telling.{no_adt, no_name, headed, headed_not, named, named_not, an_adt_is, an_adt_not}
+use Rattle.limbo_declared_types.proofs.Telling.{no_name, headed, headed_not, named, named_not, an_adt_is, an_adt_not}
 use Rattle.limbo_declared_types.proofs.permitting.permit_entry.Goals as goal
 
 pub returns-in-Alias-clause-permitted : goal.returns-in-Alias-clause-permitted
@@ -84,7 +85,7 @@ returns-in_default c =
     record {
       permitted = on_ok_weaker c.permit_heading.result
           (λ p e i. subst (λ (z : Entry). IsPermittedAt es m x k z) (one_entry es k (view_entry y) e at i)
-          (headed es m x c.requires.once k (view_entry y) h w p (no_adt y.row.declared c.in_default.not-Adt)
+          (headed es m x c.requires.once k (view_entry y) h w p (not_adt y.row.declared c.in_default.not-Adt)
           (no_name y.row.declared c.in_default.not-Alias))) c.permit_heading.ensures.permitted;
       refused = IfErr-weaker c.permit_heading.result (λ f. Refuses f (ForbidsHeading x h)) (λ f. Refuses f (IsForbiddenAt es m x k))
           (λ f g. refuses_weaker f (ForbidsHeading x h) (IsForbiddenAt es m x k)

@@ -17,7 +17,9 @@ returns-in-Some-clause-permitted c =
     let k = c.args.number in
     let t = view_ty c.in-Some.of.now in
     let s : Stands es m k t =
-    of_table c.args.table.now m c.args.names.now c.requires.types (λ a n. Stands (entries_of a.entries.items) n k t) c.in-Some.ensures.some in
+    of_table c.args.table.now m c.args.names.now c.requires.types (λ a n. Stands (entries_of a.entries.items) n k t)
+    c.in-Some.ensures.some
+    in
     let Permitted : Ty → Type 0 = λ u. Permits (view_context c.args.context.now) u in
     IfOk-weaker c.permit_type.result (λ _. Permitted t) (λ _. (u : Ty) → Stands es m k u → Permitted u)
     (λ _ p u a. subst Permitted (one_stands es m c.requires.once k t u s a) p) c.permit_type.ensures.permitted
