@@ -1,5 +1,5 @@
 -- The constants with which the variables of a module begin (Limbo Language Reference, declarations).
-use Rattle.std.specs.Prelude.{◌≡◌, ◌<◌, ℕ, List, Option, None, Some, slice_get}
+use Rattle.std.specs.Prelude.{◌≡◌, ◌<◌, ℕ, List, [], ◌∷◌, Option, None, Some, slice_get}
 use Rattle.std.specs.List.{Contains}
 use Rattle.limbo_tree.specs.Exprs as tree
 use Rattle.limbo_tree.specs.Exprs.{Expr}
@@ -25,10 +25,16 @@ pub record Begins (es : List Entry) (m : ℕ) (k : ℕ) (i : Initial) : Type 0 w
   pub initial : HasInitial es m k constant
   pub value : i.value ≡ value_of_constant constant
 
--- With these constants the variables of a module begin, and all others with zero or `nil`.
+-- The numbers of their variables rise: each is less than all behind it.
+abbrev pub Rises : List Initial → Type 0
+Rises [] = Unit {0}
+Rises (i ∷ initials) = ((j : Initial) → Contains initials j → i.global < j.global) × Rises initials
+
+-- With these constants the variables of a module begin, and all others with zero or `nil`. They stand in the order of their variables.
 pub record AreBeginnings (es : List Entry) (m : ℕ) (initials : List Initial) : Type 0 where
   pub only : (i : Initial) → Contains initials i → (k : ℕ) × Begins es m k i
   pub all : (k : ℕ) (i : Initial) → Begins es m k i → Contains initials i
+  pub rises : Rises initials
 
 -- ---- of which types
 
@@ -62,8 +68,9 @@ pub record BeginsOtherwise (es : List Entry) (m : ℕ) (k : ℕ) : Type 0 where
 
 -- The same of the first declarations, so many of them.
 pub record AreBeginningsTo (es : List Entry) (m : ℕ) (n : ℕ) (initials : List Initial) : Type 0 where
-  pub only : (i : Initial) → Contains initials i → (k : ℕ) × Begins es m k i
+  pub only : (i : Initial) → Contains initials i → (k : ℕ) × (k < n) × Begins es m k i
   pub all : (k : ℕ) (i : Initial) → k < n → Begins es m k i → Contains initials i
+  pub rises : Rises initials
 
 -- the variable of the module that is meant
 abbrev pub global_in : Option Meaning → Option ℕ

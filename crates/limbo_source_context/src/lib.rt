@@ -19,5 +19,5 @@ mod plain;
 mod source;
 
 pub use fault::ContextFault;
-pub use laws::one_context;
+pub use laws::{one_beginnings, one_context};
 pub use source::{SourceContext, source_context};
