@@ -19,7 +19,7 @@ use Rattle.limbo_source_context.specs.declared.known.Known as code_known
 use Rattle.limbo_source_context.specs.declared.outer.Outer as code_outer
 use Rattle.limbo_source_context.specs.declared.inner.Inner as code_inner
 use Rattle.limbo_source_context.specs.declared.plain.Plain as code_plain
-use Rattle.limbo_source_context.specs.SourceContext.{AreMeant}
+use Rattle.limbo_source_context.specs.SourceContext.{AreMeant, AllFit}
 
 pub record IsMeant (table : Table) (m : ℕ) (s : code_meant.Meant) : Type 0 where
   pub many : length s.meanings.items ≡ length table.entries.items
@@ -35,6 +35,7 @@ pub record IsKnown (table : Table) (m : ℕ) (k : code_known.Known) : Type 0 whe
 pub record IsOuter (es : List Entry) (m : ℕ) (s : code_meant.Meant) (o : code_outer.Outer) : Type 0 where
   pub adts : AdtsAre es m 0 es (defs_of o.adts)
   pub modules : o.adts.modules ≡ modules_of es
+  pub laid : AllFit (defs_of o.adts)
   pub globals : GlobalsAre es m (map view_var o.globals.items)
   pub imports : ImportsAre es m s.meanings.items s.others.items o.imports.items
 

@@ -1,5 +1,5 @@
 -- What is known in the bodies of a source's functions (Limbo Language Reference, declarations, scope and modules).
-use Rattle.std.specs.Prelude.{◌≡◌, ℕ, List, Option, None, Some, Bool}
+use Rattle.std.specs.Prelude.{◌≡◌, ◌<◌, ℕ, List, Option, None, Some, Bool, length}
 use Rattle.limbo_layout.specs.Adts.{Def}
 use Rattle.limbo_layout.specs.Layout.{Fits}
 use Rattle.limbo_types.specs.Types.{Adt}
@@ -62,6 +62,10 @@ pub record IsContext (es : List Entry) (m : ℕ) (module_name : List ℕ) (c : C
   pub exceptions : ExceptionsAre es m module_name c.exceptions
   pub is_system : c.system ≡ module_number means system
   pub is_fd : c.fd ≡ adt_number means fd
+
+-- Each adt has a layout.
+abbrev pub AllFit : List Def → Type 0
+AllFit defs = (n : ℕ) → n < length defs → Fits defs (Adt n)
 
 -- The scopes in which a body begins: the members of the implemented module, and in them the top level.
 abbrev pub AreOutermost : List Entry → (m : ℕ) → List Scope → Type 0

@@ -11,7 +11,7 @@ ghost use Rattle.limbo_source_adts.specs.Definitions.{AdtsAre, AreHeaded};
 ghost use Rattle.limbo_source_adts.specs.Modules.{modules_of};
 ghost use Rattle.limbo_outline.specs.Outline.{GlobalsAre};
 ghost use Rattle.limbo_imports.specs.Imports.{ImportsAre};
-ghost use Rattle.limbo_source_context.specs.SourceContext.{Fails};
+ghost use Rattle.limbo_source_context.specs.SourceContext.{AllFit, Fails};
 ghost use Rattle.limbo_source_context.specs.Parts.{IsMeant, IsKnown, IsOuter};
 
 use crate::fault::ContextFault;
@@ -49,6 +49,7 @@ fn find_adts(
     ensures adts { IfOk result (λ a. AdtsAre (entries_of table.now.entries.items) implemented 0 (entries_of table.now.entries.items)
         (defs_of a)) }
     ensures modules { IfOk result (λ a. a.modules ≡ modules_of (entries_of table.now.entries.items)) }
+    ensures laid { IfOk result (λ a. AllFit (defs_of a)) }
     ensures fails { IfErr result (λ e. Fails table.now.entries.items implemented e) }
 {
     match source_adts(alloc, table, headings) {

@@ -7,11 +7,12 @@ ghost use Rattle.limbo_entries.specs.Entries.{IsTable, AreOnce};
 ghost use Rattle.limbo_entries.specs.View.{entries_of};
 ghost use Rattle.limbo_naming.specs.Told.{IsNaming};
 ghost use Rattle.limbo_type_names.specs.Told.{AreTypesOf};
+ghost use Rattle.limbo_source_adts.specs.Definitions.{AreHeaded};
 ghost use Rattle.limbo_constant_values.specs.Valuing.{AreValues};
 ghost use Rattle.limbo_context.specs.View.{view_context};
 ghost use Rattle.limbo_meanings.specs.Meanings.{AreMeanings};
 ghost use Rattle.limbo_meanings.specs.Names.{outermost_scopes};
-ghost use Rattle.limbo_source_context.specs.SourceContext.{IsContext, Fails};
+ghost use Rattle.limbo_source_context.specs.SourceContext.{IsContext, AllFit, Fails};
 ghost use Rattle.limbo_source_context.specs.Beginning.{AreBeginnings, AllBeginSo};
 ghost use Rattle.limbo_source_context.specs.Parts.{IsKnown};
 
@@ -27,6 +28,7 @@ use limbo_constants::Constant;
 use limbo_context::Context;
 use limbo_entries::Table;
 use limbo_exports::{fd_number, system_number};
+use limbo_headers::Heading;
 use limbo_meanings::top_scopes;
 use limbo_naming::Naming;
 use limbo_scope::{Meaning, ScopeFault, Scopes};
@@ -40,6 +42,8 @@ pub struct SourceContext {
     pub context: Context,
     /// The scopes in which a body begins.
     pub scopes: Scopes,
+    /// Of each declaration the types that it is declared with.
+    pub headings: Vec<Heading>,
     /// Of each declaration what its name means.
     pub meanings: Vec<Option<Meaning>>,
     /// The constants with which variables of the module begin.
@@ -64,6 +68,7 @@ fn find_context(
     requires values { AreValues (entries_of table.now.entries.items) implemented values.now }
     requires known { IsKnown table.now implemented known.now }
     ensures context { IfOk result (λ c. IsContext (entries_of table.now.entries.items) implemented module_name.now (view_context c)) }
+    ensures laid { IfOk result (λ c. AllFit (view_context c).adts) }
     ensures fails { IfErr result (λ e. Fails table.now.entries.items implemented e) }
 {
     let outer = find_outer(alloc, table, naming, implemented, known)?;
@@ -144,6 +149,9 @@ pub fn source_context(
     requires values { AreValues (entries_of table.now.entries.items) implemented values.now }
     ensures context { IfOk result (λ s. IsContext (entries_of table.now.entries.items) implemented module_name.now
         (view_context s.context)) }
+    ensures laid { IfOk result (λ s. AllFit (view_context s.context).adts) }
+    ensures headed { IfOk result (λ s. AreHeaded (entries_of table.now.entries.items) implemented s.headings.items) }
+    ensures many_headings { IfOk result (λ s. length s.headings.items ≡ length table.now.entries.items) }
     ensures meanings { IfOk result (λ s. AreMeanings (entries_of table.now.entries.items) implemented s.meanings.items) }
     ensures many { IfOk result (λ s. length s.meanings.items ≡ length table.now.entries.items) }
     ensures scopes { IfOk result (λ s. s.scopes
@@ -167,11 +175,16 @@ pub fn source_context(
     check_beginnings(table, implemented, &known, &context.globals)?;
     let scopes = find_scopes(alloc, table, implemented, &known.meant.meanings)?;
     let initials = find_beginnings(alloc, table, implemented, &known)?;
-    let Known { meant, .. } = known;
+    let Known {
+        headings,
+        meant,
+        ..
+    } = known;
     let Meant { meanings, .. } = meant;
     Ok(SourceContext {
         context,
         scopes,
+        headings,
         meanings,
         initials,
     })
