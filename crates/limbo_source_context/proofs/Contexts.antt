@@ -32,7 +32,7 @@ use Rattle.limbo_source_context.proofs.Ones.{one_interface, one_adts}
 
 -- ---- meanings that agree at each declaration
 
-abbrev Agree : List Entry → (xs ys : List (Option Meaning)) → Type 0
+abbrev pub Agree : List Entry → (xs ys : List (Option Meaning)) → Type 0
 Agree es xs ys = (k : ℕ) (e : Entry) → IsEntry es k e → (x : Option Meaning) × (slice_get xs k ≡ Some x) × (slice_get ys k ≡ Some x)
 
 names_same : (s : Option ℕ) (es : List Entry) (xs ys : List (Option Meaning)) → Agree es xs ys → names_in s xs es ≡ names_in s ys es
@@ -53,7 +53,7 @@ module _ (es : List Entry) (xs ys : List (Option Meaning)) (agree : Agree es xs 
   one_scope : (k : ℕ) (e : Entry) (a b : List Scope) → IsScopeOf xs es k e a → IsScopeOf ys es k e b → a ≡ b
   one_scope k e a b h i = h ∙ ap (λ ds. declared_all ds (entered [])) (names_same (Some k) es xs ys agree) ∙ sym i
 
-  same_at : (k : ℕ) (e : Entry) → IsEntry es k e → meaning_at xs k ≡ meaning_at ys k
+  pub same_at : (k : ℕ) (e : Entry) → IsEntry es k e → meaning_at xs k ≡ meaning_at ys k
   same_at k e at = let r = agree k e at in meant_at xs k r.0 r.1 ∙ sym (meant_at ys k r.0 r.2)
 
   same_number : (told : Option Meaning → Option ℕ) (test : Entry → Bool) (o : Option ℕ) → IsFound test es o → number_at told xs o ≡
@@ -65,7 +65,7 @@ module _ (es : List Entry) (xs ys : List (Option Meaning)) (agree : Agree es xs 
 
 -- ---- imports
 
-found_entry : (es : List Entry) (m : ℕ) (name : List ℕ) (s : Option ℕ) (k : ℕ) → Finds es m name s k → (e : Entry) × IsEntry es k e
+pub found_entry : (es : List Entry) (m : ℕ) (name : List ℕ) (s : Option ℕ) (k : ℕ) → Finds es m name s k → (e : Entry) × IsEntry es k e
 found_entry es m name _ _ (entries.here s k w) = (w.entry, w.there)
 found_entry es m name _ _ (entries.in_module k none w) = (w.entry, w.there)
 found_entry es m name _ _ (entries.further j outer k none i f) = found_entry es m name outer.within k f

@@ -4,3 +4,4 @@ pub mod Beginnings
 pub mod Suiting
 pub mod Ones
 pub mod Contexts
+pub mod Failing

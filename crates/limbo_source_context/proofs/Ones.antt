@@ -28,7 +28,7 @@ use Rattle.limbo_outline.specs.Outline.{IsException}
 use Rattle.limbo_outline_members.specs.Members.{IsSignature, IsInterface}
 use Rattle.limbo_source_context.specs.SourceContext.{IsFound}
 
-never : {b : Bool} → b ≡ true → b ≡ false → ⊥
+pub never : {b : Bool} → b ≡ true → b ≡ false → ⊥
 never t f = let z : true ≡ false = sym t ∙ f in absurd cc
 
 -- ---- lists
@@ -105,7 +105,7 @@ module _ (es : List Entry) (m : ℕ) (once : AreOnce es) where
   pub one_name : (k : ℕ) (e : Entry) (a b : Ty) → IsType es m k e a → IsType es m k e b → a ≡ b
   one_name k e a b h i = one_stands es m once k a b h i
 
-  one_has_type : (e : Entry) (t u : Ty) → HasType es m e t → HasType es m e u → t ≡ u
+  pub one_has_type : (e : Entry) (t u : Ty) → HasType es m e t → HasType es m e u → t ≡ u
   one_has_type e _ _ (written t v a is w) (written s x b or z) =
       let p : rows.Variable s x ≡ rows.Variable t v = sym or ∙ is in
       let q : s ≡ t = cc in

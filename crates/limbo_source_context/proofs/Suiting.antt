@@ -148,6 +148,8 @@ module _ (es : List Entry) (m k : ℕ) (means : List (Option Meaning)) (meant : 
           record {
             entry = x;
             there = at;
+            number = g;
+            is = is;
             ty = v.ty;
             typed = subst (λ (z : Var). HasType es m x z.ty) u r.2.typed;
             otherwise = never;

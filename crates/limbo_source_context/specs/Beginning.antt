@@ -56,10 +56,12 @@ BeginsSo es m globals k =
 abbrev pub AllBeginSo : List Entry → (m : ℕ) → List Var → Type 0
 AllBeginSo es m globals = (k : ℕ) → BeginsSo es m globals k
 
--- The variable of this number doesn't.
+-- The declaration of this number is a variable of the module, and doesn't.
 pub record BeginsOtherwise (es : List Entry) (m : ℕ) (k : ℕ) : Type 0 where
   pub entry : Entry
   pub there : IsEntry es k entry
+  pub number : ℕ
+  pub is : meaning_of es m k entry ≡ Some (meaning.Global number)
   pub ty : Ty
   pub typed : HasType es m entry ty
   pub otherwise : MayBegin es m entry ty → ⊥

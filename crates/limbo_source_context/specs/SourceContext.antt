@@ -1,9 +1,10 @@
 -- What is known in the bodies of a source's functions (Limbo Language Reference, declarations, scope and modules).
-use Rattle.std.specs.Prelude.{◌≡◌, ◌<◌, ℕ, List, Option, None, Some, Bool, length}
+use Rattle.std.specs.Prelude.{◌≡◌, ◌<◌, ℕ, List, Option, None, Some, Bool, true, length}
 use Rattle.limbo_layout.specs.Adts.{Def}
 use Rattle.limbo_layout.specs.Layout.{Fits}
 use Rattle.limbo_types.specs.Types.{Adt}
 use Rattle.limbo_tree.specs.Exprs.{Expr}
+use Rattle.limbo_tree.specs.Decls.{FnType, are_params}
 use Rattle.limbo_constants.specs.declared.constant.Constant as source
 use Rattle.limbo_declarations.specs.Rows as rows
 use Rattle.limbo_entries.specs.declared.entry.Entry as code_entry
@@ -18,6 +19,7 @@ use Rattle.limbo_scope.specs.declared.meaning.Meaning.{Meaning}
 use Rattle.limbo_scope.specs.Scopes.{Scope}
 use Rattle.limbo_context.specs.Context.{Context}
 use Rattle.limbo_meanings.specs.declared.kind.Kind.TheVariants as kind
+use Rattle.limbo_meanings.specs.Kinds.{place, has_kind}
 use Rattle.limbo_meanings.specs.Meanings.{AreMeanings}
 use Rattle.limbo_meanings.specs.Names.{outermost_scopes}
 use Rattle.limbo_exports.specs.System.{IsFirst, HasNone, is_system, is_fd, module_number, adt_number}
@@ -73,11 +75,12 @@ AreOutermost es m scopes = (means : List (Option Meaning)) × AreMeanings es m m
 
 -- ---- refusals
 
--- The variable of this number is declared by a value that is no constant, as `nil`: it has no type.
+-- The declaration of this number is a variable of the module, by a value that is no constant, as `nil`: it has no type.
 pub record HasNoType (es : List Entry) (m : ℕ) (k : ℕ) : Type 0 where
   pub entry : Entry
   pub expr : Expr
   pub there : IsEntry es k entry
+  pub global : has_kind es m (place kind.Global) entry ≡ true
   pub is : entry.row.means ≡ rows.Inferred expr
   pub no_constant : (c : source.Constant) → Comes es m entry.within None expr c → ⊥
 
@@ -90,9 +93,12 @@ pub record HasNoImport (es : List Entry) (m : ℕ) (k : ℕ) : Type 0 where
   pub meant : AreMeant es m means others system fd
   pub missing : IsMissing es m means others k
 
--- The adt of this number has no layout.
-abbrev pub HasNoLayout : List Entry → (m : ℕ) → (n : ℕ) → Type 0
-HasNoLayout es m n = (defs : List Def) × AdtsAre es m 0 es defs × (Fits defs (Adt n) → ⊥)
+-- There is an adt of this number, and it has no layout.
+pub record HasNoLayout (es : List Entry) (m : ℕ) (n : ℕ) : Type 0 where
+  pub defs : List Def
+  pub adts : AdtsAre es m 0 es defs
+  pub there : n < length defs
+  pub unfit : Fits defs (Adt n) → ⊥
 
 -- Why a source has no context.
 abbrev pub Fails : List code_entry.Entry → (m : ℕ) → ContextFault → Type 0
@@ -103,3 +109,7 @@ Fails all m (fault.TooLarge n) = HasNoLayout (entries_of all) m n
 Fails all m (fault.NoType k) = HasNoType (entries_of all) m k
 Fails all m (fault.NotThere k) = HasNoImport (entries_of all) m k
 Fails all m (fault.BadInitial k) = BeginsOtherwise (entries_of all) m k
+
+-- The parameters of a function that is declared are written as the grammar has them: before each type stands a name, or `nil`.
+abbrev pub HaveParams : List Entry → Type 0
+HaveParams es = (k : ℕ) (e : Entry) (f : FnType) → IsEntry es k e → e.row.means ≡ rows.Function f → are_params f.params ≡ true

@@ -1,12 +1,15 @@
 //! The adts, the variables and the imports of a source: what can be refused.
 
-ghost use Rattle.std.specs.Prelude.{◌≡◌, ℕ, List, length, map, IfOk, IfErr};
+ghost use Rattle.std.specs.Prelude.{◌≡◌, ℕ, List, length, map, count_by, IfOk, IfErr};
 ghost use Rattle.limbo_typed.specs.View.{view_var};
 ghost use Rattle.limbo_adts.specs.Table.{defs_of};
 ghost use Rattle.limbo_declarations.specs.Rows as rows;
+ghost use Rattle.limbo_declarations.specs.View.{view_declared};
 ghost use Rattle.limbo_entries.specs.Entries.{IsTable, AreOnce};
 ghost use Rattle.limbo_entries.specs.View.{entries_of};
+ghost use Rattle.limbo_naming.specs.Naming as naming;
 ghost use Rattle.limbo_naming.specs.Told.{IsNaming};
+ghost use Rattle.limbo_type_names.specs.Counts.{is_adt_entry};
 ghost use Rattle.limbo_source_adts.specs.Definitions.{AdtsAre, AreHeaded};
 ghost use Rattle.limbo_source_adts.specs.Modules.{modules_of};
 ghost use Rattle.limbo_outline.specs.Outline.{GlobalsAre};
@@ -18,6 +21,7 @@ use crate::fault::ContextFault;
 use crate::known::{Known, Meant};
 use limbo_adts::Adts;
 use limbo_context::Imported;
+use limbo_declarations::Declared;
 use limbo_entries::Table;
 use limbo_headers::Heading;
 use limbo_imports::{ImportFault, list_imports};
@@ -34,6 +38,29 @@ pub(crate) struct Outer {
     pub(crate) adts: Adts,
     pub(crate) globals: Vec<TVar>,
     pub(crate) imports: Vec<Imported>,
+}
+
+// Whether it is an adt.
+fn is_adt(declared: Declared) -> bool
+    ensures { result ≡ naming.is_adt (view_declared declared.entry) }
+{
+    match declared {
+        Declared::Adt { .. } => true,
+        _ => false,
+    }
+}
+
+// How many adts a table declares.
+fn count_adts(table: &Table) -> usize
+    ensures { result ≡ count_by is_adt_entry (entries_of table.now.entries.items) }
+{
+    let mut count = 0;
+    for entry in &table.entries {
+        if is_adt(entry.row.declared) {
+            count += 1;
+        }
+    }
+    count
 }
 
 // The adts of a table.
@@ -55,7 +82,13 @@ fn find_adts(
     match source_adts(alloc, table, headings) {
         Ok(adts) => Ok(adts),
         Err(AdtsFault::NoMemory) => Err(ContextFault::NoMemory),
-        Err(AdtsFault::TooLarge { adt }) => Err(ContextFault::TooLarge { adt }),
+        Err(AdtsFault::TooLarge { adt }) => {
+            // No other number is told.
+            if adt as usize >= count_adts(table) {
+                return Err(ContextFault::NoMemory);
+            }
+            Err(ContextFault::TooLarge { adt })
+        }
     }
 }
 
@@ -66,6 +99,7 @@ fn find_globals(
     implemented: u32,
     known: &Known,
 ) -> Result<Vec<TVar>, ContextFault>
+    requires table { (top : List rows.Row) × IsTable top (entries_of table.now.entries.items) }
     requires known { IsKnown table.now implemented known.now }
     ensures globals { IfOk result (λ all. GlobalsAre (entries_of table.now.entries.items) implemented (map view_var all.items)) }
     ensures fails { IfErr result (λ e. Fails table.now.entries.items implemented e) }

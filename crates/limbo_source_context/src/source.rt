@@ -132,7 +132,7 @@ fn find_scopes(
 /// # Errors
 /// Want of memory. `Unknown` and `NotAType` exactly where a type that a variable, a field, a function or an exception is declared with
 /// fails so; else `TooLarge`, `NoType`, `NotThere` and `BadInitial` exactly where an adt has no layout, a variable no type, an import no
-/// module, and a variable begins with a value of another type.
+/// module, and a variable begins with a value of another type. What is refused has no such context (`fails_or_context`).
 pub fn source_context(
     alloc: Global,
     table: &Table,

@@ -16,6 +16,6 @@ pub returns-in-Err-NoType-clause-fails : goal.returns-in-Err-NoType-clause-fails
 returns-in-Err-NoType-clause-fails c =
     let es = entries_of c.args.table.now.entries.items in
     let k = c.in-Err-NoType.number in
-    no_type es c.args.implemented c.args.known.now.initials.items k c.requires.known.initials
+    no_type c.requires.table.0 es c.args.implemented c.args.known.now.initials.items k c.requires.table.1 c.requires.known.initials
     (subst (λ (z : List (Option source.Constant)). outline.HasNoType es z k) c.deref-2.ensures.value (c.in-Err-NoType.ensures.no_type k
     c.in-Err-NoType.field-0-is))
