@@ -1,0 +1,6 @@
+mod Defining
+mod Single
+mod Circles
+mod Failing
+mod Telling
+mod Assembling

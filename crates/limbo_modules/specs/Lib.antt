@@ -1,0 +1,9 @@
+pub mod Definitions
+pub mod Declaring
+pub mod Found
+pub mod Known
+pub mod Modules
+pub mod Failing
+pub mod Faults
+pub mod First
+pub mod Laws
