@@ -14,9 +14,15 @@ use Rattle.dis_file.specs.declared.object.Object.{Object}
 use Rattle.dis_meaning.specs.Opening.{StringsSpell}
 use Rattle.dis_tables.specs.Objects.{find}
 use Rattle.code_sim.specs.Keeps.{object_for}
-use Rattle.limbo_check_stmt.specs.Checking.{HasFunctionNamed}
 use Rattle.limbo_compiler.specs.Limits.{IsWithin}
 use Rattle.inferno_tool.specs.Running.{IsCompiled}
+
+-- the module has a function of this name
+pub record HasFunctionNamed (name : List ℕ) (m : Module) : Type 0 where
+  pub number : ℕ
+  pub function : Function
+  pub there : slice_get m.functions number ≡ Some function
+  pub named : function.name ≡ name
 
 -- the first function of this name, among functions that are numbered from here
 record First (from : ℕ) (name : List ℕ) (fs : List Function) : Type 0 where

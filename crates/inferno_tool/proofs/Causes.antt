@@ -11,14 +11,14 @@ use Rattle.source_files.specs.Reading.{IsReachable}
 use Rattle.source_files.specs.declared.fault.FilesFault.{FilesFault}
 use Rattle.source_files.specs.declared.fault.FilesFault.TheVariants as files_fault
 use Rattle.source_names.specs.Included.{AreTold, AreTexts}
-use Rattle.source_names.specs.Declares.{FailsBy}
-use Rattle.source_names.specs.declared.refusal.NamesFault.{NamesFault}
-use Rattle.source_names.specs.declared.refusal.NamesFault.TheVariants as names_fault
 use Rattle.source_names.proofs.Read.{reachable}
-use Rattle.inferno_tool.specs.Built.{HasTree, HasNames}
-use Rattle.inferno_tool.specs.Faults.{of_bytes, of_text, of_names, of_tree}
-use Rattle.inferno_tool.specs.Reading.{IsReadFault, IsTreeReadFault, IsFaultOf, IsUnnamed, IsUnread, itself, included, cause_of_files}
-use Rattle.inferno_tool.specs.Reading.{cause_of_names}
+use Rattle.source_modules.specs.Failing.{FailsBy}
+use Rattle.source_modules.specs.declared.fault.ModuleFault.{ModuleFault}
+use Rattle.source_modules.specs.declared.fault.ModuleFault.TheVariants as checking
+use Rattle.inferno_tool.specs.Built.{HasTree}
+use Rattle.inferno_tool.specs.Faults.{of_bytes, of_text, of_checking, of_tree}
+use Rattle.inferno_tool.specs.Reading.{IsReadFault, IsTreeReadFault, IsFaultOf, IsUnchecked, IsUnread, itself, included, cause_of_files}
+use Rattle.inferno_tool.specs.Reading.{cause_of_checking}
 use Rattle.inferno_tool.specs.Outcome.{Course, IsCause, IsRefusal}
 use Rattle.inferno_command.specs.Words.{named_file}
 use Rattle.inferno_tool.specs.declared.cause.Cause.{Cause}
@@ -39,54 +39,53 @@ bytes_unread told path source before now fault cause stands is (inr of) =
     (record { source = source; stands = stands; because = of_bytes of.0 (subst (λ (x : ReadFault). IsReadFault source x) of.1 is) })
 
 -- one that is refused by its tree
-pub tree_unread : (told : Told) (path source : List ℕ) (tree : Source) (before now : ℕ) (fault : ReadFault) (cause : Cause) → Has told
-    path source
-    → HasTree source tree → HasNames told path tree → IsTreeReadFault tree fault → IsFaultOf path fault cause → IsUnread told path before
-    now cause
-tree_unread told path source tree before now fault cause stands has names is (inl memory) =
+pub tree_unread : (told : Told) (path source : List ℕ) (tree : Source) (before now : ℕ) (fault : ReadFault) (cause : Cause)
+    → Has told path source → HasTree source tree → IsTreeReadFault told path tree fault → IsFaultOf path fault cause
+    → IsUnread told path before now cause
+tree_unread told path source tree before now fault cause stands has is (inl memory) =
     subst (λ (x : Cause). IsUnread told path before now x) (sym memory) tt
-tree_unread told path source tree before now fault cause stands has names is (inr of) =
+tree_unread told path source tree before now fault cause stands has is (inr of) =
     subst (λ (x : Cause). IsUnread told path before now x) (sym of.2)
     (record {
       source = source;
       stands = stands;
-      because = of_tree tree of.0 has names (subst (λ (x : ReadFault). IsTreeReadFault tree x) of.1 is);
+      because = of_tree tree of.0 has (subst (λ (x : ReadFault). IsTreeReadFault told path tree x) of.1 is);
     })
 
--- one whose names are refused
-pub unnamed_unread : (told : Told) (path source : List ℕ) (tree : Source) (before middle now : ℕ) (cause : Cause) → before ≤ middle
-    → Has told path source → HasTree source tree → IsUnnamed told path tree middle now cause → IsUnread told path before now cause
-unnamed_unread told path source tree before middle now Done l stands has is = absurd is
-unnamed_unread told path source tree before middle now (Broke broken) l stands has is = absurd is
-unnamed_unread told path source tree before middle now Usage l stands has is = absurd is
-unnamed_unread told path source tree before middle now (BadSource file fault) l stands has is =
+-- one that isn't checked
+pub unchecked_unread : (told : Told) (path source : List ℕ) (tree : Source) (before middle now : ℕ) (cause : Cause) → before ≤ middle
+    → Has told path source → HasTree source tree → IsUnchecked told path tree middle now cause → IsUnread told path before now cause
+unchecked_unread told path source tree before middle now Done l stands has is = absurd is
+unchecked_unread told path source tree before middle now (Broke broken) l stands has is = absurd is
+unchecked_unread told path source tree before middle now Usage l stands has is = absurd is
+unchecked_unread told path source tree before middle now (BadSource file fault) l stands has is =
     record { source = source; stands = stands; because = is source has }
-unnamed_unread told path source tree before middle now (BadObject file fault) l stands has is = absurd is
-unnamed_unread told path source tree before middle now (Limit quanta) l stands has is = absurd is
-unnamed_unread told path source tree before middle now (Host file true) l stands has is = absurd is
-unnamed_unread told path source tree before middle now (Host file false) l stands has is =
+unchecked_unread told path source tree before middle now (BadObject file fault) l stands has is = absurd is
+unchecked_unread told path source tree before middle now (Limit quanta) l stands has is = absurd is
+unchecked_unread told path source tree before middle now (Host file true) l stands has is = absurd is
+unchecked_unread told path source tree before middle now (Host file false) l stands has is =
     (included source tree file stands has is.0, rose_wider before middle now l is.1)
-unnamed_unread told path source tree before middle now (SinkFault out err) l stands has is = absurd is
-unnamed_unread told path source tree before middle now NoMemory l stands has is = tt
+unchecked_unread told path source tree before middle now (SinkFault out err) l stands has is = absurd is
+unchecked_unread told path source tree before middle now NoMemory l stands has is = tt
 
 -- included texts that are none, or weren't read
-pub files_unnamed : (told : Told) (path : List ℕ) (source : code_source.Source) (before now : ℕ) (fault : FilesFault)
+pub files_unchecked : (told : Told) (path : List ℕ) (source : code_source.Source) (before now : ℕ) (fault : FilesFault)
     → files.IsRefusal told before now fault → AtPath (IsReachable told path source.tops.items) fault
-    → IsUnnamed told path (view_source source) before now (cause_of_files fault)
-files_unnamed told path source before now files_fault.NoMemory is at = tt
-files_unnamed told path source before now (files_fault.Failed file) is at = (reachable told path source.tops.items file at, is)
-files_unnamed told path source before now (files_fault.Lex file fault) is at =
+    → IsUnchecked told path (view_source source) before now (cause_of_files fault)
+files_unchecked told path source before now files_fault.NoMemory is at = tt
+files_unchecked told path source before now (files_fault.Failed file) is at = (reachable told path source.tops.items file at, is)
+files_unchecked told path source before now (files_fault.Lex file fault) is at =
     λ bytes has. of_text (view_source source) file (Lex fault) has (reachable told path source.tops.items file at) is
-files_unnamed told path source before now (files_fault.Parse file fault span) is at =
+files_unchecked told path source before now (files_fault.Parse file fault span) is at =
     λ bytes has. of_text (view_source source) file (Parse fault span) has (reachable told path source.tops.items file at) is
 
--- names that are refused
-pub names_unnamed : (told : Told) (path : List ℕ) (tree : Source) (before now : ℕ) (fault : NamesFault)
-    → (AreTold told → AreTexts told path tree.tops) → FailsBy told path tree fault → IsUnnamed told path tree before now (cause_of_names
-    fault)
-names_unnamed told path tree before now names_fault.NoMemory texts is = tt
-names_unnamed told path tree before now (names_fault.Refused refusal file span) texts is =
-    λ source has. of_names tree file refusal span has texts is
+-- names, types or statements that are refused
+pub checking_unchecked : (told : Told) (path : List ℕ) (tree : Source) (before now : ℕ) (fault : ModuleFault)
+    → (AreTold told → AreTexts told path tree.tops) → FailsBy told path tree fault
+    → IsUnchecked told path tree before now (cause_of_checking fault)
+checking_unchecked told path tree before now checking.NoMemory texts is = tt
+checking_unchecked told path tree before now (checking.Refused number file span) texts is =
+    λ source has. of_checking tree file number span has texts is
 
 -- a file that the words name to be run, and that isn't read, is refused
 pub unread_refused : (words : List (List ℕ)) (told : Told) (path : List ℕ) (before now : ℕ) (cause : Cause) → named_file words ≡ Some path

@@ -11,8 +11,14 @@ use Rattle.inferno_tool.specs.declared.cause.Cause.{Cause}
 use Rattle.inferno_tool.specs.declared.cause.Cause.TheVariants.{Done, Broke, Usage, BadSource, BadObject, Limit, Host, SinkFault, NoMemory}
 use Rattle.inferno_tool.specs.Faults.{IsFault}
 use Rattle.source_names.specs.Included.{AreTold}
-use Rattle.inferno_tool.proofs.Faults.{faulty}
-use Rattle.inferno_tool.proofs.Trees.{one_module}
+use Rattle.limbo_typed.specs.Typed as typed
+use Rattle.limbo_part.specs.Part.{small_module}
+use Rattle.source_modules.specs.Checked.{IsFirst}
+use Rattle.inferno_tool.specs.Outcome.{TellsFirst, TellsOther}
+use Rattle.inferno_tool.specs.declared.cause.SourceFault.{SourceFault}
+use Rattle.inferno_tool.specs.declared.cause.SourceFault.TheVariants.{Unbuilt, NoInit}
+use Rattle.inferno_tool.proofs.Faults.{faulty, checked_fault, unbuilt, no_init}
+use Rattle.inferno_tool.proofs.Trees.{Laws, tree_of, one_first, not_other, one_module}
 
 -- closing keeps the cause, or it is want of memory
 pub closed : (c : Course) (before after : Cause) → IsCause c before → (after ≡ before) ⊎ (after ≡ NoMemory) → IsCause c after
@@ -78,15 +84,15 @@ pub risen_further : (before now later : ℕ) → now ≤ later → Rose before n
 risen_further before now later up rose = omega arith
 
 -- a told program isn't refused, but for want of memory
-pub unrefused : (words : List (List ℕ)) (told : Told) (before after : ℕ) (cause : Cause) (program : Module) → IsRefusal words told before
-    after cause → TellsProgram words told program → (Rose before after → ⊥) → cause ≡ NoMemory
-unrefused words told before after Done program is t calm = absurd is
-unrefused words told before after (Broke broken) program is t calm = absurd is
-unrefused words told before after (Limit quanta) program is t calm = absurd is
-unrefused words told before after (SinkFault out err) program is t calm = absurd is
-unrefused words told before after NoMemory program is t calm = refl
-unrefused words told before after Usage program is t calm = no_file words t.file is t.named
-unrefused words told before after (BadSource other fault) program is t calm =
+pub unrefused : Laws → (words : List (List ℕ)) (told : Told) (before after : ℕ) (cause : Cause) (program : Module)
+    → IsRefusal words told before after cause → TellsProgram words told program → (Rose before after → ⊥) → cause ≡ NoMemory
+unrefused laws words told before after Done program is t calm = absurd is
+unrefused laws words told before after (Broke broken) program is t calm = absurd is
+unrefused laws words told before after (Limit quanta) program is t calm = absurd is
+unrefused laws words told before after (SinkFault out err) program is t calm = absurd is
+unrefused laws words told before after NoMemory program is t calm = refl
+unrefused laws words told before after Usage program is t calm = no_file words t.file is t.named
+unrefused laws words told before after (BadSource other fault) program is t calm =
     let here : is.0 ≡ t.file = one_file words is.0 t.file is.1 t.named in
     let there : Has told t.file is.2.source = (let P : List ℕ → Type 0 = λ x. Has told x is.2.source in subst P here is.2.stands) in
     let same : t.source ≡ is.2.source = same_bytes told t.file t.source is.2.source t.tells there in
@@ -94,33 +100,35 @@ unrefused words told before after (BadSource other fault) program is t calm =
     subst P here is.2.because) in
     let built : IsBuilt told t.file is.2.source program = (let P : List ℕ → Type 0 = λ x. IsBuilt told t.file x program in subst P same
     t.built) in
-    absurd (faulty told (are_told told t.file (Some t.source) t.tells) t.file is.2.source other fault because program built)
-unrefused words told before after (BadObject other fault) program is t calm = absurd is
-unrefused words told before after (Host path true) program is t calm =
+    absurd (faulty laws told (are_told told t.file (Some t.source) t.tells) t.file is.2.source other fault because program built)
+unrefused laws words told before after (BadObject other fault) program is t calm = absurd is
+unrefused laws words told before after (Host path true) program is t calm =
     told_not_lacking told t.file t.source t.tells
     (let P : List ℕ → Type 0 = λ x. Lacks told x in subst P (one_file words path t.file is.0 t.named) is.1)
-unrefused words told before after (Host path false) program is t calm = absurd (calm is.3)
+unrefused laws words told before after (Host path false) program is t calm = absurd (calm is.3)
 
 -- a told program ends by itself where no count rises, unless memory runs out
-pub ends : (c : Course) (cause : Cause) → IsCause c cause → (program : Module) → TellsProgram c.words c.told program → (Rose
+pub ends : Laws → (c : Course) (cause : Cause) → IsCause c cause → (program : Module) → TellsProgram c.words c.told program → (Rose
     c.files_before c.files_after → ⊥) → (Rose c.out_before c.out_after → ⊥) → (Rose c.err_before c.err_after → ⊥) → IsEndUnlessMemory
     cause
-ends c Done is program t calm quiet silent = tt
-ends c (Broke broken) is program t calm quiet silent = tt
-ends c (Limit quanta) is program t calm quiet silent = tt
-ends c Usage is program t calm quiet silent = subst IsEndUnlessMemory (sym (unrefused c.words c.told c.files_before c.files_after Usage
-    program is t calm)) tt
-ends c (BadSource file fault) is program t calm quiet silent = subst IsEndUnlessMemory (sym (unrefused c.words c.told c.files_before
-    c.files_after (BadSource file fault) program is t calm)) tt
-ends c (BadObject file fault) is program t calm quiet silent = absurd is
-ends c (Host path missing) is program t calm quiet silent = subst IsEndUnlessMemory (sym (unrefused c.words c.told c.files_before
-    c.files_after (Host path missing) program is t calm)) tt
-ends c (SinkFault out err) is program t calm quiet silent =
+ends laws c Done is program t calm quiet silent = tt
+ends laws c (Broke broken) is program t calm quiet silent = tt
+ends laws c (Limit quanta) is program t calm quiet silent = tt
+ends laws c Usage is program t calm quiet silent =
+    subst IsEndUnlessMemory (sym (unrefused laws c.words c.told c.files_before c.files_after Usage program is t calm)) tt
+ends laws c (BadSource file fault) is program t calm quiet silent =
+    subst IsEndUnlessMemory
+    (sym (unrefused laws c.words c.told c.files_before c.files_after (BadSource file fault) program is t calm)) tt
+ends laws c (BadObject file fault) is program t calm quiet silent = absurd is
+ends laws c (Host path missing) is program t calm quiet silent =
+    subst IsEndUnlessMemory
+    (sym (unrefused laws c.words c.told c.files_before c.files_after (Host path missing) program is t calm)) tt
+ends laws c (SinkFault out err) is program t calm quiet silent =
     elim is.3 [
       | inl rose ↦ absurd (quiet (let P : ℕ → Type 0 = λ x. Rose c.out_before x in subst P is.1 rose))
       | inr rose ↦ absurd (silent (risen_further c.err_before err c.err_after is.2 rose))
     ]
-ends c NoMemory is program t calm quiet silent = tt
+ends laws c NoMemory is program t calm quiet silent = tt
 
 -- the closing line changes no cause, whatever it does to the count of `err`
 pub later_cause : (c : Course) (after : ℕ) (cause : Cause) → c.err_after ≤ after → IsCause c cause → IsCause (record c {
@@ -138,17 +146,17 @@ later_cause c after (SinkFault out err) up is = (is.0, is.1, omega arith, is.3)
 later_cause c after NoMemory up is = tt
 
 -- the accepted program is the one that the told program is, in the same file
-pub same_program : (words : List (List ℕ)) (told : Told) (program : Module) (t : TellsProgram words told program) (file : List ℕ) (m :
-    Module) → IsAccepted words told file m → (file ≡ t.file) × (m ≡ program)
-same_program words told program t file m a =
+pub same_program : Laws → (words : List (List ℕ)) (told : Told) (program : Module) (t : TellsProgram words told program) (file : List ℕ)
+    (m : Module) → IsAccepted words told file m → (file ≡ t.file) × (m ≡ program)
+same_program laws words told program t file m a =
     let here : file ≡ t.file = one_file words file t.file a.named t.named in
     let there : Has told t.file a.read.source = (let P : List ℕ → Type 0 = λ x. Has told x a.read.source in subst P here a.read.stands) in
     let same : t.source ≡ a.read.source = same_bytes told t.file t.source a.read.source t.tells there in
     let own : IsBuilt told t.file a.read.source m = (let P : List ℕ → Type 0 = λ x. IsBuilt told x a.read.source m in subst P here
     a.read.built) in (
       here,
-      one_module told t.file a.read.source m program own (let P : List ℕ → Type 0 = λ x. IsBuilt told t.file x program in subst P
-          same t.built),
+      one_module laws told (are_told told t.file (Some t.source) t.tells) t.file a.read.source m program own
+          (let P : List ℕ → Type 0 = λ x. IsBuilt told t.file x program in subst P same t.built),
     )
 
 -- how the run of an accepted program ends is a cause
@@ -207,19 +215,19 @@ run_cause c (SinkFault out err) program end same = (
 run_cause c NoMemory program end same = tt
 
 -- where a count of output rose, a told program ends so, unless memory ran out
-pub failed : (c : Course) (cause : Cause) → IsCause c cause → (program : Module) → TellsProgram c.words c.told program → (Rose
+pub failed : Laws → (c : Course) (cause : Cause) → IsCause c cause → (program : Module) → TellsProgram c.words c.told program → (Rose
     c.files_before c.files_after → ⊥) → Rose c.out_before c.out_after → IsSinkFault cause ⊎ (cause ≡ NoMemory)
-failed c Done is program t calm rose = absurd (is.1.2.0 rose)
-failed c (Broke broken) is program t calm rose = absurd (is.1.2.0 rose)
-failed c (Limit quanta) is program t calm rose = absurd (is.1.2.0 rose)
-failed c Usage is program t calm rose = inr (unrefused c.words c.told c.files_before c.files_after Usage program is t calm)
-failed c (BadSource other fault) is program t calm rose = inr (unrefused c.words c.told c.files_before c.files_after (BadSource other
-    fault) program is t calm)
-failed c (BadObject other fault) is program t calm rose = absurd is
-failed c (Host path missing) is program t calm rose = inr (unrefused c.words c.told c.files_before c.files_after (Host path missing)
-    program is t calm)
-failed c (SinkFault out err) is program t calm rose = inl tt
-failed c NoMemory is program t calm rose = inr refl
+failed laws c Done is program t calm rose = absurd (is.1.2.0 rose)
+failed laws c (Broke broken) is program t calm rose = absurd (is.1.2.0 rose)
+failed laws c (Limit quanta) is program t calm rose = absurd (is.1.2.0 rose)
+failed laws c Usage is program t calm rose = inr (unrefused laws c.words c.told c.files_before c.files_after Usage program is t calm)
+failed laws c (BadSource other fault) is program t calm rose =
+    inr (unrefused laws c.words c.told c.files_before c.files_after (BadSource other fault) program is t calm)
+failed laws c (BadObject other fault) is program t calm rose = absurd is
+failed laws c (Host path missing) is program t calm rose =
+    inr (unrefused laws c.words c.told c.files_before c.files_after (Host path missing) program is t calm)
+failed laws c (SinkFault out err) is program t calm rose = inl tt
+failed laws c NoMemory is program t calm rose = inr refl
 
 -- words that name no file are refused
 pub usage : (c : Course) (cause : Cause) → IsCause c cause → named_file c.words ≡ None → IsUnlessMemory cause Usage
@@ -261,3 +269,90 @@ missing c (Host path true) is file named tells calm =
     inl (ap (λ (f : List ℕ). Host f true) (one_file c.words path file is.0 named))
 missing c (Host path false) is file named tells calm = absurd (calm is.3)
 missing c NoMemory is file named tells calm = inr refl
+
+-- ---- checked sources that are no programs of the part
+
+-- what the words name is built, by this tree
+built_here : (c : Course) (a : HasProgram c.words c.told) (file source : List ℕ) → named_file c.words ≡ Some file
+    → Tells c.told file (Some source) → IsBuilt c.told file source a.program
+built_here c a file source named tells =
+    let at = one_file c.words a.file file a.accepted.named named in
+    let there : Has c.told file a.accepted.read.source =
+    subst (λ (z : List ℕ). Has c.told z a.accepted.read.source) at a.accepted.read.stands in
+    let same = same_bytes c.told file source a.accepted.read.source tells there in
+    let here : IsBuilt c.told file a.accepted.read.source a.program =
+    subst (λ (z : List ℕ). IsBuilt c.told z a.accepted.read.source a.program) at a.accepted.read.built in
+    subst (λ (z : List ℕ). IsBuilt c.told file z a.program) (sym same) here
+
+fault_here : (c : Course) (other : List ℕ) (fault : SourceFault) (is : IsCause c (BadSource other fault)) (file source : List ℕ)
+    → named_file c.words ≡ Some file → Tells c.told file (Some source) → IsFault c.told file source other fault
+fault_here c other fault is file source named tells =
+    let at = one_file c.words is.0 file is.1 named in
+    let there : Has c.told file is.2.source = subst (λ (z : List ℕ). Has c.told z is.2.source) at is.2.stands in
+    let same = same_bytes c.told file source is.2.source tells there in
+    let because : IsFault c.told file is.2.source other fault =
+    subst (λ (z : List ℕ). IsFault c.told z is.2.source other fault) at is.2.because in
+    subst (λ (z : List ℕ). IsFault c.told file z other fault) (sym same) because
+
+told_of : (c : Course) (other : List ℕ) (fault wanted : SourceFault) (file : List ℕ) → other ≡ file → fault ≡ wanted
+    → IsUnlessMemory (BadSource other fault) (BadSource file wanted)
+told_of c other fault wanted file e f =
+    inl (ap (λ (z : List ℕ). BadSource z fault) e ∙ ap (λ (z : SourceFault). BadSource file z) f)
+
+module _ (laws : Laws) (c : Course) (x : typed.Module) (t : TellsFirst c.words c.told x) (none : small_module x ≡ None)
+    (calm : Rose c.files_before c.files_after → ⊥) where
+  not_outside : {A : Type 0} → HasProgram c.words c.told → A
+  not_outside a =
+      let b = built_here c a t.file t.source t.named t.tells in
+      let same = tree_of t.source b.tree t.first.tree b.has t.first.has in
+      let first : IsFirst c.told t.file t.first.tree b.checked = subst (λ z. IsFirst c.told t.file z b.checked) same b.first in
+      let one =
+      one_first laws c.told (are_told c.told t.file (Some t.source) t.tells) t.file t.first.tree b.checked x first t.first.first in
+      absurd (let bad : Some a.program ≡ None = sym b.is.small ∙ ap small_module one ∙ none in cc)
+
+  pub outside : (cause : Cause) → IsCause c cause → IsUnlessMemory cause (BadSource t.file Unbuilt)
+  outside Done is = not_outside is.0
+  outside (Broke broken) is = not_outside is.0
+  outside (Limit quanta) is = not_outside is.0
+  outside (SinkFault out err) is = not_outside is.0
+  outside Usage is = no_file c.words t.file is t.named
+  outside (BadSource other fault) is =
+      let told = are_told c.told t.file (Some t.source) t.tells in
+      let f = t.first.first in
+      let k = checked_fault laws c.told told t.file t.source other fault (fault_here c other fault is t.file t.source t.named t.tells)
+      t.first.tree t.first.has f.entries f.implemented x f.is in
+      told_of c other fault Unbuilt t.file k.0 (unbuilt laws c.told told t.file t.first.tree x f fault k.1 none)
+  outside (BadObject other fault) is = absurd is
+  outside (Host path true) is =
+      told_not_lacking c.told t.file t.source t.tells
+      (subst (λ (z : List ℕ). Lacks c.told z) (one_file c.words path t.file is.0 t.named) is.1)
+  outside (Host path false) is = absurd (calm is.3)
+  outside NoMemory is = inr refl
+
+module _ (laws : Laws) (c : Course) (x : typed.Module) (t : TellsOther c.words c.told x)
+    (calm : Rose c.files_before c.files_after → ⊥) where
+  not_first : {A : Type 0} → HasProgram c.words c.told → A
+  not_first a =
+      let b = built_here c a t.file t.source t.named t.tells in
+      let same = tree_of t.source b.tree t.tree b.has t.has in
+      let first : IsFirst c.told t.file t.tree b.checked = subst (λ z. IsFirst c.told t.file z b.checked) same b.first in
+      absurd (not_other laws c.told (are_told c.told t.file (Some t.source) t.tells) t.file t.tree b.checked x first t.other)
+
+  pub beginless : (cause : Cause) → IsCause c cause → IsUnlessMemory cause (BadSource t.file NoInit)
+  beginless Done is = not_first is.0
+  beginless (Broke broken) is = not_first is.0
+  beginless (Limit quanta) is = not_first is.0
+  beginless (SinkFault out err) is = not_first is.0
+  beginless Usage is = no_file c.words t.file is t.named
+  beginless (BadSource other fault) is =
+      let told = are_told c.told t.file (Some t.source) t.tells in
+      let o = t.other in
+      let k = checked_fault laws c.told told t.file t.source other fault (fault_here c other fault is t.file t.source t.named t.tells)
+      t.tree t.has o.entries o.implemented x o.is in
+      told_of c other fault NoInit t.file k.0 (no_init laws c.told told t.file t.tree x o fault k.1)
+  beginless (BadObject other fault) is = absurd is
+  beginless (Host path true) is =
+      told_not_lacking c.told t.file t.source t.tells
+      (subst (λ (z : List ℕ). Lacks c.told z) (one_file c.words path t.file is.0 t.named) is.1)
+  beginless (Host path false) is = absurd (calm is.3)
+  beginless NoMemory is = inr refl

@@ -1,42 +1,31 @@
 -- A source that is refused is no program.
-use Rattle.std.proofs.Common.{◌≡◌, ℕ, List, inl, inr, Ok, Err, true, false, subst, sym, ◌∙◌}
+use Rattle.std.proofs.Common.{◌≡◌, ℕ, List, inl, inr, None, Some, refl, subst, sym, ap, ◌∙◌}
 use Rattle.inf_ports.specs.Outside.{Told}
 use Rattle.limbo_tree.specs.Sources.{Source}
+use Rattle.limbo_typed.specs.Typed as typed
 use Rattle.limbo_small.specs.Typed.{Module}
-use Rattle.limbo_check_stmt.proofs.JudgedSource.{given, once}
+use Rattle.limbo_part.specs.Part.{small_module}
 use Rattle.limbo_lower.specs.Sizes as sizes
 use Rattle.limbo_compiler.specs.Limits as limits
+use Rattle.limbo_entries.specs.Entries.{Entry}
 use Rattle.inferno_tool.specs.Built.{HasTree, IsProgram, IsBuilt}
-use Rattle.inferno_tool.specs.Faults.{IsBytesFault, IsTextFault, IsFault, of_bytes, of_text, of_names, of_tree, IsTreeFault}
+use Rattle.inferno_tool.specs.Faults.{IsBytesFault, IsTextFault, IsFault, of_bytes, of_text, of_checking, of_tree, IsTreeFault}
 use Rattle.source_names.specs.Included.{AreTold, IsIncluded}
-use Rattle.source_names.specs.Declares.{Fails}
 use Rattle.source_names.specs.Laws.{IsNoText}
-use Rattle.source_names.proofs.Refused.{refused, no_text_there}
+use Rattle.source_names.proofs.Refused.{no_text_there}
+use Rattle.source_modules.specs.Checked.{IsChecked, IsFirst, IsOther}
+use Rattle.source_modules.specs.Failing.{Fails}
 use Rattle.inferno_tool.specs.declared.cause.SourceFault.{SourceFault}
-use Rattle.inferno_tool.specs.declared.cause.SourceFault.TheVariants.{Lex, Parse, Names, Unbuilt, Unmet, NoInit, FrameTooLarge}
-use Rattle.inferno_tool.specs.declared.cause.SourceFault.TheVariants.{CodeTooLarge}
-use Rattle.inferno_tool.proofs.Trees.{tree_of}
+use Rattle.inferno_tool.specs.declared.cause.SourceFault.TheVariants.{Lex, Parse, Unchecked, Unbuilt, NoInit, FrameTooLarge, CodeTooLarge}
+use Rattle.inferno_tool.proofs.Trees.{Laws, tree_of, one_first, not_other}
 
-unprogrammed : (tree : Source) (fault : SourceFault) → IsTreeFault tree fault → (m : Module) → IsProgram tree m → ⊥
-unprogrammed tree (Lex fault) is m p = is
-unprogrammed tree (Parse fault span) is m p = is
-unprogrammed tree (Names refusal span) is m p = is
-unprogrammed tree Unbuilt is m p = absurd (let bad : true ≡ false = sym p.built ∙ is in cc)
-unprogrammed tree (Unmet cause span) is m p = absurd (let bad : Ok m ≡ Err cause = sym (given tree m p.checked) ∙ is.1 in cc)
-unprogrammed tree NoInit is m p = absurd (let bad : true ≡ false = sym p.begins ∙ is.1 in cc)
-unprogrammed tree FrameTooLarge is m p =
-    let same : is.2.0 ≡ m = once tree is.2.0 m is.2.1 p.checked in
-    p.within.frames (subst sizes.FrameTooLarge same is.2.2)
-unprogrammed tree CodeTooLarge is m p =
-    let same : is.2.0 ≡ m = once tree is.2.0 m is.2.1 p.checked in
-    p.within.code (subst limits.CodeTooLarge same is.2.2)
+-- ---- what is checked has no refusal but that of its module
 
 not_bytes : (source : List ℕ) (fault : SourceFault) → IsBytesFault source fault → (tree : Source) → HasTree source tree → ⊥
 not_bytes source (Lex fault) is tree has = is.2 has.tokens has.lexed
 not_bytes source (Parse fault span) is tree has = (is.1 has.tokens has.lexed).0 tree has.parsed has.shallow
-not_bytes source (Names refusal span) is tree has = is
+not_bytes source (Unchecked number span) is tree has = is
 not_bytes source Unbuilt is tree has = is
-not_bytes source (Unmet cause span) is tree has = is
 not_bytes source NoInit is tree has = is
 not_bytes source FrameTooLarge is tree has = is
 not_bytes source CodeTooLarge is tree has = is
@@ -44,23 +33,74 @@ not_bytes source CodeTooLarge is tree has = is
 no_text_of : (told : Told) (text : List ℕ) (fault : SourceFault) → IsTextFault told text fault → IsNoText told text
 no_text_of told text (Lex fault) is = (is.0, is.1, inl (fault, is.2))
 no_text_of told text (Parse fault span) is = (is.0, is.1, inr (fault, is.2))
-no_text_of told text (Names refusal span) is = absurd is
+no_text_of told text (Unchecked number span) is = absurd is
 no_text_of told text Unbuilt is = absurd is
-no_text_of told text (Unmet cause span) is = absurd is
 no_text_of told text NoInit is = absurd is
 no_text_of told text FrameTooLarge is = absurd is
 no_text_of told text CodeTooLarge is = absurd is
 
-pub faulty : (told : Told) → AreTold told → (path source file : List ℕ) (fault : SourceFault) → IsFault told path source file fault
+-- the refusal of a checked source is told of it, and is one of its module
+pub checked_fault : Laws → (told : Told) → AreTold told → (path source file : List ℕ) (fault : SourceFault)
+    → IsFault told path source file fault
+    → (tree : Source) → HasTree source tree → (es : List Entry) (m : ℕ) (x : typed.Module) → IsChecked told path tree es m x
+    → (file ≡ path) × IsTreeFault told path tree fault
+checked_fault laws told t path source _ fault (of_bytes _ is) tree has es m x c = absurd (not_bytes source fault is tree has)
+checked_fault laws told t path source text fault (of_text other _ _ was included is) tree has es m x c =
+    let same = tree_of source other tree was has in
+    absurd (no_text_there told t path tree text es m (subst (λ (z : Source). IsIncluded told path z.tops text) same included)
+    (no_text_of told text fault is) (record { name = c.name; row = c.row; has = c.has; declares = c.declares }))
+checked_fault laws told t path source file _ (of_checking other _ number span was texts fails) tree has es m x c =
+    let same = tree_of source other tree was has in
+    absurd (laws.none told path tree number es m x t has.tokens has.parsed (subst (λ (z : Source). Fails told path z number) same fails) c)
+checked_fault laws told t path source _ fault (of_tree other _ was is) tree has es m x c =
+    let same = tree_of source other tree was has in
+    (refl, subst (λ (z : Source). IsTreeFault told path z fault) same is)
+
+-- ---- programs
+
+module _ (laws : Laws) (told : Told) (t : AreTold told) (path : List ℕ) (tree : Source) (x : typed.Module)
+    (f : IsFirst told path tree x) where
+  same_small : (y : typed.Module) → IsFirst told path tree y → small_module y ≡ small_module x
+  same_small y g = ap small_module (one_first laws told t path tree y x g f)
+
+  unprogrammed : (fault : SourceFault) → IsTreeFault told path tree fault → (m : Module) → IsProgram x m → ⊥
+  unprogrammed (Lex fault) is m p = is
+  unprogrammed (Parse fault span) is m p = is
+  unprogrammed (Unchecked number span) is m p = is
+  unprogrammed NoInit is m p = not_other laws told t path tree x is.0 f is.1
+  unprogrammed Unbuilt is m p =
+      absurd (let bad : None ≡ Some m = sym is.2 ∙ same_small is.0 is.1 ∙ p.small in cc)
+  unprogrammed FrameTooLarge is m p =
+      let same : is.2.0 ≡ m = let e : Some is.2.0 ≡ Some m = sym is.2.1 ∙ same_small is.0 is.1 ∙ p.small in cc in
+      p.within.frames (subst sizes.FrameTooLarge same is.2.2)
+  unprogrammed CodeTooLarge is m p =
+      let same : is.2.0 ≡ m = let e : Some is.2.0 ≡ Some m = sym is.2.1 ∙ same_small is.0 is.1 ∙ p.small in cc in
+      p.within.code (subst limits.CodeTooLarge same is.2.2)
+
+  -- what is outside of the part has no other refusal
+  pub unbuilt : (fault : SourceFault) → IsTreeFault told path tree fault → small_module x ≡ None → fault ≡ Unbuilt
+  unbuilt (Lex fault) is none = absurd is
+  unbuilt (Parse fault span) is none = absurd is
+  unbuilt (Unchecked number span) is none = absurd is
+  unbuilt NoInit is none = absurd (not_other laws told t path tree x is.0 f is.1)
+  unbuilt Unbuilt is none = refl
+  unbuilt FrameTooLarge is none = absurd (let bad : Some is.2.0 ≡ None = sym is.2.1 ∙ same_small is.0 is.1 ∙ none in cc)
+  unbuilt CodeTooLarge is none = absurd (let bad : Some is.2.0 ≡ None = sym is.2.1 ∙ same_small is.0 is.1 ∙ none in cc)
+
+-- a module that isn't a first one has no other refusal
+pub no_init : Laws → (told : Told) → AreTold told → (path : List ℕ) (tree : Source) (x : typed.Module) → IsOther told path tree x
+    → (fault : SourceFault) → IsTreeFault told path tree fault → fault ≡ NoInit
+no_init laws told t path tree x o (Lex fault) is = absurd is
+no_init laws told t path tree x o (Parse fault span) is = absurd is
+no_init laws told t path tree x o (Unchecked number span) is = absurd is
+no_init laws told t path tree x o NoInit is = refl
+no_init laws told t path tree x o Unbuilt is = absurd (not_other laws told t path tree is.0 x is.1 o)
+no_init laws told t path tree x o FrameTooLarge is = absurd (not_other laws told t path tree is.0 x is.1 o)
+no_init laws told t path tree x o CodeTooLarge is = absurd (not_other laws told t path tree is.0 x is.1 o)
+
+pub faulty : Laws → (told : Told) → AreTold told → (path source file : List ℕ) (fault : SourceFault) → IsFault told path source file fault
     → (m : Module) → IsBuilt told path source m → ⊥
-faulty told t path source _ fault (of_bytes _ is) m b = not_bytes source fault is b.tree b.has
-faulty told t path source text fault (of_text tree _ _ has included is) m b =
-    let same = tree_of source tree b.tree has b.has in
-    no_text_there told t path b.tree text b.names.entries b.names.implemented
-    (subst (λ (z : Source). IsIncluded told path z.tops text) same included) (no_text_of told text fault is) b.names.declares
-faulty told t path source file _ (of_names tree _ refusal span has texts fails) m b =
-    let same = tree_of source tree b.tree has b.has in
-    refused told t path b.tree refusal b.names.entries b.names.implemented
-    (subst (λ (z : Source). Fails told path z refusal) same fails) b.names.declares
-faulty told t path source _ fault (of_tree tree _ has names is) m b =
-    unprogrammed tree fault is m (subst (λ (z : Source). IsProgram z m) (tree_of source b.tree tree b.has has) b.is)
+faulty laws told t path source file fault is m b =
+    let f = b.first in
+    let k = checked_fault laws told t path source file fault is b.tree b.has f.entries f.implemented b.checked f.is in
+    unprogrammed laws told t path b.tree b.checked f fault k.1 m b.is

@@ -1,4 +1,6 @@
 mod Begins
+mod Small
+mod Programs
 mod Causes
 mod Dumped
 mod Exact

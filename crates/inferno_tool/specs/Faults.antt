@@ -1,6 +1,6 @@
--- Why a source is refused, by its bytes, tokens and tree, by the texts that it includes, by what it declares, and by its checked module;
--- the number of each refusal, and where it stands.
-use Rattle.std.specs.Prelude.{◌≡◌, ◌≤◌, ◌<◌, ℕ, List, Err, length, true, false}
+-- Why a source is refused, by its bytes, tokens and tree, by the texts that it includes, by its names, types and statements, and by the
+-- typed module that it is; the number of each refusal, and where it stands.
+use Rattle.std.specs.Prelude.{◌≡◌, ◌≤◌, ◌<◌, ℕ, List, None, Some, length, false}
 use Rattle.inf_ports.specs.Outside.{Told}
 use Rattle.inf_text.specs.declared.span.Span.{Span}
 use Rattle.limbo_lexer.specs.declared.token.Kind.{Kind}
@@ -13,30 +13,26 @@ use Rattle.limbo_parser.specs.declared.tree.ParseFault.{ParseFault}
 use Rattle.limbo_parser.specs.declared.tree.ParseFault.TheVariants as parse
 use Rattle.limbo_parser.specs.Refusals as parsing
 use Rattle.limbo_small.specs.Typed.{Module}
-use Rattle.limbo_names.specs.Numbers as conditions
-use Rattle.limbo_names.specs.Part.{is_built}
-use Rattle.limbo_check_stmt.specs.Checking.{check, declares_init}
-use Rattle.limbo_check_stmt.specs.Typing.{IsModule}
+use Rattle.limbo_typed.specs.Typed as typed
+use Rattle.limbo_part.specs.Part.{small_module}
 use Rattle.limbo_lower.specs.Sizes as sizes
 use Rattle.limbo_compiler.specs.Limits as limits
 use Rattle.source_files.specs.Files.{Gives}
 use Rattle.source_files.specs.Texts.{IsUnlexed, IsUnparsed}
 use Rattle.source_names.specs.Included.{AreTold, AreTexts, IsIncluded}
-use Rattle.source_names.specs.Declares.{Fails}
-use Rattle.source_names.specs.Declares as names
-use Rattle.source_names.specs.declared.refusal.Refusal.{Refusal}
-use Rattle.inferno_tool.specs.Built.{HasTokens, HasTree, HasNames}
+use Rattle.source_modules.specs.Checked.{IsFirst, IsOther}
+use Rattle.source_modules.specs.Failing.{Fails}
+use Rattle.inferno_tool.specs.Built.{HasTokens, HasTree}
 use Rattle.inferno_tool.specs.declared.cause.SourceFault.{SourceFault}
-use Rattle.inferno_tool.specs.declared.cause.SourceFault.TheVariants.{Lex, Parse, Names, Unbuilt, Unmet, NoInit}
+use Rattle.inferno_tool.specs.declared.cause.SourceFault.TheVariants.{Lex, Parse, Unchecked, Unbuilt, NoInit}
 use Rattle.inferno_tool.specs.declared.cause.SourceFault.TheVariants.{FrameTooLarge, CodeTooLarge}
 
 -- the number of a refusal
 abbrev pub number_of : SourceFault → ℕ
 number_of (Lex fault) = lexing.number_of fault
 number_of (Parse fault span) = parsing.number_of fault
-number_of (Names refusal span) = names.number_of refusal
+number_of (Unchecked number span) = number
 number_of Unbuilt = 25
-number_of (Unmet cause span) = conditions.number_of cause
 number_of NoInit = 45
 number_of FrameTooLarge = 70
 number_of CodeTooLarge = 71
@@ -63,8 +59,7 @@ lex_place _ = start
 abbrev pub place_of : SourceFault → Place
 place_of (Lex fault) = lex_place fault
 place_of (Parse fault span) = at span
-place_of (Names refusal span) = at span
-place_of (Unmet cause span) = at span
+place_of (Unchecked number span) = at span
 place_of _ = start
 
 -- the tokens have no tree that nests up to 256 deep
@@ -86,21 +81,17 @@ abbrev pub IsLexFault : LexFault → Type 0
 IsLexFault lex.NoMemory = ⊥
 IsLexFault _ = Unit {0}
 
--- What a refusal of the tree says of it. It is outside the built part. It is in it, but doesn't meet this condition of names and types,
--- the first one that it doesn't meet. It has a checked module, but doesn't declare `init` as a first module has to. It does, but the
--- module has a frame that is too large, or code that is, and then no such frame.
-abbrev pub IsTreeFault : Source → SourceFault → Type 0
-IsTreeFault tree (Lex fault) = ⊥
-IsTreeFault tree (Parse fault span) = ⊥
-IsTreeFault tree (Names refusal span) = ⊥
-IsTreeFault tree Unbuilt = is_built tree ≡ false
-IsTreeFault tree (Unmet cause span) = (is_built tree ≡ true) × (check tree ≡ Err cause)
-IsTreeFault tree NoInit = (is_built tree ≡ true) × (declares_init tree ≡ false) × ((m : Module) × IsModule tree m)
-IsTreeFault tree FrameTooLarge =
-    (is_built tree ≡ true) × (declares_init tree ≡ true) × ((m : Module) × IsModule tree m × sizes.FrameTooLarge m)
-IsTreeFault tree CodeTooLarge =
-    (is_built tree ≡ true) × (declares_init tree ≡ true)
-    × ((m : Module) × IsModule tree m × limits.CodeTooLarge m × (sizes.FrameTooLarge m → ⊥))
+-- What a refusal of a tree says that is a typed module: it doesn't declare `init` as a first module has to; it does, but is outside of the
+-- part that runs; it is in it, but has a frame that is too large, or code that is, and then no such frame.
+abbrev pub IsTreeFault : Told → List ℕ → Source → SourceFault → Type 0
+IsTreeFault told path tree NoInit = (x : typed.Module) × IsOther told path tree x
+IsTreeFault told path tree Unbuilt = (x : typed.Module) × IsFirst told path tree x × (small_module x ≡ None)
+IsTreeFault told path tree FrameTooLarge =
+    (x : typed.Module) × IsFirst told path tree x × ((m : Module) × (small_module x ≡ Some m) × sizes.FrameTooLarge m)
+IsTreeFault told path tree CodeTooLarge =
+    (x : typed.Module) × IsFirst told path tree x
+    × ((m : Module) × (small_module x ≡ Some m) × limits.CodeTooLarge m × (sizes.FrameTooLarge m → ⊥))
+IsTreeFault told path tree _ = ⊥
 
 -- What a refusal of the source's own bytes says of them. One of bytes and tokens says that they have no tokens, and why. One of the
 -- grammar says that their tokens have no tree within the limit of nesting; a fault of syntax, that they have none at all; a fault of
@@ -119,13 +110,13 @@ IsTextFault told text (Parse fault span) = (bytes : List ℕ) × Gives told text
 IsTextFault told text _ = ⊥
 
 -- Why the bytes at a path are refused, and the file that is told: the bytes themselves are no source; an included text is none; a
--- condition of includes and names isn't met, where all included texts are some; or the tree isn't what it must be, where it declares
--- its names.
+-- condition of includes, names, types or statements isn't met, where all included texts are some; or the typed module that the tree is
+-- isn't what it must be.
 pub data IsFault (told : Told) (path source : List ℕ) : (file : List ℕ) → SourceFault → Type 0 where
   of_bytes : (fault : SourceFault) → IsBytesFault source fault → IsFault told path source path fault
   of_text : (tree : Source) (text : List ℕ) (fault : SourceFault) → HasTree source tree → IsIncluded told path tree.tops text
       → IsTextFault told text fault → IsFault told path source text fault
-  of_names : (tree : Source) (file : List ℕ) (refusal : Refusal) (span : Span) → HasTree source tree
-      → (AreTold told → AreTexts told path tree.tops) → Fails told path tree refusal → IsFault told path source file (Names refusal span)
-  of_tree : (tree : Source) (fault : SourceFault) → HasTree source tree → HasNames told path tree → IsTreeFault tree fault
+  of_checking : (tree : Source) (file : List ℕ) (number : ℕ) (span : Span) → HasTree source tree
+      → (AreTold told → AreTexts told path tree.tops) → Fails told path tree number → IsFault told path source file (Unchecked number span)
+  of_tree : (tree : Source) (fault : SourceFault) → HasTree source tree → IsTreeFault told path tree fault
       → IsFault told path source path fault

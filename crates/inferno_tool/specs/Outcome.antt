@@ -4,7 +4,10 @@ use Rattle.inf_ports.specs.Outside.{Told, Lacks, Rose}
 use Rattle.dis_file.specs.declared.object.Object.{Object}
 use Rattle.limbo_small.specs.Typed.{Module}
 use Rattle.machine_core.specs.declared.event.Journal.{Journal}
-use Rattle.inferno_tool.specs.Built.{IsBuilt}
+use Rattle.limbo_tree.specs.Sources.{Source}
+use Rattle.limbo_typed.specs.Typed as typed
+use Rattle.source_modules.specs.Checked.{IsOther}
+use Rattle.inferno_tool.specs.Built.{HasTree, IsBuilt, IsFirstSource}
 use Rattle.inferno_tool.specs.Reading.{IsRead, IsFaulty, IsWanted}
 use Rattle.inferno_tool.specs.Faults.{IsFault}
 use Rattle.inferno_tool.specs.Running.{IsRun}
@@ -54,6 +57,24 @@ pub record TellsProgram (words : List (List ℕ)) (told : Told) (m : Module) : T
   pub source : List ℕ
   pub tells : Tells told file (Some source)
   pub built : IsBuilt told file source m
+
+-- the words name a file of which the files tell that its source is checked, and is this first module
+pub record TellsFirst (words : List (List ℕ)) (told : Told) (checked : typed.Module) : Type 0 where
+  pub file : List ℕ
+  pub named : named_file words ≡ Some file
+  pub source : List ℕ
+  pub tells : Tells told file (Some source)
+  pub first : IsFirstSource told file source checked
+
+-- the same of a module that doesn't declare `init` as a first one has to
+pub record TellsOther (words : List (List ℕ)) (told : Told) (checked : typed.Module) : Type 0 where
+  pub file : List ℕ
+  pub named : named_file words ≡ Some file
+  pub source : List ℕ
+  pub tells : Tells told file (Some source)
+  pub tree : Source
+  pub has : HasTree source tree
+  pub other : IsOther told file tree checked
 
 -- where a command is refused before it runs
 abbrev pub IsRefusal : List (List ℕ) → Told → ℕ → ℕ → Cause → Type 0

@@ -9,25 +9,19 @@ use Rattle.limbo_parser.specs.declared.tree.ParseFault.{ParseFault}
 use Rattle.limbo_parser.specs.declared.tree.ParseFault.TheVariants as parse
 use Rattle.limbo_tree.specs.Sources.{Source}
 use Rattle.limbo_small.specs.Typed.{Module}
-use Rattle.limbo_names.specs.declared.fault.CheckFault.{CheckFault}
-use Rattle.limbo_names.specs.declared.fault.CheckFault.TheVariants as check
-use Rattle.limbo_names.specs.Part.{is_built}
-use Rattle.limbo_check_stmt.specs.Checking as checking
-use Rattle.limbo_check_stmt.specs.Typing.{IsModule}
 use Rattle.limbo_compiler.specs.declared.passes.CompileFault.{CompileFault}
 use Rattle.limbo_compiler.specs.declared.passes.CompileFault.TheVariants as compile
-use Rattle.limbo_small.specs.Proper.{IsProper}
 use Rattle.source_files.specs.declared.fault.FilesFault.{FilesFault}
 use Rattle.source_files.specs.declared.fault.FilesFault.TheVariants as files
 use Rattle.source_names.specs.Included.{IsIncluded}
-use Rattle.source_names.specs.declared.refusal.NamesFault.{NamesFault}
-use Rattle.source_names.specs.declared.refusal.NamesFault.TheVariants as names
+use Rattle.source_modules.specs.declared.fault.ModuleFault.{ModuleFault}
+use Rattle.source_modules.specs.declared.fault.ModuleFault.TheVariants as checking
 use Rattle.inferno_tool.specs.Built.{HasTree, IsBuilt}
 use Rattle.inferno_tool.specs.Faults.{IsBytesFault, IsFault, IsTreeFault}
 use Rattle.inferno_tool.specs.declared.cause.Cause.{Cause}
 use Rattle.inferno_tool.specs.declared.cause.Cause.TheVariants.{BadSource, Host, NoMemory}
 use Rattle.inferno_tool.specs.declared.cause.SourceFault.{SourceFault}
-use Rattle.inferno_tool.specs.declared.cause.SourceFault.TheVariants.{Lex, Parse, Names, Unmet, FrameTooLarge, CodeTooLarge}
+use Rattle.inferno_tool.specs.declared.cause.SourceFault.TheVariants.{Lex, Parse, Unchecked, FrameTooLarge, CodeTooLarge}
 use Rattle.inferno_tool.specs.declared.reading.ReadFault.{ReadFault}
 use Rattle.inferno_tool.specs.declared.reading.ReadFault.TheVariants as read
 
@@ -51,11 +45,6 @@ unlexed (lex.NumberTooWide span) = read.Refused (Lex (lex.NumberTooWide span))
 unlexed (lex.Unclosed span) = read.Refused (Lex (lex.Unclosed span))
 unlexed lex.SourceTooLong = read.Refused (Lex lex.SourceTooLong)
 
--- a refusal of names and types
-abbrev pub unchecked : CheckFault → ReadFault
-unchecked check.NoMemory = read.NoMemory
-unchecked (check.Refused cause span) = read.Refused (Unmet cause span)
-
 -- a refusal of the compiler
 abbrev pub uncompiled : CompileFault → ReadFault
 uncompiled compile.NoMemory = read.NoMemory
@@ -73,17 +62,10 @@ abbrev pub IsReadFault : List ℕ → ReadFault → Type 0
 IsReadFault source read.NoMemory = Unit {0}
 IsReadFault source (read.Refused fault) = IsBytesFault source fault
 
--- why a tree was not read: a refusal, or want of memory
-abbrev pub IsTreeReadFault : Source → ReadFault → Type 0
-IsTreeReadFault tree read.NoMemory = Unit {0}
-IsTreeReadFault tree (read.Refused fault) = IsTreeFault tree fault
-
--- the tree is in the built part, its checked module is this one, and it declares `init` as a first module has to
-pub record IsChecked (tree : Source) (m : Module) : Type 0 where
-  pub built : is_built tree ≡ true
-  pub checked : IsModule tree m
-  pub begins : checking.declares_init tree ≡ true
-  pub proper : IsProper m
+-- why a tree is no program: a refusal, or want of memory
+abbrev pub IsTreeReadFault : Told → List ℕ → Source → ReadFault → Type 0
+IsTreeReadFault told path tree read.NoMemory = Unit {0}
+IsTreeReadFault told path tree (read.Refused fault) = IsTreeFault told path tree fault
 
 -- a source stands at the path, whose tree is this one
 pub record IsTreeAt (told : Told) (path : List ℕ) (tree : Source) : Type 0 where
@@ -102,10 +84,10 @@ cause_of_files (files.Failed path) = Host path false
 cause_of_files (files.Lex path fault) = BadSource path (Lex fault)
 cause_of_files (files.Parse path fault span) = BadSource path (Parse fault span)
 
--- the cause that is told of names
-abbrev pub cause_of_names : NamesFault → Cause
-cause_of_names names.NoMemory = NoMemory
-cause_of_names (names.Refused refusal path span) = BadSource path (Names refusal span)
+-- the cause that is told of names, types and statements
+abbrev pub cause_of_checking : ModuleFault → Cause
+cause_of_checking checking.NoMemory = NoMemory
+cause_of_checking (checking.Refused number path span) = BadSource path (Unchecked number span)
 
 -- the file's bytes have this fault, which is told of this file
 pub record IsFaulty (told : Told) (path file : List ℕ) (fault : SourceFault) : Type 0 where
@@ -119,12 +101,12 @@ pub data IsWanted (told : Told) (path : List ℕ) : List ℕ → Type 0 where
   included : (source : List ℕ) (tree : Source) (text : List ℕ) → Has told path source → HasTree source tree
       → IsIncluded told path tree.tops text → IsWanted told path text
 
--- Why a tree at the path has no names, whatever its bytes are: a refusal of them, or a read of an included text that failed.
-abbrev pub IsUnnamed : Told → List ℕ → Source → ℕ → ℕ → Cause → Type 0
-IsUnnamed told path tree before now (BadSource file fault) = (source : List ℕ) → HasTree source tree → IsFault told path source file fault
-IsUnnamed told path tree before now (Host file false) = IsIncluded told path tree.tops file × Rose before now
-IsUnnamed told path tree before now NoMemory = Unit {0}
-IsUnnamed told path tree before now _ = ⊥
+-- Why a tree at the path isn't checked, whatever its bytes are: a refusal of them, or a read of an included text that failed.
+abbrev pub IsUnchecked : Told → List ℕ → Source → ℕ → ℕ → Cause → Type 0
+IsUnchecked told path tree before now (BadSource file fault) = (source : List ℕ) → HasTree source tree → IsFault told path source file fault
+IsUnchecked told path tree before now (Host file false) = IsIncluded told path tree.tops file × Rose before now
+IsUnchecked told path tree before now NoMemory = Unit {0}
+IsUnchecked told path tree before now _ = ⊥
 
 -- why a source at the path was not read
 abbrev pub IsUnread : Told → List ℕ → ℕ → ℕ → Cause → Type 0

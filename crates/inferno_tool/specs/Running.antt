@@ -17,6 +17,11 @@ use Rattle.machine_core.specs.Standing.{HasBegun}
 use Rattle.machine_host.specs.Conversation.{Conversation}
 use Rattle.limbo_compiler.specs.Limits.{IsWithin}
 use Rattle.limbo_compiler.specs.Means.{Means}
+use Rattle.inf_ports.specs.Outside.{Told}
+use Rattle.limbo_tree.specs.Sources.{Source}
+use Rattle.limbo_typed.specs.Typed as typed
+use Rattle.source_modules.specs.Checked.{IsFirst}
+use Rattle.inferno_tool.specs.Built.{IsProgram}
 use Rattle.inferno_tool.specs.declared.cause.Cause.{Cause}
 use Rattle.inferno_tool.specs.declared.cause.Cause.TheVariants.{Done, Broke, Limit, SinkFault, NoMemory}
 use Rattle.inferno_command.specs.Base.{base_name}
@@ -37,6 +42,14 @@ pub record IsCompiled (m : Module) (o : Object) : Type 0 where
   pub begins : Beginning m init
   pub first : Routine
   pub enters : BeginsWith m init first
+
+-- The object of the program that a tree at this path is.
+pub record IsObjectOf (told : Told) (path : List ℕ) (tree : Source) (o : Object) : Type 0 where
+  pub checked : typed.Module
+  pub first : IsFirst told path tree checked
+  pub program : Module
+  pub is : IsProgram checked program
+  pub compiled : IsCompiled program o
 
 -- an end that a run of a program can have
 abbrev pub IsOwnEnd : End → Type 0

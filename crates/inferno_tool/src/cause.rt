@@ -8,10 +8,8 @@ use dis_format::FileFault;
 use inf_text::{Span, Text};
 use inferno_stats::Stats;
 use limbo_lexer::LexFault;
-use limbo_names::Unmet;
 use limbo_parser::ParseFault;
 use machine_core::{Broken, Journal};
-use source_names::Refusal;
 use std::alloc::Global;
 
 /// Why a source was refused.
@@ -21,12 +19,11 @@ pub enum SourceFault {
     Lex { fault: LexFault },
     /// Refusals 30 and 31: the tokens have no tree. The span is that of the token where this was met.
     Parse { fault: ParseFault, span: Span },
-    /// Refusals 40 to 44: a condition of includes and of the names of the top level isn't met, at the span.
-    Names { refusal: Refusal, span: Span },
-    /// Refusal 25: the tree is outside the part of the language that is built so far.
+    /// Refusals 40 to 44, 50 to 55 and 60 to 64: a condition of includes, names, types or statements isn't met, at the span. The number is
+    /// the refusal's.
+    Unchecked { number: u32, span: Span },
+    /// Refusal 25: the module is outside of the part of the language that runs so far.
     Unbuilt,
-    /// Refusals 41, 42, 50, 51, 54 and 63: a condition of names and types isn't met, at the span.
-    Unmet { cause: Unmet, span: Span },
     /// Refusal 45: the module doesn't declare `init` as a first module has to.
     NoInit,
     /// Refusal 70: a function's frame passes 65,536 bytes.
@@ -65,9 +62,8 @@ impl SourceFault {
         match self {
             SourceFault::Lex { fault } => fault.number(),
             SourceFault::Parse { fault, .. } => fault.number(),
-            SourceFault::Names { refusal, .. } => refusal.number(),
+            SourceFault::Unchecked { number, .. } => number,
             SourceFault::Unbuilt => 25,
-            SourceFault::Unmet { cause, .. } => cause.number(),
             SourceFault::NoInit => 45,
             SourceFault::FrameTooLarge => 70,
             SourceFault::CodeTooLarge => 71,
@@ -87,8 +83,7 @@ impl SourceFault {
                 | LexFault::Unclosed(span),
             }
             | SourceFault::Parse { span, .. }
-            | SourceFault::Names { span, .. }
-            | SourceFault::Unmet { span, .. } => Place::at(span),
+            | SourceFault::Unchecked { span, .. } => Place::at(span),
             SourceFault::Lex { .. }
             | SourceFault::Unbuilt
             | SourceFault::NoInit

@@ -1,27 +1,30 @@
 //! Reads a source: its file, tokens, tree, the texts that it includes, its names, checked module and object.
 
-ghost use Rattle.std.specs.Prelude.{◌≡◌, ◌≤◌, ◌⊎◌, IfOk, IfErr, OnOk};
+ghost use Rattle.std.specs.Prelude.{◌≡◌, ◌≤◌, ◌⊎◌, List, ℕ, true, Some, IfOk, IfErr, IfSome};
+ghost use Rattle.inf_ports.specs.Outside.{Told};
+ghost use Rattle.limbo_tree.specs.Sources as sources;
 ghost use Rattle.limbo_tree.specs.View.{view_source};
 ghost use Rattle.limbo_small.specs.Typed.{Module};
 ghost use Rattle.limbo_small.specs.View.{view_module};
-ghost use Rattle.inferno_tool.specs.Built.{HasTree, HasNames, IsProgram};
-ghost use Rattle.inferno_tool.specs.Reading.{IsRead, IsTreeAt, IsChecked, IsReadFault, IsTreeReadFault, IsFaultOf, IsUnnamed, IsUnread};
-ghost use Rattle.inferno_tool.specs.Reading.{span_at, unlexed, unparsed, unchecked, uncompiled, cause_of_files, cause_of_names};
-ghost use Rattle.inferno_tool.specs.Running.{IsCompiled};
+ghost use Rattle.limbo_small.specs.Proper.{IsProper};
+ghost use Rattle.source_modules.specs.Given.{Gives};
+ghost use Rattle.inferno_tool.specs.Built.{HasTree};
+ghost use Rattle.inferno_tool.specs.Faults.{IsTreeFault};
+ghost use Rattle.inferno_tool.specs.Reading.{IsRead, IsTreeAt, IsReadFault, IsTreeReadFault, IsFaultOf, IsUnchecked, IsUnread};
+ghost use Rattle.inferno_tool.specs.Reading.{span_at, unlexed, unparsed, uncompiled, cause_of_files, cause_of_checking};
+ghost use Rattle.inferno_tool.specs.Running.{IsCompiled, IsObjectOf};
 
 use crate::cause::{Cause, SourceFault};
 use dis_file::Object;
 use inf_ports::{HostFault, HostTree};
 use inf_text::{Span, Text};
-use limbo_check_stmt::{check_module, declares_init};
 use limbo_compiler::{CompileFault, compile};
 use limbo_lexer::{LexFault, Token, lex};
-use limbo_names::{CheckFault, is_built};
 use limbo_parser::{ParseFault, parse};
 use limbo_small::TypedModule;
 use limbo_tree::Source;
 use source_files::{FilesFault, read_included};
-use source_names::{NamesFault, names_of};
+use source_modules::{Checked, ModuleFault, check_source};
 use std::alloc::Global;
 
 /// Why bytes were not read as a program.
@@ -74,18 +77,6 @@ fn unparsed(tokens: &[Token], fault: ParseFault) -> ReadFault
     }
 }
 
-/// The refusal of names and types.
-fn unchecked(fault: CheckFault) -> ReadFault
-    ensures { result ≡ unchecked fault }
-{
-    match fault {
-        CheckFault::NoMemory => ReadFault::NoMemory,
-        CheckFault::Refused { cause, at } => ReadFault::Refused {
-            fault: SourceFault::Unmet { cause, span: at },
-        },
-    }
-}
-
 /// The refusal of the compiler.
 fn uncompiled(fault: CompileFault) -> ReadFault
     ensures { result ≡ uncompiled fault }
@@ -120,43 +111,42 @@ fn read_tree(alloc: Global, source: &[u8]) -> Result<Source, ReadFault>
     }
 }
 
-/// The checked module of a tree, where it is one that a program can have.
+/// The module over int of what is told of a typed module.
 ///
 /// # Errors
-/// The refusal of the tree; `NoMemory`.
-fn checked(alloc: Global, tree: &Source) -> Result<TypedModule, ReadFault>
-    ensures found { IfOk result (λ m. IsChecked (view_source tree.now) (view_module m)) }
-    ensures refused { IfErr result (IsTreeReadFault (view_source tree.now)) }
+/// The refusal: `NoInit` where it doesn't declare `init` as a first module has to, else `Unbuilt` where it is outside of the part that
+/// runs.
+fn program_of(checked: Checked) -> Result<TypedModule, SourceFault>
+    requires proper { IfSome checked.small (λ m. IsProper (view_module m)) }
+    ensures found { IfOk result (λ m. (checked.begins ≡ true) × (checked.small ≡ Some m)) }
+    ensures proper { IfOk result (λ m. IsProper (view_module m)) }
+    ensures refused { IfErr result (λ f. (told : Told) (path : List ℕ) (tree : sources.Source) → Gives told path tree checked
+        → IsTreeFault told path tree f) }
 {
-    if !is_built(tree) {
-        return Err(ReadFault::Refused {
-            fault: SourceFault::Unbuilt,
-        });
+    let Checked { begins, small } = checked;
+    if !begins {
+        return Err(SourceFault::NoInit);
     }
-    let module = match check_module(alloc, tree) {
-        Ok(module) => module,
-        Err(fault) => return Err(unchecked(fault)),
-    };
-    match declares_init(alloc, tree) {
-        Ok(true) => Ok(module),
-        Ok(false) => Err(ReadFault::Refused {
-            fault: SourceFault::NoInit,
-        }),
-        Err(_) => Err(ReadFault::NoMemory),
+    match small {
+        Some(module) => Ok(module),
+        None => Err(SourceFault::Unbuilt),
     }
 }
 
-/// The object of a tree that is a program.
+/// The object of what is told of a typed module.
 ///
 /// # Errors
-/// The refusal of the tree; `NoMemory`.
-fn object_of(alloc: Global, tree: &Source) -> Result<Object, ReadFault>
-    ensures found { IfOk result (λ o. (m : Module) × IsProgram (view_source tree.now) m × IsCompiled m o) }
-    ensures refused { IfErr result (IsTreeReadFault (view_source tree.now)) }
+/// The refusal of the module; `NoMemory`.
+fn object_of(alloc: Global, checked: Checked) -> Result<Object, ReadFault>
+    requires proper { IfSome checked.small (λ m. IsProper (view_module m)) }
+    ensures found { IfOk result (λ o. (told : Told) (path : List ℕ) (tree : sources.Source) → Gives told path tree checked
+        → IsObjectOf told path tree o) }
+    ensures refused { IfErr result (λ f. (told : Told) (path : List ℕ) (tree : sources.Source) → Gives told path tree checked
+        → IsTreeReadFault told path tree f) }
 {
-    let module = match checked(alloc, tree) {
+    let module = match program_of(checked) {
         Ok(module) => module,
-        Err(fault) => return Err(fault),
+        Err(fault) => return Err(ReadFault::Refused { fault }),
     };
     match compile(alloc, &module) {
         Ok(object) => Ok(object),
@@ -215,32 +205,33 @@ fn of_files(fault: FilesFault) -> Cause
     }
 }
 
-/// A condition of includes and names isn't met.
-fn of_names(fault: NamesFault) -> Cause
-    ensures { result ≡ cause_of_names fault }
+/// A condition of includes, names, types or statements isn't met.
+fn of_checking(fault: ModuleFault) -> Cause
+    ensures { result ≡ cause_of_checking fault }
 {
     match fault {
-        NamesFault::NoMemory => Cause::NoMemory,
-        NamesFault::Refused { refusal, path, at } => Cause::BadSource {
+        ModuleFault::NoMemory => Cause::NoMemory,
+        ModuleFault::Refused { number, path, at } => Cause::BadSource {
             file: path,
-            fault: SourceFault::Names { refusal, span: at },
+            fault: SourceFault::Unchecked { number, span: at },
         },
     }
 }
 
-/// Sees that a tree declares its names, with the texts that it includes.
+/// What is told of the typed module that a tree is, with the texts that it includes.
 ///
 /// # Errors
-/// The cause: an included text is refused or can't be read, names are refused, or want of memory.
-fn check_names<H: HostTree>(
+/// The cause: an included text is refused or can't be read, names, types or statements are refused, or want of memory.
+fn check_tree<H: HostTree>(
     alloc: Global,
     path: &Text,
     tree: &Source,
     files: &mut H,
-) -> Result<(), Cause>
-    ensures names { OnOk result (HasNames (H.told files.old) path.now (view_source tree.now)) }
-    ensures unnamed { IfErr result
-        (λ cause. IsUnnamed (H.told files.old) path.now (view_source tree.now) (H.faults files.old) (H.faults files.new) cause) }
+) -> Result<Checked, Cause>
+    ensures checked { IfOk result (λ c. Gives (H.told files.old) path.now (view_source tree.now) c) }
+    ensures proper { IfOk result (λ c. IfSome c.small (λ m. IsProper (view_module m))) }
+    ensures unchecked { IfErr result
+        (λ cause. IsUnchecked (H.told files.old) path.now (view_source tree.now) (H.faults files.old) (H.faults files.new) cause) }
     ensures kept { H.told files.new ≡ H.told files.old }
     ensures later { H.faults files.old ≤ H.faults files.new }
 {
@@ -248,9 +239,9 @@ fn check_names<H: HostTree>(
         Ok(texts) => texts,
         Err(fault) => return Err(of_files(fault)),
     };
-    match names_of(alloc, path, tree, &texts) {
-        Ok(_) => Ok(()),
-        Err(fault) => Err(of_names(fault)),
+    match check_source(alloc, path, tree, &texts) {
+        Ok(checked) => Ok(checked),
+        Err(fault) => Err(of_checking(fault)),
     }
 }
 
@@ -287,8 +278,11 @@ pub fn read_source<H: HostTree>(alloc: Global, path: &Text, files: &mut H) -> Re
     ensures later { H.faults files.old ≤ H.faults files.new }
 {
     let tree = read_first(alloc, path, files)?;
-    check_names(alloc, path, &tree, files)?;
-    match object_of(alloc, &tree) {
+    let checked = match check_tree(alloc, path, &tree, files) {
+        Ok(checked) => checked,
+        Err(cause) => return Err(cause),
+    };
+    match object_of(alloc, checked) {
         Ok(object) => Ok(object),
         Err(fault) => Err(faulted(path, fault)),
     }

@@ -435,11 +435,16 @@ fn refusals(rt: HostRuntime) -> Result<(), Fail> {
     let rows = [
         ("f() { x := 1; x := 2; }", "6:15: fault 41"),
         ("f() { y = 1; }", "6:7: fault 42"),
-        ("f() { return 1; }", "6:7: fault 50"),
-        ("f() { f = 1; }", "6:7: fault 51"),
+        ("f() { return 1; }", "6:14: fault 50"),
+        ("f() { f = 1; }", "6:7: fault 50"),
+        ("f() { 1 = 2; }", "6:7: fault 51"),
         ("f() { sys->print(\"%d\"); }", "6:7: fault 54"),
         ("f(n: int): int { if (n) return 1; }", "6:1: fault 63"),
-        ("f() { for (;;) ; }", "1:1: fault 25"),
+        ("f() { case 3 { 1 to 4 => ; 2 => ; } }", "6:7: fault 60"),
+        ("f() { alt { 1 => ; } }", "6:13: fault 61"),
+        ("f() { break; }", "6:7: fault 64"),
+        ("f() { s := \"a\" + 1; }", "6:12: fault 50"),
+        ("f() { s := \"a\"; }", "1:1: fault 25"),
     ];
     for (line, told) in rows {
         let source = format!(in alloc; "{HEAD}{line}\n{INIT} }}")?;
@@ -455,7 +460,7 @@ fn refusals(rt: HostRuntime) -> Result<(), Fail> {
 /// What is told of sources that include texts, and behind a `|` the source's sixth line; behind each `@` stand the name of an
 /// included text, a blank, and the text.
 const INCLUDES: &str = "\
-hello.b:1:1: fault 25|include \"k.m\"; n: con len s + k;@k.m k: con 1 << 3; s: con \"a\" + \"b\";
+hello.b:1:1: fault 25|include \"k.m\"; n: con len s + k; v: string;@k.m k: con 1 << 3; s: con \"a\" + \"b\";
 hello.b:6:1: fault 40|include \"none.m\";
 d/k.m:1:1: fault 40|include \"d/k.m\";@d/k.m include \"k.n\";@k.n k: con 1;
 hello.b:6:16: fault 41|include \"k.m\"; k: int;@k.m k: con 1;
@@ -528,6 +533,10 @@ fn long_sources(rt: HostRuntime) -> Result<(), Fail> {
         (
             nested.as_bytes(),
             b"inferno: hello.b:1:278: fault 31\n".as_slice(),
+        ),
+        (
+            b"implement T; T: module { };".as_slice(),
+            b"inferno: hello.b:1:1: fault 45\n".as_slice(),
         ),
     ];
     for (source, line) in rows {

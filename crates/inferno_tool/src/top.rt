@@ -1,6 +1,9 @@
 ghost use Rattle.std.specs.Prelude.{◌≡◌, ◌≤◌, ◌⊎◌, ℕ, List, Option, true, None, Some, IsSome, IfOk, IfErr};
 ghost use Rattle.inf_ports.specs.Outside.{Rose};
 ghost use Rattle.limbo_small.specs.Typed.{Module};
+ghost use Rattle.limbo_typed.specs.Typed as typed;
+ghost use Rattle.limbo_part.specs.Part.{small_module};
+ghost use Rattle.inferno_tool.specs.declared.cause.SourceFault.TheVariants as SourceFault;
 ghost use Rattle.inferno_tool.specs.Built.{IsBuilt};
 ghost use Rattle.dis_file.specs.declared.object.Object.{Object as AnyObject};
 ghost use Rattle.dis_format.specs.Objects.{Spells};
@@ -8,6 +11,7 @@ ghost use Rattle.inferno_tool.specs.Dumping.{HasDumped, TellsObject, IsListing, 
 ghost use Rattle.inferno_tool.specs.Closing.{status_of, closing_lines, told_stats, IsWritten};
 ghost use Rattle.inferno_tool.specs.Outcome.{HasRun, IsRefusal, IsCause, IsRunEnd, IsSinkFault, IsUnrun};
 ghost use Rattle.inferno_tool.specs.Outcome.{is_run_out, IsSourceRefusal, IsEndUnlessMemory, Tells, TellsProgram, IsUnlessMemory};
+ghost use Rattle.inferno_tool.specs.Outcome.{TellsFirst, TellsOther};
 ghost use Rattle.inferno_tool.specs.Running.{IsCompiled, IsRun, NothingRan};
 ghost use Rattle.inferno_command.specs.Words.{named_file, dumped_file, limit_of, wants_stats, IsToRun};
 
@@ -23,6 +27,7 @@ use inf_text::Text;
 use inferno_command::asked;
 use inferno_stats::Stats;
 use inferno_words::Command;
+use source_modules::{fails_or_checked, one_checked};
 use std::alloc::Global;
 
 /// Runs the object of the program in the file at the path for at most so many quanta, and says how that ended.
@@ -211,7 +216,7 @@ pub fn inferno<H: HostTree, K: Sink, E: Sink>(
     }) result.cause }
 
     // Words that aren't those of `go` and `dump` are always refused, and so is a file that isn't there, and a source that
-    // isn't a program of the built part, with a refusal that it has.
+    // isn't a program of the part that runs, with a refusal that it has.
     ensures usage { dumped_file words.now ≡ None → named_file words.now ≡ None → IsUnlessMemory result.cause Cause.Usage }
     ensures missing { (file : List ℕ) → named_file words.now ≡ Some file → Tells (H.told files.old) file None
         → (Rose (H.faults files.old) (H.faults files.new) → ⊥) → IsUnlessMemory result.cause (Cause.Host file true) }
@@ -219,6 +224,15 @@ pub fn inferno<H: HostTree, K: Sink, E: Sink>(
         → ((m : Module) → IsBuilt (H.told files.old) file source m → ⊥)
         → (Rose (H.faults files.old) (H.faults files.new) → ⊥)
         → IsSourceRefusal (H.told files.old) file source result.cause }
+
+    // A checked source is refused as 45 exactly where its module doesn't declare `init` as a first module has to, and else as 25 where the
+    // module is outside of the part that runs, however large its frames and its code are.
+    ensures beginless { (x : typed.Module) (t : TellsOther words.now (H.told files.old) x)
+        → (Rose (H.faults files.old) (H.faults files.new) → ⊥)
+        → IsUnlessMemory result.cause (Cause.BadSource t.file SourceFault.NoInit) }
+    ensures outside { (x : typed.Module) (t : TellsFirst words.now (H.told files.old) x) → small_module x ≡ None
+        → (Rose (H.faults files.old) (H.faults files.new) → ⊥)
+        → IsUnlessMemory result.cause (Cause.BadSource t.file SourceFault.Unbuilt) }
 
     // A program of the built part is run until it ends by itself, unless a count rises; and it is that program which is run.
     ensures ends { (m : Module) → TellsProgram words.now (H.told files.old) m
@@ -279,6 +293,9 @@ pub fn inferno<H: HostTree, K: Sink, E: Sink>(
     ensures later { (H.faults files.old ≤ H.faults files.new) × (K.faults out.old ≤ K.faults out.new)
         × (E.faults err.old ≤ E.faults err.new) }
 {
+    // A source is one typed module at most, and none where a refusal holds.
+    one_checked();
+    fails_or_checked();
     let (cause, left, stats) = decide(alloc, words, files, out, err);
     let cause = close(alloc, cause, stats, err);
     let Left { journal, objects } = left;

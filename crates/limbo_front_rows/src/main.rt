@@ -1,11 +1,9 @@
 //! What lines come to in the front end of the compiler, for rows that are written out by hand: the test of the crates from `inf_text`
-//! to `limbo_check_stmt`, whose table is data.
+//! to `limbo_parser`, whose table is data.
 //!
 //! Each line of the input is a kind and a text, in which a backquote stands for a newline. Printed is
 //! - for `lex` the tokens of the text as a source;
 //! - for `source`, or `included` for an included text, `ok` where it has a tree;
-//! - for `check` what the checker says of a module whose head is `HEAD` and whose functions are the text: `ok`, or 25 where it isn't
-//!   in the part that is built;
 //! - for `newlines` the tokens of so many newlines;
 //! - for `utf8` and `lossy` the characters that bytes in hexadecimal spell, by their numbers;
 //! - for `number` the number at the front of the text;
@@ -17,7 +15,7 @@ mod sources;
 mod texts;
 mod tokens;
 
-use crate::sources::{check_row, source_row};
+use crate::sources::source_row;
 use crate::texts::{lossy_row, number_row, utf8_row};
 use crate::tokens::{newlines_row, token_row};
 use std::alloc::{AllocError, Global};
@@ -37,7 +35,6 @@ fn answer(alloc: Global, kind: &str, text: &str) -> Result<String, AllocError> {
         "lex" => token_row(alloc, &bytes),
         "source" => source_row(alloc, &bytes, false),
         "included" => source_row(alloc, &bytes, true),
-        "check" => check_row(alloc, &bytes),
         "newlines" => newlines_row(alloc, text),
         "utf8" => utf8_row(alloc, text),
         "lossy" => lossy_row(alloc, text),

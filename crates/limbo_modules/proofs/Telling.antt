@@ -1,6 +1,6 @@
 -- What is told of sources that are no typed modules, and of what they declare.
-use Rattle.std.proofs.Common.{◌≡◌, ◌+◌, ℕ, zero, suc, true, false, List, [], ◌∷◌, ◌++◌, map, length, Option, None, Some, refl, sym, ap, subst}
-use Rattle.std.proofs.Common.{◌∙◌}
+use Rattle.std.proofs.Common.{◌≡◌, ◌+◌, ℕ, zero, suc, true, false, List, [], ◌∷◌, ◌++◌, map, length, Option, None, Some, refl, sym, ap}
+use Rattle.std.proofs.Common.{◌∙◌, subst}
 use Rattle.std.specs.Prelude.{slice_get}
 use Rattle.limbo_types.specs.Types.{FnTy}
 use Rattle.limbo_typed.specs.Typed.{Declared}

@@ -15,7 +15,7 @@ ghost use Rattle.limbo_includes.specs.declared.included.Included as code_include
 ghost use Rattle.limbo_includes.specs.View.{given};
 ghost use Rattle.limbo_declare.specs.Declares as scope;
 ghost use Rattle.source_names.specs.Included.{Flattens};
-ghost use Rattle.source_names.specs.Declares.{Declares, FailsBy, HasRow};
+ghost use Rattle.source_names.specs.Declares.{FailsBy, HasRow};
 ghost use Rattle.source_names.specs.View.{AreRead};
 
 use crate::refusal::{NamesFault, Refusal, refused};
@@ -85,6 +85,15 @@ fn of_names(fault: NameFault<'_>, first: &Text, name: &Name) -> NamesFault
     }
 }
 
+/// The name of the module that a source implements, the row of declarations to which it flattens with the texts that it includes, and what
+/// these declare.
+#[derive(Drop)]
+pub struct Named<'a> {
+    pub name: &'a Text,
+    pub row: Vec<Standing<'a>>,
+    pub declarations: Declarations<'a>,
+}
+
 /// What a source declares, with the texts that it includes; these are what was read for it (Limbo Language Reference, include,
 /// declarations, modules and scope).
 ///
@@ -96,10 +105,13 @@ pub fn names_of<'a>(
     path: &'a Text,
     source: &'a Source,
     texts: &'a [Included],
-) -> Result<Declarations<'a>, NamesFault>
-    ensures declares { IfOk result (λ d. (told : Told) → AreRead told path.now source.now texts.now
-        → Declares told path.now (view_source source.now) (entries_of d.table.entries.items) d.implemented) }
-    ensures values { IfOk result (λ d. AreValues (entries_of d.table.entries.items) d.implemented d.values.items) }
+) -> Result<Named<'a>, NamesFault>
+    ensures row { IfOk result (λ n. (told : Told) → AreRead told path.now source.now texts.now
+        → HasRow told path.now (view_source source.now) n.name.now (placed n.row.items)) }
+    ensures declares { IfOk result (λ n. scope.Declares n.name.now (placed n.row.items) (entries_of n.declarations.table.entries.items)
+        n.declarations.implemented) }
+    ensures values { IfOk result (λ n. AreValues (entries_of n.declarations.table.entries.items) n.declarations.implemented
+        n.declarations.values.items) }
     ensures fails { IfErr result (λ e. (told : Told) → AreRead told path.now source.now texts.now
         → FailsBy told path.now (view_source source.now) e) }
 {
@@ -108,7 +120,11 @@ pub fn names_of<'a>(
     };
     let row = find_row(alloc, path, source, texts)?;
     match declare(alloc, &name.text, &row) {
-        Ok(declarations) => Ok(declarations),
+        Ok(declarations) => Ok(Named {
+            name: &name.text,
+            row,
+            declarations,
+        }),
         Err(fault) => Err(of_names(fault, path, name)),
     }
 }

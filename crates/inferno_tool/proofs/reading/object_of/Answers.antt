@@ -1,18 +1,19 @@
-use Rattle.limbo_tree.specs.View.{view_source}
-use Rattle.limbo_small.specs.View.{view_module}
-use Rattle.limbo_check_stmt.proofs.Begins.{programs_begin}
-use Rattle.limbo_check_stmt.proofs.JudgedSource.{given}
-use Rattle.inferno_tool.proofs.Begins.{compiled}
+use Rattle.std.proofs.Common.{Err, ap, subst, sym, ◌∙◌}
+use Rattle.limbo_compiler.specs.declared.passes.CompileFault.{CompileFault}
+use Rattle.inferno_tool.specs.declared.reading.ReadFault.{ReadFault}
+use Rattle.inferno_tool.specs.Reading.{IsTreeReadFault}
+use Rattle.inferno_tool.proofs.Programs.{object_is, uncompiled_is}
 use Rattle.inferno_tool.proofs.reading.object_of.Goals as goal
 
 pub returns-in-Ok-compile-clause-found : goal.returns-in-Ok-compile-clause-found
-returns-in-Ok-compile-clause-found c =
-    let tree = view_source c.args.tree.now in
-    let m = view_module c.in-Ok.module in
-    let is = c.in-Ok.ensures.found in
-    let made = c.in-Ok-compile.ensures {u = tt} in (
-      m,
-      record { built = is.built; checked = is.checked; begins = is.begins; within = made.within },
-      compiled m c.in-Ok-compile.object is.proper made.within made.object made.spelled (programs_begin tree m (given tree m is.checked)
-          is.begins),
-    )
+returns-in-Ok-compile-clause-found c = λ told path tree gives.
+    let made = c.in-Ok-compile.ensures {u = tt} in
+    object_is told path tree c.args.checked gives c.in-Ok.module c.in-Ok.ensures.found c.in-Ok-compile.object c.in-Ok.ensures.proper
+    made.within made.object made.spelled
+
+pub returns-clause-refused : goal.returns-clause-refused
+returns-clause-refused c = λ told path tree gives.
+    subst (λ (f : ReadFault). IsTreeReadFault told path tree f) (sym c.uncompiled.ensures)
+    (uncompiled_is told path tree c.args.checked gives c.in-Ok.module c.in-Ok.ensures.found c.in-Err-compile.fault
+    (λ e. c.compile.ensures.frames (c.in-Err-compile.is ∙ ap (λ (f : CompileFault). Err f) e))
+    (λ e. c.compile.ensures.code (c.in-Err-compile.is ∙ ap (λ (f : CompileFault). Err f) e)))

@@ -2,6 +2,7 @@ use Rattle.inferno_tool.specs.Outcome.{Course, IsCause}
 use Rattle.inferno_tool.proofs.Dumped as dumping
 use Rattle.inferno_command.proofs.Words.{named_undumped}
 use Rattle.inferno_tool.proofs.Exact as exact
+use Rattle.inferno_tool.proofs.Trees.{laws}
 use Rattle.inferno_tool.proofs.Runs as runs
 use Rattle.inferno_tool.proofs.top.inferno.Goals as goal
 
@@ -62,7 +63,8 @@ returns-clause-ends g c program tells calm quiet silent =
     } in
     let is : IsCause course c.close-cause.result = exact.closed course c.decide-cause.result.0 c.close-cause.result
     (c.decide-cause.ensures.cause undumped) c.close-cause.ensures.cause in
-    exact.ends (record course { err_after = g.E.Sink.faults c.close-cause.new.err }) c.close-cause.result
+    exact.ends (laws c.one_checked.ensures c.fails_or_checked.ensures)
+    (record course { err_after = g.E.Sink.faults c.close-cause.new.err }) c.close-cause.result
     (exact.later_cause course (g.E.Sink.faults c.close-cause.new.err) c.close-cause.result c.close-cause.ensures.later is) program tells
     calm quiet silent
 
@@ -77,8 +79,10 @@ returns-clause-told g c program t calm =
     runs.told_ran c.args.words.now (g.H.HostTree.told c.args.files.now) left.journal left.objects.items (g.K.Sink.held c.args.out.now)
     (g.K.Sink.held c.decide-cause.new.out) (g.K.Sink.faults c.args.out.now) (g.K.Sink.faults c.decide-cause.new.out)
     (g.H.HostTree.faults c.args.files.now) (g.H.HostTree.faults c.decide-cause.new.files) c.close-cause.result program t ran
-    (exact.same_program c.args.words.now (g.H.HostTree.told c.args.files.now) program t)
-    (λ refusal. exact.unrefused c.args.words.now (g.H.HostTree.told c.args.files.now) (g.H.HostTree.faults c.args.files.now)
+    (exact.same_program (laws c.one_checked.ensures c.fails_or_checked.ensures) c.args.words.now
+    (g.H.HostTree.told c.args.files.now) program t)
+    (λ refusal. exact.unrefused (laws c.one_checked.ensures c.fails_or_checked.ensures) c.args.words.now
+    (g.H.HostTree.told c.args.files.now) (g.H.HostTree.faults c.args.files.now)
     (g.H.HostTree.faults c.decide-cause.new.files) c.close-cause.result program refusal t calm)
 
 pub returns-clause-started : goal.returns-clause-started
@@ -107,7 +111,7 @@ returns-clause-failed g c program tells calm rose =
     } in
     let is : IsCause course c.close-cause.result = exact.closed course c.decide-cause.result.0 c.close-cause.result
     (c.decide-cause.ensures.cause undumped) c.close-cause.ensures.cause in
-    exact.failed course c.close-cause.result is program tells calm rose
+    exact.failed (laws c.one_checked.ensures c.fails_or_checked.ensures) course c.close-cause.result is program tells calm rose
 
 pub returns-clause-usage : goal.returns-clause-usage
 returns-clause-usage g c undumped none =
@@ -177,3 +181,37 @@ returns-clause-quiet g c unrun =
     (g.K.Sink.held c.decide-cause.new.out) (g.K.Sink.faults c.args.out.now) (g.K.Sink.faults c.decide-cause.new.out)
     (g.H.HostTree.faults c.args.files.now) (g.H.HostTree.faults c.decide-cause.new.files) c.close-cause.result ran unrun)
     (λ file dumps. dumping.quiet _ _ _ _ _ _ _ _ (returns-clause-dumped g c file dumps) unrun)
+
+pub returns-clause-beginless : goal.returns-clause-beginless
+returns-clause-beginless g c x t calm =
+    let undumped = named_undumped c.args.words.now t.file t.named in
+    let course : Course = record {
+      words = c.args.words.now;
+      told = g.H.HostTree.told c.args.files.now;
+      files_before = g.H.HostTree.faults c.args.files.now;
+      files_after = g.H.HostTree.faults c.decide-cause.new.files;
+      out_before = g.K.Sink.faults c.args.out.now;
+      out_after = g.K.Sink.faults c.decide-cause.new.out;
+      err_before = g.E.Sink.faults c.args.err.now;
+      err_after = g.E.Sink.faults c.args.err.now;
+    } in
+    let is : IsCause course c.close-cause.result = exact.closed course c.decide-cause.result.0 c.close-cause.result
+    (c.decide-cause.ensures.cause undumped) c.close-cause.ensures.cause in
+    exact.beginless (laws c.one_checked.ensures c.fails_or_checked.ensures) course x t calm c.close-cause.result is
+
+pub returns-clause-outside : goal.returns-clause-outside
+returns-clause-outside g c x t none calm =
+    let undumped = named_undumped c.args.words.now t.file t.named in
+    let course : Course = record {
+      words = c.args.words.now;
+      told = g.H.HostTree.told c.args.files.now;
+      files_before = g.H.HostTree.faults c.args.files.now;
+      files_after = g.H.HostTree.faults c.decide-cause.new.files;
+      out_before = g.K.Sink.faults c.args.out.now;
+      out_after = g.K.Sink.faults c.decide-cause.new.out;
+      err_before = g.E.Sink.faults c.args.err.now;
+      err_after = g.E.Sink.faults c.args.err.now;
+    } in
+    let is : IsCause course c.close-cause.result = exact.closed course c.decide-cause.result.0 c.close-cause.result
+    (c.decide-cause.ensures.cause undumped) c.close-cause.ensures.cause in
+    exact.outside (laws c.one_checked.ensures c.fails_or_checked.ensures) course x t none calm c.close-cause.result is

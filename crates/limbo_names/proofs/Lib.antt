@@ -1,5 +1,0 @@
-pub mod Texts
-pub mod Blocks
-pub mod Steps
-pub mod Others
-pub mod Sets

@@ -1,6 +1,0 @@
-use Rattle.std.proofs.Common.{◌≡◌, map, take}
-use Rattle.limbo_types.specs.View.{view_ty}
-use Rattle.limbo_names.proofs.copies.+copies.Given as goal
-
-abbrev pub invariant-copy_tys-loop-t : goal.invariant-copy_tys-loop-t
-invariant-copy_tys-loop-t l = map view_ty l.copies.items ≡ map view_ty (take l.t-index l.ts)

@@ -1,6 +1,0 @@
-use Rattle.std.proofs.Common.{◌≡◌, ◌++◌, map, drop}
-use Rattle.limbo_tree.specs.View.{names_of}
-use Rattle.limbo_names.proofs.declaring.push_names.Given as goal
-
-abbrev pub invariant-loop-name : goal.invariant-loop-name
-invariant-loop-name l = names_of l.all.items ++ names_of (drop l.name-index l.more) ≡ names_of l.fn.all.items ++ names_of l.more

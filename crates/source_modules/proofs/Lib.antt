@@ -1,0 +1,4 @@
+pub mod Params
+pub mod Given
+pub mod Single
+pub mod Refused

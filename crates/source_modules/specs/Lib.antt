@@ -1,0 +1,4 @@
+pub mod Checked
+pub mod Failing
+pub mod Given
+pub mod Laws
