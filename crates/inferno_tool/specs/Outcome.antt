@@ -26,12 +26,12 @@ pub record Course : Type 0 where
   pub err_before : ℕ
   pub err_after : ℕ
 
--- the words name this file, whose source is a program of the built part, with this checked module
+-- the words name this file, whose source is a program of the part that runs, which is this module over int
 pub record IsAccepted (words : List (List ℕ)) (told : Told) (file : List ℕ) (m : Module) : Type 0 where
   pub named : named_file words ≡ Some file
   pub read : IsRead told file m
 
--- the words name a file whose source is some program of the built part
+-- the words name a file whose source is some program of the part that runs
 pub record HasProgram (words : List (List ℕ)) (told : Told) : Type 0 where
   pub file : List ℕ
   pub program : Module

@@ -25,7 +25,7 @@ use Rattle.inferno_tool.specs.declared.cause.SourceFault.TheVariants.{Lex, Parse
 use Rattle.inferno_tool.specs.declared.reading.ReadFault.{ReadFault}
 use Rattle.inferno_tool.specs.declared.reading.ReadFault.TheVariants as read
 
--- the file's bytes are a program of the built part, with this checked module
+-- the file's bytes are a program of the part that runs, which is this module over int
 pub record IsRead (told : Told) (path : List ℕ) (m : Module) : Type 0 where
   pub source : List ℕ
   pub stands : Has told path source

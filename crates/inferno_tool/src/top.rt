@@ -234,7 +234,7 @@ pub fn inferno<H: HostTree, K: Sink, E: Sink>(
         → (Rose (H.faults files.old) (H.faults files.new) → ⊥)
         → IsUnlessMemory result.cause (Cause.BadSource t.file SourceFault.Unbuilt) }
 
-    // A program of the built part is run until it ends by itself, unless a count rises; and it is that program which is run.
+    // A program of the part that runs is run until it ends by itself, unless a count rises; and it is that program which is run.
     ensures ends { (m : Module) → TellsProgram words.now (H.told files.old) m
         → (Rose (H.faults files.old) (H.faults files.new) → ⊥)
         → (Rose (K.faults out.old) (K.faults out.new) → ⊥)
