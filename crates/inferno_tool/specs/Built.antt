@@ -10,8 +10,7 @@ use Rattle.limbo_small.specs.Typed.{Module}
 use Rattle.limbo_typed.specs.Typed as typed
 use Rattle.limbo_part.specs.Part.{small_module}
 use Rattle.limbo_compiler.specs.Limits.{IsWithin}
-use Rattle.limbo_entries.specs.Entries.{Entry}
-use Rattle.source_modules.specs.Checked.{IsChecked, IsFirst}
+use Rattle.source_modules.specs.Checked.{IsFirst}
 
 -- the bytes spell a text, and these are its tokens
 pub record HasTokens (source : List ℕ) (tokens : List Kind) : Type 0 where
@@ -26,16 +25,9 @@ pub record HasTree (source : List ℕ) (tree : Source) : Type 0 where
   pub parsed : IsTree false tokens tree
   pub shallow : source_nesting tree ≤ 256
 
--- The bytes at this path are a checked source: they have tokens and a tree, and names and types hold of it and of the texts that it
--- includes, as the files tell them. It is this typed module. How large its frames and its code are isn't asked.
-pub record IsCheckedSource (told : Told) (path source : List ℕ) (checked : typed.Module) : Type 0 where
-  pub tree : Source
-  pub has : HasTree source tree
-  pub entries : List Entry
-  pub implemented : ℕ
-  pub is : IsChecked told path tree entries implemented checked
-
--- The same, and the module declares `init` as a first module has to.
+-- The bytes at this path are a checked source that can be a first module: they have tokens and a tree, names and types hold of it and of
+-- the texts that it includes, as the files tell them, and it declares `init` as a first module has to. It is this typed module. How large
+-- its frames and its code are isn't asked.
 pub record IsFirstSource (told : Told) (path source : List ℕ) (checked : typed.Module) : Type 0 where
   pub tree : Source
   pub has : HasTree source tree

@@ -437,6 +437,7 @@ fn refusals(rt: HostRuntime) -> Result<(), Fail> {
         ("f() { y = 1; }", "6:7: fault 42"),
         ("f() { return 1; }", "6:14: fault 50"),
         ("f() { 1 = 2; }", "6:7: fault 51"),
+        ("f() { f = 1; }", "6:7: fault 51"),
         ("f() { sys->print(\"%d\"); }", "6:7: fault 54"),
         ("f(n: int): int { if (n) return 1; }", "6:1: fault 63"),
         ("f() { case 3 { 1 to 4 => ; 2 => ; } }", "6:7: fault 60"),

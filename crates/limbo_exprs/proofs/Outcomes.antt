@@ -46,12 +46,14 @@ use Rattle.limbo_things.specs.Things.{Thing, AValue, AType, APrint, NameIs, Memb
 use Rattle.limbo_things.specs.ThingView.{view_thing}
 use Rattle.limbo_applying.specs.Applying.{Applies}
 use Rattle.limbo_applying.specs.Refusing.{RefusesApply}
+use Rattle.limbo_permits.specs.Permits.{IsPermitted}
 use Rattle.limbo_written.specs.Written.{MeansPermitted}
 use Rattle.limbo_value_forms.specs.Forms.{one, two, three, values_in, copied, Forms, RefusesForm}
 use Rattle.limbo_typing.specs.Typing as typing
 use Rattle.limbo_typing.specs.Typing.{is_path, is_pattern, literal_first, behind_file, format_in, OutputIs}
 use Rattle.limbo_typing.specs.Typing.{Denotes, HasValue, Types, Has, HaveValues, MayHave, Fill, IsPattern, ArePatterns}
 use Rattle.limbo_typing.specs.Failing as failing
+use Rattle.limbo_typing.specs.Failing.{is_enclosed, FailsPlace}
 use Rattle.limbo_typing.specs.Failing.{IsNoPrint, FailsValue, FailsPart, FailsFill, FailsForm, FailsSome, FailsPattern, FailsPatterns}
 use Rattle.limbo_exprs.specs.declared.calling.Callee as code_callee
 use Rattle.limbo_exprs.specs.declared.calling.Callee.TheVariants as make_callee
@@ -62,6 +64,7 @@ use Rattle.limbo_exprs.specs.Calling as calling
 use Rattle.limbo_exprs.proofs.Loops.{Trees}
 use Rattle.limbo_exprs.proofs.Steps.{Made, Parted, placed_fails, placed_typed, by_typing, by_finding}
 use Rattle.limbo_exprs.proofs.Tested.{typed_as}
+use Rattle.limbo_exprs.proofs.Rules.{enclosed_value, enclosed_place_fails}
 use Rattle.limbo_exprs.proofs.Rules.{path_value, values_two, part_value_fails, values_fail, define_fails, refused_fails, slice_fails}
 use Rattle.limbo_exprs.proofs.Rules.{no_length_fails, array_fails, load_fails, assign_fails}
 
@@ -79,6 +82,27 @@ pub one_in_row : (es : Trees) (e : code_expr.Expr) → 1 ≤ length es → lengt
 one_in_row [] e a l is = absurd (omega arith)
 one_in_row (x ∷ []) e a l is = ap (λ z. one (source.view_expr z)) (sym is)
 one_in_row (x ∷ y ∷ es) e a l is = absurd (omega arith)
+
+pub only_in : (es fs : Trees) (e : code_expr.Expr) → fs ≡ es → 1 ≤ length fs → length fs < 2 → e ≡ get_or fs 0 e
+    → row es ≡ one (source.view_expr e)
+only_in es fs e same a l is =
+    one_in_row es e (subst (λ (gs : Trees). 1 ≤ length gs) same a) (subst (λ (gs : Trees). length gs < 2) same l)
+    (subst (λ (gs : Trees). e ≡ get_or gs 0 e) same is)
+
+none_only : (es : Trees) → length es < 1 → is_enclosed (tree.Group (row es)) ≡ false
+none_only [] h = refl
+none_only (e ∷ es) h = absurd (omega arith)
+
+pub no_only : (es fs : Trees) → fs ≡ es → length fs < 1 → is_enclosed (tree.Group (row es)) ≡ false
+no_only es fs same h = none_only es (subst (λ (gs : Trees). length gs < 1) same h)
+
+several_only : (es : Trees) → 2 ≤ length es → is_enclosed (tree.Group (row es)) ≡ false
+several_only [] a = absurd (omega arith)
+several_only (x ∷ []) a = absurd (omega arith)
+several_only (x ∷ y ∷ es) a = refl
+
+pub not_only : (es fs : Trees) → fs ≡ es → 2 ≤ length fs → is_enclosed (tree.Group (row es)) ≡ false
+not_only es fs same h = several_only es (subst (λ (gs : Trees). 2 ≤ length gs) same h)
 
 pub more_in_row : (es : Trees) → 2 ≤ length es
     → (e : tree.Expr) × (f : tree.Expr) × (fs : tree.Exprs) × (row es ≡ tree.MoreExprs e (tree.MoreExprs f fs))
@@ -368,7 +392,7 @@ tuple_typed c b b' es xs z a h t = typing.of_values b b' (tree.Group (row es)) (
 
 pub tuple_fails : (c : Context) (b : Body) (es : Trees) (f : code.Cause) → 2 ≤ length es → FailsBy f (FailsSome c b (row es))
     → FailsBy f (FailsForm c b (tree.Group (row es)))
-tuple_fails c b es f a h = values_fail c b f (tree.Group (row es)) (row es) (tupled_are es a) h
+tuple_fails c b es f a h = values_fail c b f (tree.Group (row es)) (row es) (tupled_are es a) refl h
 
 pub one_typed : (res : Made) (c : Context) (b b' : Body) (es : tree.Exprs) (e : tree.Expr) → es ≡ one e
     → IfOk res (λ z. Types c b e (view_expr z.value) b') → IfOk res (λ z. Has c b (tree.Group es) (view_expr z.value) b')
@@ -462,3 +486,24 @@ fails_from_none c b f is h = subst (λ (o : Optional). FailsBy f (FailsFill c b 
 pub fills_from_none : (c : Context) (b : Body) (is : tree.Inits) (js : Items) (last : Optional) (b' : Body)
     → Fill c b (pos 0) (view_optional None) is js last b' → Fill c b (pos 0) Absent is js last b'
 fills_from_none c b is js last b' h = subst (λ (o : Optional). Fill c b (pos 0) o is js last b') view_optional-None h
+
+-- ---- what stands where a place is asked for
+
+-- a typed tree that may stand anywhere
+pub stands_typed : (c : Context) (b d : Body) (e : tree.Expr) (x y : Box code_typed.TExpr Global) → y ≡ x
+    → IsPermitted c (view_expr x.value) → Has c b e (view_expr x.value) d → Types c b e (view_expr y.value) d
+stands_typed c b d e x y same p h =
+    subst (λ (z : Box code_typed.TExpr Global). Types c b e (view_expr z.value) d) (sym same)
+    (typing.permitted b d e (view_expr x.value) h p)
+
+pub enclosed_target : (res : Made) (c : Context) (b d : Body) (e i : tree.Expr) → e ≡ tree.Group (one i)
+    → IfOk res (λ z. HasValue c b i (view_expr z.value) d) → IfOk res (λ z. HasValue c b e (view_expr z.value) d)
+enclosed_target res c b d e i is h =
+    by_typing res (λ z. HasValue c b i z d) (λ z. HasValue c b e z d)
+    (λ z v. subst (λ (f : tree.Expr). HasValue c b f z d) (sym is) (enclosed_value c b d i z v)) h
+
+pub enclosed_target_fails : {T : Type 0} (res : Result T TypingFault) (c : Context) (b : Body) (e i : tree.Expr) → e ≡ tree.Group (one i)
+    → IfErr res (λ f. FailsBy f.cause (FailsPlace c b i)) → IfErr res (λ f. FailsBy f.cause (FailsPlace c b e))
+enclosed_target_fails res c b e i is h =
+    IfErr-weaker res _ _
+    (λ f x. subst (λ (g : tree.Expr). FailsBy f.cause (FailsPlace c b g)) (sym is) (enclosed_place_fails c b f.cause i x)) h

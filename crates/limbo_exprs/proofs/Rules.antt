@@ -42,12 +42,12 @@ use Rattle.limbo_typing.specs.Typing.{is_path, is_pattern, Denotes, HasValue, Ty
 use Rattle.limbo_typing.specs.Typing as typing
 use Rattle.limbo_typing.specs.Failing.{unfit, IsNoPrint, FailsName, FailsModule, FailsThing, FailsValue, Fails, FailsForm, FailsSome}
 use Rattle.limbo_typing.specs.Failing.{FailsPart}
-use Rattle.limbo_typing.specs.Failing.{FailsFill, FailsPattern, FailsPatterns}
+use Rattle.limbo_typing.specs.Failing.{FailsFill, FailsPlace, FailsPattern, FailsPatterns, changed_in, is_enclosed}
 use Rattle.limbo_typing.specs.Failing as failing
 use Rattle.limbo_exprs.specs.declared.shapes.OfOne.{OfOne}
 use Rattle.limbo_exprs.specs.declared.shapes.OfOne.TheVariants as of_one
 use Rattle.limbo_exprs.specs.declared.shapes.OfTwo.{OfTwo}
-use Rattle.limbo_exprs.specs.Parts.{with_one, with_two}
+use Rattle.limbo_exprs.specs.Parts.{with_one, with_two, if_changed, FailsAs}
 use Rattle.limbo_exprs.specs.Calling.{FailsApplied, FailsPrinted}
 use Rattle.limbo_exprs.specs.Calling as calling
 
@@ -161,8 +161,23 @@ module _ (c : Context) (b : Body) (f : code.Cause) where
 
   -- ---- forms of values
 
-  pub values_fail : (e : tree.Expr) (es : tree.Exprs) → values_in e ≡ Some es → FailsBy f (FailsSome c b es) → FailsBy f (FailsForm c b e)
-  values_fail e es v h = fails_weaker f _ _ (λ k x. failing.a_value b e es k v x) h
+  pub values_fail : (e : tree.Expr) (es : tree.Exprs) → values_in e ≡ Some es → changed_in e ≡ None → FailsBy f (FailsSome c b es)
+      → FailsBy f (FailsForm c b e)
+  values_fail e es v n h = fails_weaker f _ _ (λ k x. failing.a_value b e es k v n x) h
+
+  -- the first part, which its form changes or takes as it is, and those behind it
+  pub first_part_fails : (e l : tree.Expr) (es : tree.Exprs) (changes : Bool) → values_in e ≡ Some (tree.MoreExprs l es)
+      → changed_in e ≡ if_changed changes l → FailsBy f (FailsAs changes c b l) → FailsBy f (FailsForm c b e)
+  first_part_fails e l es true v n h = fails_weaker f _ _ (λ k x. failing.what_changes b e l k n x) h
+  first_part_fails e l es false v n h =
+      fails_weaker f _ _ (λ k x. failing.a_value b e (tree.MoreExprs l es) k v n (failing.here b l es k x)) h
+
+  pub later_part_fails : (e l : tree.Expr) (es : tree.Exprs) (changes : Bool) (x : Expr) (b' : Body)
+      → values_in e ≡ Some (tree.MoreExprs l es) → changed_in e ≡ if_changed changes l → HasValue c b l x b'
+      → FailsBy f (FailsSome c b' es) → FailsBy f (FailsForm c b e)
+  later_part_fails e l es true x b' v n m h = fails_weaker f _ _ (λ k y. failing.changed_by b b' e l es x k n v m y) h
+  later_part_fails e l es false x b' v n m h =
+      fails_weaker f _ _ (λ k y. failing.a_value b e (tree.MoreExprs l es) k v n (failing.later b b' l es x k m y)) h
 
   pub first_fails : (e : tree.Expr) (es : tree.Exprs) → FailsBy f (FailsValue c b e) → FailsBy f (FailsSome c b (tree.MoreExprs e es))
   first_fails e es h = fails_weaker f _ _ (λ k x. failing.here b e es k x) h
@@ -314,12 +329,34 @@ module _ (c : Context) (b : Body) (f : code.Cause) where
       → FailsBy f (FailsForm c b (tree.Assign assign.Define l r))
   define_fails l r y b1 v h = fails_weaker f _ _ (λ k x. failing.not_defined b b1 l r y k v x) h
 
+  -- ---- what stands where a place is asked for
+
+  pub enclosed_place_fails : (e : tree.Expr) → FailsBy f (FailsPlace c b e) → FailsBy f (FailsPlace c b (tree.Group (one e)))
+  enclosed_place_fails e h = fails_weaker f _ _ (λ k x. failing.enclosed b e k x) h
+
+  pub unnamed_place_fails : (e : tree.Expr) → is_path e ≡ false → is_enclosed e ≡ false → FailsBy f (FailsValue c b e)
+      → FailsBy f (FailsPlace c b e)
+  unnamed_place_fails e p q h = fails_weaker f _ _ (λ k x. failing.unnamed b e k p q x) h
+
+  pub named_place_fails : (e : tree.Expr) → is_path e ≡ true → FailsBy f (FailsThing c b e) → FailsBy f (FailsPlace c b e)
+  named_place_fails e p h = fails_weaker f _ _ (λ k x. failing.names_nothing b e k p x) h
+
+  pub no_named_place : (e : tree.Expr) (t : Thing) (b' : Body) → is_path e ≡ true → Denotes c b e t b'
+      → FailsBy f (λ k. (k ≡ Refused refusals.NotPlace) × NoneIs (λ x. t ≡ AValue x)) → FailsBy f (FailsPlace c b e)
+  no_named_place e t b' p d h =
+      fails_weaker f _ _ (λ k y. subst (FailsPlace c b e) (sym y.0) (failing.names_none b b' e t p d y.1)) h
+
+  pub named_value_fails : (e : tree.Expr) (t : Thing) (x : Expr) (b' : Body) → is_path e ≡ true → Denotes c b e t b' → t ≡ AValue x
+      → FailsBy f (FailsValue c b e) → FailsBy f (FailsPlace c b e)
+  named_value_fails e t x b' p d is h =
+      fails_weaker f _ _ (λ k y. failing.named_value b b' e x k p (subst (λ (s : Thing). Denotes c b e s b') is d) y) h
+
   -- ---- patterns
 
   pub in_one_fails : (e : tree.Expr) → FailsBy f (FailsPattern c b e) → FailsBy f (FailsPattern c b (tree.Group (one e)))
   in_one_fails e h = fails_weaker f _ _ (λ k x. failing.in_it b e k x) h
 
-  pub no_left_fails : (e : tree.Expr) → is_pattern e ≡ false → FailsBy f (FailsValue c b e) → FailsBy f (FailsPattern c b e)
+  pub no_left_fails : (e : tree.Expr) → is_pattern e ≡ false → FailsBy f (FailsPlace c b e) → FailsBy f (FailsPattern c b e)
   no_left_fails e n h = fails_weaker f _ _ (λ k x. failing.no_left b e k n x) h
 
   pub no_place_fails : (e : tree.Expr) (x : Expr) (b1 : Body) → is_pattern e ≡ false → HasValue c b e x b1
@@ -336,6 +373,14 @@ module _ (c : Context) where
   pub values_two : (b b' b'' : Body) (l r : tree.Expr) (x y : Expr) → HasValue c b l x b' → HasValue c b' r y b''
       → HaveValues c b (two l r) (operands.two x y) b''
   values_two b b' b'' l r x y v w = typing.values b b' b'' l (one r) x (operands.one y) v (values_one b' b'' r y w)
+
+  -- one in parentheses is what it is
+  enclosed_typed : (b b' : Body) (e : tree.Expr) (x : Expr) → Types c b e x b' → Types c b (tree.Group (one e)) x b'
+  enclosed_typed _ _ _ _ (typing.permitted b b' e x h p) =
+      typing.permitted b b' (tree.Group (one e)) x (typing.in_parentheses b b' e x (typing.permitted b b' e x h p)) p
+
+  pub enclosed_value : (b b' : Body) (e : tree.Expr) (x : Expr) → HasValue c b e x b' → HasValue c b (tree.Group (one e)) x b'
+  enclosed_value _ _ _ _ (typing.has_value b b' e x t n) = typing.has_value b b' (tree.Group (one e)) x (enclosed_typed b b' e x t) n
 
   pub path_value : (b b' : Body) (e : tree.Expr) (t : Thing) (x : Expr) → is_path e ≡ true → Denotes c b e t b' → t ≡ AValue x
       → Has c b e x b'

@@ -14,6 +14,8 @@ use Rattle.limbo_tree.specs.declared.expr.Init as code_init
 use Rattle.limbo_tree.specs.declared.name.Name as code_name
 use Rattle.limbo_tree.specs.declared.operators.AssignOp.{AssignOp}
 use Rattle.limbo_tree.specs.declared.operators.AssignOp.TheVariants as assign
+use Rattle.limbo_tree.specs.declared.operators.UnaryOp.{UnaryOp}
+use Rattle.limbo_tree.specs.declared.operators.UnaryOp.TheVariants as before
 use Rattle.limbo_tree.specs.Exprs as tree
 use Rattle.limbo_tree.specs.View as source
 use Rattle.limbo_tree.specs.View.{expr_step, init_step}
@@ -42,6 +44,7 @@ use Rattle.limbo_forms.specs.Forms.{is_int}
 use Rattle.limbo_value_forms.specs.Forms.{two, given_by, copied}
 use Rattle.limbo_things.specs.Things.{Thing, AType}
 use Rattle.limbo_typing.specs.Typing.{is_path, is_pattern}
+use Rattle.limbo_typing.specs.Failing.{changed_in, is_enclosed}
 use Rattle.limbo_exprs.specs.Parts.{module_in, module_named_by, FailsIndex, no_int}
 use Rattle.limbo_types.specs.declared.ty.Ty.TheVariants as make
 use Rattle.limbo_types.specs.View.{view_ty}
@@ -116,6 +119,16 @@ no_path e no_dot no_arrow no_name = go (out-Expr e) (sym (roll-out-Expr e))
     go (Expr-F.Name t s) at = absurd (no_name t s (at ∙ make_expr.rolls-Name t s))
     go y at = ap (λ x. is_path (source.view_expr x)) at ∙ ap is_path (fold-roll-Expr tree.Expr tree.Init expr_step init_step y)
 
+-- not in parentheses
+pub not_enclosed : (e : code_expr.Expr) → ((es : Vec code_expr.Expr Global) (s : Span) → e ≡ make_expr.Group es s → ⊥)
+    → is_enclosed (source.view_expr e) ≡ false
+unfolding source.view_expr source.view_init
+not_enclosed e no_group = go (out-Expr e) (sym (roll-out-Expr e))
+  where
+    go : (y : Expr-F code_expr.Expr code_init.Init) → e ≡ roll-Expr y → is_enclosed (source.view_expr e) ≡ false
+    go (Expr-F.Group es s) at = absurd (no_group es s (at ∙ make_expr.rolls-Group es s))
+    go y at = ap (λ x. is_enclosed (source.view_expr x)) at ∙ ap is_enclosed (fold-roll-Expr tree.Expr tree.Init expr_step init_step y)
+
 -- a pattern that stores somewhere
 abbrev is_nothing : typed.Pattern → Bool
 is_nothing typed.ToNothing = true
@@ -183,6 +196,21 @@ put_behind xs ys zs j k v p q r t =
     ap (map view_item) (p ∙ ap (λ (us : List code_item.Item). us ++ j ∷ []) q) ∙ map-append view_item xs (j ∷ [])
     ∙ ap (λ i. map view_item xs ++ i ∷ [])
     (view_item-out j ∙ ap (λ n. item_of n j.value) r ∙ ap (λ (w : code_typed.TExpr). item_of k w) t)
+
+-- ---- what operators change
+
+pub changes_before : (o : UnaryOp) → (o ≡ before.Increment → ⊥) → (o ≡ before.Decrement → ⊥) → (e : tree.Expr)
+    → changed_in (tree.Unary o e) ≡ None
+changes_before before.Increment p q e = absurd (p refl)
+changes_before before.Decrement p q e = absurd (q refl)
+changes_before _ p q e = refl
+
+pub changes_left : (o : AssignOp) → (o ≡ assign.Assign → ⊥) → (o ≡ assign.Define → ⊥) → (o ≡ assign.Send → ⊥) → (l r : tree.Expr)
+    → changed_in (tree.Assign o l r) ≡ Some l
+changes_left assign.Assign p q s l r = absurd (p refl)
+changes_left assign.Define p q s l r = absurd (q refl)
+changes_left assign.Send p q s l r = absurd (s refl)
+changes_left _ p q s l r = refl
 
 -- ---- others
 

@@ -1,5 +1,5 @@
 -- Forms of one and of two values, and items of arrays, as the code hands them on.
-use Rattle.std.specs.Prelude.{◌≡◌, ◌≢◌, ℕ, ℤ, Bool, Option, None, if◌then◌else◌, List, ◌++◌, Some, map}
+use Rattle.std.specs.Prelude.{◌≡◌, ◌≢◌, ℕ, ℤ, Bool, true, false, Option, None, if◌then◌else◌, List, ◌++◌, Some, map}
 use Rattle.limbo_types.specs.Types.{Ty, Int, Big, Module}
 use Rattle.limbo_tree.specs.Exprs as tree
 use Rattle.limbo_typed.specs.declared.stmt.Constant.TheVariants as constant
@@ -12,7 +12,7 @@ use Rattle.limbo_context.specs.Context.{Context, Body}
 use Rattle.limbo_folding.specs.Folding.{value_of}
 use Rattle.limbo_things.specs.Things.{Thing, AType}
 use Rattle.limbo_typing.specs.Typing.{HasValue, Fill}
-use Rattle.limbo_typing.specs.Failing.{FailsValue, FailsFill}
+use Rattle.limbo_typing.specs.Failing.{FailsValue, FailsFill, FailsPlace}
 use Rattle.limbo_exprs.specs.declared.shapes.OfOne.{OfOne}
 use Rattle.limbo_exprs.specs.declared.shapes.OfOne.TheVariants as of_one
 use Rattle.limbo_exprs.specs.declared.shapes.OfTwo.{OfTwo}
@@ -28,6 +28,15 @@ abbrev pub with_two : OfTwo → tree.Expr → tree.Expr → tree.Expr
 with_two (of_two.Between o) l r = tree.Binary o l r
 with_two of_two.Index l r = tree.Index l r
 with_two (of_two.Give o) l r = tree.Assign o l r
+
+-- the part, if it is changed
+abbrev pub if_changed : (changes : Bool) → tree.Expr → Option tree.Expr
+if_changed changes e = if changes then Some e else None
+
+-- A part that its form changes, or takes as it is, has no value.
+abbrev pub FailsAs : (changes : Bool) → Context → Body → tree.Expr → Cause → Type 0
+FailsAs true c b e k = FailsPlace c b e k
+FailsAs false c b e k = FailsValue c b e k
 
 -- the value of a number: a big where it is wide
 abbrev pub number_value : ℤ → Bool → Expr

@@ -22,6 +22,7 @@ ghost use Rattle.limbo_typing.specs.Failing.{FailsForm, FailsPattern, FailsPatte
 use crate::endings::{placed, settled};
 use crate::forms::made_of_two;
 use crate::shapes::OfTwo;
+use crate::targets::target;
 use crate::valuing::value;
 use inf_text::Span;
 use limbo_assigning::{assign, copy_into};
@@ -68,7 +69,7 @@ pub fn pattern(
     match e {
         Expr::Nil { .. } => Ok(Box::new(alloc, Pattern::Nothing)?),
         Expr::Group { items, span } => grouped_pattern(alloc, context, body, items, *span),
-        _ => match value(alloc, context, body, e) {
+        _ => match target(alloc, context, body, e) {
             Ok(x) => place_pattern(alloc, x, span_of(e)),
             Err(fault) => Err(fault),
         },

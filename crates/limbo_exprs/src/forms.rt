@@ -22,7 +22,8 @@ use crate::assigning::assigned;
 use crate::calling::{called, loaded};
 use crate::endings::{placed, value_of};
 use crate::naming::{member_of, named, part_of};
-use crate::shapes::{OfOne, OfTwo, of_one, of_two};
+use crate::shapes::{OfOne, OfTwo, changes_first, changes_one, of_one, of_two};
+use crate::targets::part;
 use crate::valuing::{check, maybe, value, values};
 use inf_text::{Span, Text};
 use limbo_causes::TypingFault;
@@ -87,7 +88,7 @@ fn made_of_one(
     ensures refused { IfErr result (λ f. FailsBy f.cause
         (FailsForm (view_context context.now) (view_body body.old) (with_one form (source.view_expr e.now)))) }
 {
-    match value(alloc, context, body, e) {
+    match part(alloc, context, body, e, changes_one(form)) {
         Ok(x) => placed(of_one(alloc, context, form, x), at),
         Err(fault) => Err(fault),
     }
@@ -110,7 +111,7 @@ pub(crate) fn made_of_two(
     ensures refused { IfErr result (λ f. FailsBy f.cause (FailsForm (view_context context.now) (view_body body.old)
         (with_two form (source.view_expr left.now) (source.view_expr right.now)))) }
 {
-    match value(alloc, context, body, left) {
+    match part(alloc, context, body, left, changes_first(form)) {
         Err(fault) => Err(fault),
         Ok(x) => match value(alloc, context, body, right) {
             Ok(y) => placed(of_two(alloc, context, form, x, y), at),

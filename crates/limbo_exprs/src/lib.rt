@@ -4,7 +4,7 @@
 //! `limbo_typing` says by rules which tree that is, and why there is none. The parts of an expression are typed from the left to the
 //! right, `:=` declares as it goes, and the crates below put the typed parts together. The checker of statements stands on it.
 //!
-//! Read `shapes`, `endings`, `naming`, `valuing`, `forms`, `arrays`, `calling`, `assigning`.
+//! Read `shapes`, `endings`, `naming`, `valuing`, `forms`, `arrays`, `calling`, `targets`, `assigning`.
 #![tactic(auto)]
 
 mod arrays;
@@ -14,6 +14,7 @@ mod endings;
 mod forms;
 mod naming;
 mod shapes;
+mod targets;
 mod valuing;
 
 pub use assigning::pattern;

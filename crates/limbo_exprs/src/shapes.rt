@@ -8,7 +8,8 @@ ghost use Rattle.limbo_context.specs.View.{view_context};
 ghost use Rattle.limbo_operands.specs.Operands.{one, two};
 ghost use Rattle.limbo_value_forms.specs.Forms.{Forms, RefusesForm, values_in};
 ghost use Rattle.limbo_value_forms.specs.Forms as value_forms;
-ghost use Rattle.limbo_exprs.specs.Parts.{with_one, with_two};
+ghost use Rattle.limbo_typing.specs.Failing.{changed_in};
+ghost use Rattle.limbo_exprs.specs.Parts.{with_one, with_two, if_changed};
 
 use limbo_combining::{combine, text_bytes};
 use limbo_context::Context;
@@ -39,6 +40,43 @@ pub(crate) enum OfTwo {
     Index,
     /// The second goes to the first: it is sent, or assigned with an operator.
     Give(AssignOp),
+}
+
+/// Whether the operators that stand before an operand change it.
+#[tactic(auto, using(crate::proofs::Tested::changes_before))]
+fn changes_before(op: UnaryOp) -> bool
+    ensures { (e : tree.Expr) → changed_in (tree.Unary op e) ≡ if_changed result e }
+{
+    matches!(op, UnaryOp::Increment | UnaryOp::Decrement)
+}
+
+/// Whether what is made of a value changes it.
+pub(crate) fn changes_one(form: OfOne) -> bool
+    ensures { (e : tree.Expr) → changed_in (with_one form e) ≡ if_changed result e }
+{
+    match form {
+        OfOne::Before(op) => changes_before(op),
+        OfOne::Behind(_) => true,
+        OfOne::Bytes => false,
+    }
+}
+
+/// Whether an assignment changes its left side by what it holds.
+#[tactic(auto, using(crate::proofs::Tested::changes_left))]
+fn changes_left(op: AssignOp) -> bool
+    ensures { (l r : tree.Expr) → changed_in (tree.Assign op l r) ≡ if_changed result l }
+{
+    !matches!(op, AssignOp::Assign | AssignOp::Define | AssignOp::Send)
+}
+
+/// Whether what is made of two values changes the first.
+pub(crate) fn changes_first(form: OfTwo) -> bool
+    ensures { (l r : tree.Expr) → changed_in (with_two form l r) ≡ if_changed result l }
+{
+    match form {
+        OfTwo::Give(op) => changes_left(op),
+        _ => false,
+    }
 }
 
 /// What one typed value is made.

@@ -21,13 +21,14 @@ use Rattle.limbo_causes.specs.Causes.{Cause}
 use Rattle.limbo_permits.specs.Permits.{Forbids}
 use Rattle.limbo_permits.proofs.Standing.{expression_forbidden}
 use Rattle.limbo_written.proofs.Once.{one_written, fails_or_written}
-use Rattle.limbo_value_forms.specs.Forms.{Forms}
+use Rattle.limbo_value_forms.specs.Forms.{one, Forms}
 use Rattle.limbo_defining.specs.Defining.{Defines}
 use Rattle.limbo_defining.proofs.Unique.{never_both}
 use Rattle.limbo_typing.specs.Typing.{OutputIs, Denotes, HasValue, Types, Has, HaveValues, MayHave, Fill, IsPattern, ArePatterns}
+use Rattle.limbo_typing.specs.Typing as typing
 use Rattle.limbo_typing.specs.Failing as fails
 use Rattle.limbo_typing.specs.Failing.{FailsName, FailsModule, FailsThing, FailsValue, Fails, FailsForm, FailsSome, FailsPart, FailsFill}
-use Rattle.limbo_typing.specs.Failing.{FailsPattern, FailsPatterns}
+use Rattle.limbo_typing.specs.Failing.{FailsPlace, FailsPattern, FailsPatterns}
 use Rattle.limbo_typing.proofs.Lower.{OneBelow, one_name}
 use Rattle.limbo_typing.proofs.Forms as form
 use Rattle.limbo_typing.proofs.Called.{called_thing, call_with, print_with}
@@ -120,7 +121,17 @@ module _ (below : OneBelow) (c : Context) where
         expression_forbidden c x r (subst (λ (z : Expr). Forbids c z r) p.0 f) (form.is_permitted c b d e x h)
 
     pub not_had : (b : Body) (e : tree.Expr) (k : Cause) → FailsForm c b e k → (d : Body) (z : Expr) → Has c b e z d → ⊥
-    not_had _ _ _ (fails.a_value b e es k q f) d z h = let g = form.values_of c b d e es z q h in not_row b es k f d g.0 g.1
+    not_had _ _ _ (fails.a_value b e es k q n f) d z h = let g = form.values_of c b d e es z q h in not_row b es k f d g.0 g.1
+    not_had _ _ _ (fails.what_changes b e l k q f) d z h =
+        let v = form.changed_values e l q in
+        let g = form.values_of c b d e (tree.MoreExprs l v.0) z v.1 h in
+        let w = form.more_values c b d l v.0 g.0 g.1 in
+        not_place b l k f w.0 w.1 w.4
+    not_had _ _ _ (fails.changed_by b b' e l es x k n q m f) d z h =
+        let g = form.values_of c b d e (tree.MoreExprs l es) z q h in
+        let w = form.more_values c b d l es g.0 g.1 in
+        let p = one_value below c b b' l x m w.0 w.1 w.4 in
+        not_row b' es k f d w.2 (row_at c b' w.0 d es w.2 p.1 w.5)
     not_had _ _ _ (fails.refused_form b b' e es xs r q m f none) d z h =
         let g = form.values_of c b d e es z q h in
         let p = one_row below c b b' es xs m d g.0 g.1 in
@@ -278,13 +289,26 @@ module _ (below : OneBelow) (c : Context) where
         let p = one_value below c b b' e x m g.0 g.1 g.3 in
         not_filled b' n (Present x) is k f d js last (behind_at c is js last d b' g.0 n x g.1 p.1 p.0 g.4)
 
+    pub not_place : (b : Body) (e : tree.Expr) (k : Cause) → FailsPlace c b e k → (d : Body) (x : Expr) → HasValue c b e x d → ⊥
+    not_place _ _ _ (fails.enclosed b e k f) d x h =
+        let whole = form.has_form c b d (tree.Group (one e)) x (form.typed_value c b d (tree.Group (one e)) x h) in
+        let t = form.parenthesised c b d e x whole in
+        not_place b e k f d x (typing.has_value b d e x t (form.answers c b d (tree.Group (one e)) x h))
+    not_place _ _ _ (fails.names_none b b' e t q m none) d x h =
+        let a = form.path_of c b d e x q (form.has_form c b d e x (form.typed_value c b d e x h)) in
+        none x (one_thing below c b b' e t m d (AValue x) a).0
+    not_place _ _ _ (fails.names_nothing b e k q f) d x h =
+        not_thing b e k f d (AValue x) (form.path_of c b d e x q (form.has_form c b d e x (form.typed_value c b d e x h)))
+    not_place _ _ _ (fails.named_value b b' e y k q m f) d x h = not_value b e k f d x h
+    not_place _ _ _ (fails.unnamed b e k q n f) d x h = not_value b e k f d x h
+
     pub not_pattern : (b : Body) (e : tree.Expr) (k : Cause) → FailsPattern c b e k → (d : Body) (p : Pattern) → IsPattern c b e p d → ⊥
     not_pattern _ _ _ (fails.in_it b e k f) d p h = not_pattern b e k f d p (form.pattern_in c b d e p h)
     not_pattern _ _ _ (fails.a_pattern b e i es k f) d p h =
         let g = form.patterns_in c b d e i es p h in
         not_patterns b (tree.MoreExprs e (tree.MoreExprs i es)) k f d g.0 g.2
     not_pattern _ _ _ (fails.no_left b e k q f) d p h =
-        let g = form.place_in c b d e p q h in not_value b e k f d (Of g.0 (Read g.1)) g.3
+        let g = form.place_in c b d e p q h in not_place b e k f d (Of g.0 (Read g.1)) g.3
     not_pattern _ _ _ (fails.no_place b b' e x q m never) d p h =
         let g = form.place_in c b d e p q h in
         let o = one_value below c b b' e x m d (Of g.0 (Read g.1)) g.3 in

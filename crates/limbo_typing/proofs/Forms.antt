@@ -1,10 +1,12 @@
 -- What the parts of an expression are, by its form.
-use Rattle.std.proofs.Common.{◌≡◌, refl, sym, ◌∙◌, subst, ℕ, ℤ, ◌+ℤ◌, pos, Bool, true, false, List, None, Some}
+use Rattle.std.proofs.Common.{◌≡◌, refl, sym, ◌∙◌, subst, ℕ, ℤ, ◌+ℤ◌, pos, Bool, true, false, List, None, Some, ap}
 use Rattle.std.specs.Prelude.{◌≢◌}
 use Rattle.std.proofs.lemmas.Bool.{false≢true}
 use Rattle.std.proofs.lemmas.Option.{none-some, same_Some}
 use Rattle.limbo_types.specs.Types.{Ty, Int, Nothing, Module}
+use Rattle.limbo_tree.specs.declared.operators.AssignOp.{AssignOp}
 use Rattle.limbo_tree.specs.declared.operators.AssignOp.TheVariants as assign
+use Rattle.limbo_tree.specs.declared.operators.UnaryOp.TheVariants as before
 use Rattle.limbo_tree.specs.Exprs as tree
 use Rattle.limbo_tree.specs.Types as written
 use Rattle.limbo_typed.specs.declared.stmt.Constant.TheVariants as constant
@@ -23,11 +25,12 @@ use Rattle.limbo_things.specs.Things.{Thing, AValue, AType, APrint, NameIs, Memb
 use Rattle.limbo_applying.specs.Applying.{Applies}
 use Rattle.limbo_permits.specs.Permits.{IsPermitted}
 use Rattle.limbo_written.specs.Written.{MeansPermitted}
-use Rattle.limbo_value_forms.specs.Forms.{one, values_in, copied, Forms}
+use Rattle.limbo_value_forms.specs.Forms.{one, values_in, given_by, copied, Forms}
 use Rattle.limbo_defining.specs.Defining.{Defines}
 use Rattle.limbo_typing.specs.Typing as typing
 use Rattle.limbo_typing.specs.Typing.{is_path, is_pattern, format_in, OutputIs, Denotes, HasValue, Types, Has, HaveValues, MayHave, Fill}
 use Rattle.limbo_typing.specs.Typing.{IsPattern, ArePatterns}
+use Rattle.limbo_typing.specs.Failing.{changed, changed_in}
 
 no_path : false ≡ true → ⊥
 no_path e = false≢true e
@@ -143,6 +146,24 @@ path_has_none (tree.Name n) es p q = none-some es q
 path_has_none (tree.Arrow e n) es p q = none-some es q
 path_has_none (tree.Dot e n) es p q = none-some es q
 path_has_none _ es p q = no_path p
+
+-- what is changed is the first of the values
+changed_first : (o : AssignOp) (l r m : tree.Expr) → changed o l ≡ Some m → given_by o l r ≡ Some (tree.MoreExprs m (one r))
+changed_first assign.Assign l r m q = absurd (none-some m q)
+changed_first assign.Define l r m q = absurd (none-some m q)
+changed_first assign.Send l r m q = absurd (none-some m q)
+changed_first _ l r m q = ap (λ (v : tree.Expr). Some (tree.MoreExprs v (one r))) (same_Some l m q)
+
+only_changed : (l m : tree.Expr) → Some l ≡ Some m → Some (one l) ≡ Some (one m)
+only_changed l m q = ap (λ (v : tree.Expr). Some (one v)) (same_Some l m q)
+
+pub changed_values : (e m : tree.Expr) → changed_in e ≡ Some m → (es : tree.Exprs) × (values_in e ≡ Some (tree.MoreExprs m es))
+changed_values (tree.Unary before.Increment e) m q = (tree.NoExprs, only_changed e m q)
+changed_values (tree.Unary before.Decrement e) m q = (tree.NoExprs, only_changed e m q)
+changed_values (tree.Unary o e) m q = absurd (none-some m q)
+changed_values (tree.Postfix o e) m q = (tree.NoExprs, only_changed e m q)
+changed_values (tree.Assign o l r) m q = (one r, changed_first o l r m q)
+changed_values _ m q = absurd (none-some m q)
 
 module _ (c : Context) where
   pub values_of : (b b' : Body) (e : tree.Expr) (es : tree.Exprs) (z : Expr) → values_in e ≡ Some es → Has c b e z b'

@@ -1,7 +1,9 @@
 -- Why expressions have no typed tree (Limbo Language Reference, expressions): a part fails, or the parts don't fit.
-use Rattle.std.specs.Prelude.{◌≡◌, ◌≢◌, ℕ, ℤ, ◌+ℤ◌, pos, Bool, true, false, List, None, Some}
+use Rattle.std.specs.Prelude.{◌≡◌, ◌≢◌, ℕ, ℤ, ◌+ℤ◌, pos, Bool, true, false, List, Option, None, Some}
 use Rattle.limbo_types.specs.Types.{Ty, Int, Chars, Nothing, Module}
+use Rattle.limbo_tree.specs.declared.operators.AssignOp.{AssignOp}
 use Rattle.limbo_tree.specs.declared.operators.AssignOp.TheVariants as assign
+use Rattle.limbo_tree.specs.declared.operators.UnaryOp.TheVariants as before
 use Rattle.limbo_tree.specs.Exprs as tree
 use Rattle.limbo_tree.specs.Types as written
 use Rattle.limbo_typed.specs.declared.stmt.Constant.TheVariants as constant
@@ -37,6 +39,30 @@ use Rattle.limbo_typing.specs.Typing.{IsPattern}
 -- a thing that doesn't fit, by the type that it names
 abbrev pub unfit : Thing → Cause
 unfit t = Refused (Clash (type_named t) (type_named t))
+
+-- ---- places
+
+-- what `op=` changes: no assignment, declaration or send is one
+abbrev pub changed : AssignOp → (left : tree.Expr) → Option tree.Expr
+changed assign.Assign l = None
+changed assign.Define l = None
+changed assign.Send l = None
+changed o l = Some l
+
+-- the part that `++`, `--` and `op=` change, which has to be a place
+abbrev pub changed_in : tree.Expr → Option tree.Expr
+changed_in (tree.Unary before.Increment e) = Some e
+changed_in (tree.Unary before.Decrement e) = Some e
+changed_in (tree.Postfix o e) = Some e
+changed_in (tree.Assign o l r) = changed o l
+changed_in _ = None
+
+-- one expression in parentheses
+abbrev pub is_enclosed : tree.Expr → Bool
+is_enclosed (tree.Group (tree.MoreExprs e tree.NoExprs)) = true
+is_enclosed _ = false
+
+-- ---- things
 
 -- A thing that is called without a literal format.
 abbrev pub IsNoPrint : Thing → Type 0
@@ -81,7 +107,11 @@ mutual
 
   -- It is none at all.
   pub data FailsForm (c : Context) : Body → tree.Expr → Cause → Type 0 where
-    a_value : (b : Body) (e : tree.Expr) (es : tree.Exprs) (k : Cause) → values_in e ≡ Some es → FailsSome c b es k → FailsForm c b e k
+    a_value : (b : Body) (e : tree.Expr) (es : tree.Exprs) (k : Cause) → values_in e ≡ Some es → changed_in e ≡ None → FailsSome c b es k
+        → FailsForm c b e k
+    what_changes : (b : Body) (e l : tree.Expr) (k : Cause) → changed_in e ≡ Some l → FailsPlace c b l k → FailsForm c b e k
+    changed_by : (b b' : Body) (e l : tree.Expr) (es : tree.Exprs) (x : Expr) (k : Cause) → changed_in e ≡ Some l
+        → values_in e ≡ Some (tree.MoreExprs l es) → HasValue c b l x b' → FailsSome c b' es k → FailsForm c b e k
     refused_form : (b b' : Body) (e : tree.Expr) (es : tree.Exprs) (xs : Exprs) (r : Refusal) → values_in e ≡ Some es
         → HaveValues c b es xs b' → RefusesForm c e xs r → NoneIs (Forms c e xs) → FailsForm c b e (Refused r)
     bad_path : (b : Body) (e : tree.Expr) (k : Cause) → is_path e ≡ true → FailsThing c b e k → FailsForm c b e k
@@ -179,12 +209,24 @@ mutual
     behind_others : (b b' : Body) (n : ℤ) (e : tree.Expr) (is : tree.Inits) (x : Expr) (k : Cause) → HasValue c b e x b'
         → FailsFill c b' n (Present x) is k → FailsFill c b n Absent (tree.MoreInits (tree.Rest e) is) k
 
+  -- What stands where a place is asked for has no value. The name of something else than a value, such as a function or a type, is no
+  -- place.
+  pub data FailsPlace (c : Context) : Body → tree.Expr → Cause → Type 0 where
+    enclosed : (b : Body) (e : tree.Expr) (k : Cause) → FailsPlace c b e k → FailsPlace c b (tree.Group (one e)) k
+    names_none : (b b' : Body) (e : tree.Expr) (t : Thing) → is_path e ≡ true → Denotes c b e t b' → NoneIs (λ x. t ≡ AValue x)
+        → FailsPlace c b e (Refused refusals.NotPlace)
+    names_nothing : (b : Body) (e : tree.Expr) (k : Cause) → is_path e ≡ true → FailsThing c b e k → FailsPlace c b e k
+    named_value : (b b' : Body) (e : tree.Expr) (x : Expr) (k : Cause) → is_path e ≡ true → Denotes c b e (AValue x) b'
+        → FailsValue c b e k → FailsPlace c b e k
+    unnamed : (b : Body) (e : tree.Expr) (k : Cause) → is_path e ≡ false → is_enclosed e ≡ false → FailsValue c b e k
+        → FailsPlace c b e k
+
   -- A left side is no pattern: it has no value, or is no place.
   pub data FailsPattern (c : Context) : Body → tree.Expr → Cause → Type 0 where
     in_it : (b : Body) (e : tree.Expr) (k : Cause) → FailsPattern c b e k → FailsPattern c b (tree.Group (one e)) k
     a_pattern : (b : Body) (e f : tree.Expr) (es : tree.Exprs) (k : Cause) → FailsPatterns c b (tree.MoreExprs e (tree.MoreExprs f es)) k
         → FailsPattern c b (tree.Group (tree.MoreExprs e (tree.MoreExprs f es))) k
-    no_left : (b : Body) (e : tree.Expr) (k : Cause) → is_pattern e ≡ false → FailsValue c b e k → FailsPattern c b e k
+    no_left : (b : Body) (e : tree.Expr) (k : Cause) → is_pattern e ≡ false → FailsPlace c b e k → FailsPattern c b e k
     no_place : (b b' : Body) (e : tree.Expr) (x : Expr) → is_pattern e ≡ false → HasValue c b e x b' → (IsPlace x → ⊥)
         → FailsPattern c b e (Refused refusals.NotPlace)
     no_pattern : (b : Body) → FailsPattern c b (tree.Group tree.NoExprs) nothing

@@ -44,7 +44,7 @@ use Rattle.limbo_exprs.proofs.Outcomes.{sized_refused}
 use Rattle.limbo_exprs.proofs.Outcomes.{filled_made, filled_refused, load_made, load_refused, load_told, applied_made, applied_refused}
 use Rattle.limbo_exprs.proofs.Outcomes.{printed_made, printed_refused}
 use Rattle.limbo_exprs.proofs.Outcomes.{assign_made, assign_refused, retyped, refailed, refailed_by, path_typed, named_thing, re_denoted}
-use Rattle.limbo_exprs.proofs.Outcomes.{member_thing, part_thing}
+use Rattle.limbo_exprs.proofs.Outcomes.{member_thing, part_thing, enclosed_target, enclosed_target_fails}
 use Rattle.limbo_exprs.proofs.Outcomes.{leaf_typed, call_applied, call_printed, print_called, other_called, no_literal, no_literal_behind}
 use Rattle.limbo_exprs.proofs.Outcomes.{no_format_fails}
 use Rattle.limbo_exprs.proofs.Outcomes.{format_value_fails, first_of, empty_row, index_typed, index_fails_as, place_typed, one_pattern}
@@ -56,6 +56,8 @@ use Rattle.limbo_exprs.proofs.Outcomes.{fails_from_none, fills_from_none}
 use Rattle.limbo_exprs.proofs.Rules.{one_in, values_one, values_two, name_fails, base_of_member_fails, member_fails, base_of_part_fails}
 use Rattle.limbo_exprs.proofs.Rules.{part_fails, thing_fails}
 use Rattle.limbo_exprs.proofs.Rules.{value_fails, answer_fails, form_fails, permit_fails, values_fail, first_fails, later_fails}
+use Rattle.limbo_exprs.proofs.Rules.{first_part_fails, later_part_fails, unnamed_place_fails, named_place_fails, no_named_place}
+use Rattle.limbo_exprs.proofs.Rules.{named_value_fails, path_value}
 use Rattle.limbo_exprs.proofs.Rules.{inside_fails, path_fails}
 use Rattle.limbo_exprs.proofs.Rules.{path_value_fails, slice_base_fails, slice_from_fails, slice_to_fails, length_fails, item_type_fails}
 use Rattle.limbo_exprs.proofs.Rules.{array_length_fails}
@@ -202,41 +204,39 @@ naming::part_of-returns-in-Err-clause-refused t c =
 pub forms::made_of_one-returns-in-Ok-clause-typed : goal.forms::made_of_one-returns-in-Ok-clause-typed
 forms::made_of_one-returns-in-Ok-clause-typed t c =
     values_made (view_context c.args.context.now) (view_body c.args.body.now) c.of_one.result c.placed.result c.placed.ensures.typed
-    (view_body c.value.new.body) (with_one c.args.form (source.view_expr c.args.e.now)) (one (source.view_expr c.args.e.now))
+    (view_body c.part.new.body) (with_one c.args.form (source.view_expr c.args.e.now)) (one (source.view_expr c.args.e.now))
     (operands.one (view_expr c.in-Ok.x.value)) (one_in c.args.form (source.view_expr c.args.e.now)) (values_one (view_context
-    c.args.context.now) (view_body c.args.body.now) (view_body c.value.new.body) (source.view_expr c.args.e.now) (view_expr
+    c.args.context.now) (view_body c.args.body.now) (view_body c.part.new.body) (source.view_expr c.args.e.now) (view_expr
     c.in-Ok.x.value) c.in-Ok.ensures.typed) (c.of_one.ensures.typed (source.view_expr c.args.e.now))
 
 pub forms::made_of_one-returns-in-Ok-clause-refused : goal.forms::made_of_one-returns-in-Ok-clause-refused
 forms::made_of_one-returns-in-Ok-clause-refused t c =
     values_refused (view_context c.args.context.now) (view_body c.args.body.now) c.of_one.result c.placed.result c.placed.ensures.refused
-    (view_body c.value.new.body) (with_one c.args.form (source.view_expr c.args.e.now)) (one (source.view_expr c.args.e.now))
+    (view_body c.part.new.body) (with_one c.args.form (source.view_expr c.args.e.now)) (one (source.view_expr c.args.e.now))
     (operands.one (view_expr c.in-Ok.x.value)) (one_in c.args.form (source.view_expr c.args.e.now)) (values_one (view_context
-    c.args.context.now) (view_body c.args.body.now) (view_body c.value.new.body) (source.view_expr c.args.e.now) (view_expr
+    c.args.context.now) (view_body c.args.body.now) (view_body c.part.new.body) (source.view_expr c.args.e.now) (view_expr
     c.in-Ok.x.value) c.in-Ok.ensures.typed) (c.of_one.ensures.refused (source.view_expr c.args.e.now))
 
 pub forms::made_of_one-returns-in-Err-clause-refused : goal.forms::made_of_one-returns-in-Err-clause-refused
 forms::made_of_one-returns-in-Err-clause-refused t c =
-    values_fail (view_context c.args.context.now) (view_body c.args.body.now) c.in-Err.fault.cause (with_one c.args.form (source.view_expr
-    c.args.e.now)) (one (source.view_expr c.args.e.now)) (one_in c.args.form (source.view_expr c.args.e.now)) (first_fails (view_context
-    c.args.context.now) (view_body c.args.body.now) c.in-Err.fault.cause (source.view_expr c.args.e.now) tree.NoExprs
-    c.in-Err.ensures.refused)
+    first_part_fails (view_context c.args.context.now) (view_body c.args.body.now) c.in-Err.fault.cause (with_one c.args.form
+    (source.view_expr c.args.e.now)) (source.view_expr c.args.e.now) tree.NoExprs c.changes_one.result (one_in c.args.form
+    (source.view_expr c.args.e.now)) (c.changes_one.ensures (source.view_expr c.args.e.now)) c.in-Err.ensures.refused
 
 pub forms::made_of_two-returns-in-Err-clause-refused : goal.forms::made_of_two-returns-in-Err-clause-refused
 forms::made_of_two-returns-in-Err-clause-refused t c =
-    values_fail (view_context c.args.context.now) (view_body c.args.body.now) c.in-Err.fault.cause (with_two c.args.form (source.view_expr
-    c.args.left.now) (source.view_expr c.args.right.now)) (two (source.view_expr c.args.left.now) (source.view_expr c.args.right.now))
-    (c.requires.values (source.view_expr c.args.left.now) (source.view_expr c.args.right.now)) (first_fails (view_context
-    c.args.context.now) (view_body c.args.body.now) c.in-Err.fault.cause (source.view_expr c.args.left.now) (one (source.view_expr
-    c.args.right.now)) c.in-Err.ensures.refused)
+    first_part_fails (view_context c.args.context.now) (view_body c.args.body.now) c.in-Err.fault.cause (with_two c.args.form
+    (source.view_expr c.args.left.now) (source.view_expr c.args.right.now)) (source.view_expr c.args.left.now) (one (source.view_expr
+    c.args.right.now)) c.changes_first.result (c.requires.values (source.view_expr c.args.left.now) (source.view_expr c.args.right.now))
+    (c.changes_first.ensures (source.view_expr c.args.left.now) (source.view_expr c.args.right.now)) c.in-Err.ensures.refused
 
 pub forms::made_of_two-returns-in-Ok-value-clause-typed : goal.forms::made_of_two-returns-in-Ok-value-clause-typed
 forms::made_of_two-returns-in-Ok-value-clause-typed t c =
     values_made (view_context c.args.context.now) (view_body c.args.body.now) c.of_two.result c.placed.result c.placed.ensures.typed
-    (view_body c.value-in-Ok.new.body) (with_two c.args.form (source.view_expr c.args.left.now) (source.view_expr c.args.right.now)) (two
+    (view_body c.value.new.body) (with_two c.args.form (source.view_expr c.args.left.now) (source.view_expr c.args.right.now)) (two
     (source.view_expr c.args.left.now) (source.view_expr c.args.right.now)) (operands.two (view_expr c.in-Ok.x.value) (view_expr
     c.in-Ok-value.y.value)) (c.requires.values (source.view_expr c.args.left.now) (source.view_expr c.args.right.now)) (values_two
-    (view_context c.args.context.now) (view_body c.args.body.now) (view_body c.value.new.body) (view_body c.value-in-Ok.new.body)
+    (view_context c.args.context.now) (view_body c.args.body.now) (view_body c.part.new.body) (view_body c.value.new.body)
     (source.view_expr c.args.left.now) (source.view_expr c.args.right.now) (view_expr c.in-Ok.x.value) (view_expr c.in-Ok-value.y.value)
     c.in-Ok.ensures.typed c.in-Ok-value.ensures.typed) (c.of_two.ensures.typed (source.view_expr c.args.left.now) (source.view_expr
     c.args.right.now))
@@ -244,23 +244,22 @@ forms::made_of_two-returns-in-Ok-value-clause-typed t c =
 pub forms::made_of_two-returns-in-Ok-value-clause-refused : goal.forms::made_of_two-returns-in-Ok-value-clause-refused
 forms::made_of_two-returns-in-Ok-value-clause-refused t c =
     values_refused (view_context c.args.context.now) (view_body c.args.body.now) c.of_two.result c.placed.result c.placed.ensures.refused
-    (view_body c.value-in-Ok.new.body) (with_two c.args.form (source.view_expr c.args.left.now) (source.view_expr c.args.right.now)) (two
+    (view_body c.value.new.body) (with_two c.args.form (source.view_expr c.args.left.now) (source.view_expr c.args.right.now)) (two
     (source.view_expr c.args.left.now) (source.view_expr c.args.right.now)) (operands.two (view_expr c.in-Ok.x.value) (view_expr
     c.in-Ok-value.y.value)) (c.requires.values (source.view_expr c.args.left.now) (source.view_expr c.args.right.now)) (values_two
-    (view_context c.args.context.now) (view_body c.args.body.now) (view_body c.value.new.body) (view_body c.value-in-Ok.new.body)
+    (view_context c.args.context.now) (view_body c.args.body.now) (view_body c.part.new.body) (view_body c.value.new.body)
     (source.view_expr c.args.left.now) (source.view_expr c.args.right.now) (view_expr c.in-Ok.x.value) (view_expr c.in-Ok-value.y.value)
     c.in-Ok.ensures.typed c.in-Ok-value.ensures.typed) (c.of_two.ensures.refused (source.view_expr c.args.left.now) (source.view_expr
     c.args.right.now))
 
 pub forms::made_of_two-returns-in-Err-value-clause-refused : goal.forms::made_of_two-returns-in-Err-value-clause-refused
 forms::made_of_two-returns-in-Err-value-clause-refused t c =
-    values_fail (view_context c.args.context.now) (view_body c.args.body.now) c.in-Err-value.fault.cause (with_two c.args.form
-    (source.view_expr c.args.left.now) (source.view_expr c.args.right.now)) (two (source.view_expr c.args.left.now) (source.view_expr
-    c.args.right.now)) (c.requires.values (source.view_expr c.args.left.now) (source.view_expr c.args.right.now)) (later_fails
-    (view_context c.args.context.now) (view_body c.args.body.now) c.in-Err-value.fault.cause (source.view_expr c.args.left.now) (one
-    (source.view_expr c.args.right.now)) (view_expr c.in-Ok.x.value) (view_body c.value.new.body) c.in-Ok.ensures.typed (first_fails
-    (view_context c.args.context.now) (view_body c.value.new.body) c.in-Err-value.fault.cause (source.view_expr c.args.right.now)
-    tree.NoExprs c.in-Err-value.ensures.refused))
+    later_part_fails (view_context c.args.context.now) (view_body c.args.body.now) c.in-Err-value.fault.cause (with_two c.args.form
+    (source.view_expr c.args.left.now) (source.view_expr c.args.right.now)) (source.view_expr c.args.left.now) (one (source.view_expr
+    c.args.right.now)) c.changes_first.result (view_expr c.in-Ok.x.value) (view_body c.part.new.body) (c.requires.values (source.view_expr
+    c.args.left.now) (source.view_expr c.args.right.now)) (c.changes_first.ensures (source.view_expr c.args.left.now) (source.view_expr
+    c.args.right.now)) c.in-Ok.ensures.typed (first_fails (view_context c.args.context.now) (view_body c.part.new.body)
+    c.in-Err-value.fault.cause (source.view_expr c.args.right.now) tree.NoExprs c.in-Err-value.ensures.refused)
 
 pub forms::listed-returns-in-Ok-clause-typed : goal.forms::listed-returns-in-Ok-clause-typed
 forms::listed-returns-in-Ok-clause-typed t c =
@@ -277,7 +276,7 @@ forms::listed-returns-in-Ok-clause-refused t c =
 pub forms::listed-returns-in-Err-clause-refused : goal.forms::listed-returns-in-Err-clause-refused
 forms::listed-returns-in-Err-clause-refused t c =
     values_fail (view_context c.args.context.now) (view_body c.args.body.now) c.in-Err.fault.cause (tree.Listed (source.exprs_of (map
-    source.view_expr c.args.items.now))) (source.exprs_of (map source.view_expr c.args.items.now)) refl c.in-Err.ensures.refused
+    source.view_expr c.args.items.now))) (source.exprs_of (map source.view_expr c.args.items.now)) refl refl c.in-Err.ensures.refused
 
 pub forms::grouped-returns-in-empty-clause-refused : goal.forms::grouped-returns-in-empty-clause-refused
 forms::grouped-returns-in-empty-clause-refused t c =
@@ -841,7 +840,7 @@ assigning::copied_into-returns-in-Err-clause-refused t c =
     values_fail (view_context c.args.context.now) (view_body c.args.body.now) c.in-Err.fault.cause (tree.Assign assign.Assign (tree.Slice
     (source.view_expr c.args.array.now) (tree.Present (source.view_expr c.args.from.now)) tree.Absent) (source.view_expr
     c.args.right.now)) (three (source.view_expr c.args.array.now) (source.view_expr c.args.from.now) (source.view_expr c.args.right.now))
-    refl (first_fails (view_context c.args.context.now) (view_body c.args.body.now) c.in-Err.fault.cause (source.view_expr
+    refl refl (first_fails (view_context c.args.context.now) (view_body c.args.body.now) c.in-Err.fault.cause (source.view_expr
     c.args.array.now) (two (source.view_expr c.args.from.now) (source.view_expr c.args.right.now)) c.in-Err.ensures.refused)
 
 pub assigning::copied_into-returns-in-Err-value-clause-refused : goal.assigning::copied_into-returns-in-Err-value-clause-refused
@@ -849,7 +848,7 @@ assigning::copied_into-returns-in-Err-value-clause-refused t c =
     values_fail (view_context c.args.context.now) (view_body c.args.body.now) c.in-Err-value.fault.cause (tree.Assign assign.Assign
     (tree.Slice (source.view_expr c.args.array.now) (tree.Present (source.view_expr c.args.from.now)) tree.Absent) (source.view_expr
     c.args.right.now)) (three (source.view_expr c.args.array.now) (source.view_expr c.args.from.now) (source.view_expr c.args.right.now))
-    refl (later_fails (view_context c.args.context.now) (view_body c.args.body.now) c.in-Err-value.fault.cause (source.view_expr
+    refl refl (later_fails (view_context c.args.context.now) (view_body c.args.body.now) c.in-Err-value.fault.cause (source.view_expr
     c.args.array.now) (two (source.view_expr c.args.from.now) (source.view_expr c.args.right.now)) (view_expr c.in-Ok.x.value) (view_body
     c.value.new.body) c.in-Ok.ensures.typed (first_fails (view_context c.args.context.now) (view_body c.value.new.body)
     c.in-Err-value.fault.cause (source.view_expr c.args.from.now) (one (source.view_expr c.args.right.now))
@@ -860,7 +859,7 @@ assigning::copied_into-returns-in-Err-value-2-clause-refused t c =
     values_fail (view_context c.args.context.now) (view_body c.args.body.now) c.in-Err-value-2.fault.cause (tree.Assign assign.Assign
     (tree.Slice (source.view_expr c.args.array.now) (tree.Present (source.view_expr c.args.from.now)) tree.Absent) (source.view_expr
     c.args.right.now)) (three (source.view_expr c.args.array.now) (source.view_expr c.args.from.now) (source.view_expr c.args.right.now))
-    refl (later_fails (view_context c.args.context.now) (view_body c.args.body.now) c.in-Err-value-2.fault.cause (source.view_expr
+    refl refl (later_fails (view_context c.args.context.now) (view_body c.args.body.now) c.in-Err-value-2.fault.cause (source.view_expr
     c.args.array.now) (two (source.view_expr c.args.from.now) (source.view_expr c.args.right.now)) (view_expr c.in-Ok.x.value) (view_body
     c.value.new.body) c.in-Ok.ensures.typed (later_fails (view_context c.args.context.now) (view_body c.value.new.body)
     c.in-Err-value-2.fault.cause (source.view_expr c.args.from.now) (one (source.view_expr c.args.right.now)) (view_expr
@@ -1000,11 +999,11 @@ pub assigning::pattern-returns-in-Ok : goal.assigning::pattern-returns-in-Ok
 assigning::pattern-returns-in-Ok t c =
     record {
       typed = place_typed c.place_pattern.result (view_context c.args.context.now) (view_body c.args.body.now) (view_body
-          c.value.new.body) (source.view_expr c.args.e.now) (view_expr c.in-Ok.x.value) (no_pattern_form c.args.e.now c.in_default.not-Nil
+          c.target.new.body) (source.view_expr c.args.e.now) (view_expr c.in-Ok.x.value) (no_pattern_form c.args.e.now c.in_default.not-Nil
           c.in_default.not-Group) c.in-Ok.ensures.typed c.place_pattern.ensures.typed;
       refused = by_rule c.place_pattern.result
           c.place_pattern.ensures.refused (λ f h. no_place_fails (view_context c.args.context.now) (view_body c.args.body.now) f
-          (source.view_expr c.args.e.now) (view_expr c.in-Ok.x.value) (view_body c.value.new.body) (no_pattern_form c.args.e.now
+          (source.view_expr c.args.e.now) (view_expr c.in-Ok.x.value) (view_body c.target.new.body) (no_pattern_form c.args.e.now
           c.in_default.not-Nil c.in_default.not-Group) c.in-Ok.ensures.typed h);
     }
 
@@ -1037,3 +1036,45 @@ pub assigning::patterns-returns-clause-typed : goal.assigning::patterns-returns-
 assigning::patterns-returns-clause-typed t c =
     patterned_end (view_context c.args.context.now) (view_body c.args.body.now) (view_body c.loop-e.body) c.args.es.now c.loop-e.e-index
     c.loop-e.ps.items c.loop-e-test.false c.loop-e.invariant
+
+pub targets::target-returns-in-Some-clause-typed : goal.targets::target-returns-in-Some-clause-typed
+targets::target-returns-in-Some-clause-typed t c =
+    enclosed_target c.target.result (view_context c.args.context.now) (view_body c.args.body.now) (view_body c.target.new.body)
+    (source.view_expr c.args.e.now) (source.view_expr c.in-Some.item.now) c.in-Some.ensures.found c.target.ensures.typed
+
+pub targets::target-returns-in-Some-clause-refused : goal.targets::target-returns-in-Some-clause-refused
+targets::target-returns-in-Some-clause-refused t c =
+    enclosed_target_fails c.target.result (view_context c.args.context.now) (view_body c.args.body.now) (source.view_expr c.args.e.now)
+    (source.view_expr c.in-Some.item.now) c.in-Some.ensures.found c.target.ensures.refused
+
+pub targets::target-returns-else-is_name-clause-refused : goal.targets::target-returns-else-is_name-clause-refused
+targets::target-returns-else-is_name-clause-refused t c =
+    by_rule c.value.result c.value.ensures.refused (λ f h. unnamed_place_fails (view_context c.args.context.now) (view_body
+    c.args.body.now) f (source.view_expr c.args.e.now) (sym c.is_name.ensures ∙ c.if-is_name.false) c.in-None.ensures.none h)
+
+pub targets::named_target-returns-in-Err-clause-refused : goal.targets::named_target-returns-in-Err-clause-refused
+targets::named_target-returns-in-Err-clause-refused t c =
+    named_place_fails (view_context c.args.context.now) (view_body c.args.body.now) c.in-Err.fault.cause (source.view_expr c.args.e.now)
+    c.requires.named c.in-Err.ensures.refused
+
+pub targets::named_target-returns-in-Ok-its_value-clause-typed : goal.targets::named_target-returns-in-Ok-its_value-clause-typed
+targets::named_target-returns-in-Ok-its_value-clause-typed t c =
+    c.standing.ensures.typed (view_body c.args.body.now) (view_body c.denote.new.body) (source.view_expr c.args.e.now) (path_value
+    (view_context c.args.context.now) (view_body c.args.body.now) (view_body c.denote.new.body) (source.view_expr c.args.e.now)
+    (view_thing c.in-Ok.thing.value) (view_expr c.in-Ok-its_value.x.value) c.requires.named c.in-Ok.ensures.typed
+    c.in-Ok-its_value.ensures.typed)
+
+pub targets::named_target-returns-in-Ok-its_value-clause-refused : goal.targets::named_target-returns-in-Ok-its_value-clause-refused
+targets::named_target-returns-in-Ok-its_value-clause-refused t c =
+    by_rule c.standing.result (c.standing.ensures.refused (view_body c.args.body.now) (view_body c.denote.new.body) (source.view_expr
+    c.args.e.now) (path_value (view_context c.args.context.now) (view_body c.args.body.now) (view_body c.denote.new.body)
+    (source.view_expr c.args.e.now) (view_thing c.in-Ok.thing.value) (view_expr c.in-Ok-its_value.x.value) c.requires.named
+    c.in-Ok.ensures.typed c.in-Ok-its_value.ensures.typed)) (λ f h. named_value_fails (view_context c.args.context.now) (view_body
+    c.args.body.now) f (source.view_expr c.args.e.now) (view_thing c.in-Ok.thing.value) (view_expr c.in-Ok-its_value.x.value)
+    (view_body c.denote.new.body) c.requires.named c.in-Ok.ensures.typed c.in-Ok-its_value.ensures.typed h)
+
+pub targets::named_target-returns-in-Err-its_value-clause-refused : goal.targets::named_target-returns-in-Err-its_value-clause-refused
+targets::named_target-returns-in-Err-its_value-clause-refused t c =
+    no_named_place (view_context c.args.context.now) (view_body c.args.body.now) c.in-Err-its_value.fault.cause (source.view_expr
+    c.args.e.now) (view_thing c.in-Ok.thing.value) (view_body c.denote.new.body) c.requires.named c.in-Ok.ensures.typed
+    c.in-Err-its_value.ensures.refused

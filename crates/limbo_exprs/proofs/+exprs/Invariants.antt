@@ -39,10 +39,10 @@ abbrev pub decreases-naming::part_of : goal.decreases-naming::part_of
 decreases-naming::part_of l = the_size l.base.now * 16 + 4
 
 abbrev pub decreases-forms::made_of_one : goal.decreases-forms::made_of_one
-decreases-forms::made_of_one l = the_size l.e.now * 16 + 3
+decreases-forms::made_of_one l = the_size l.e.now * 16 + 7
 
 abbrev pub decreases-forms::made_of_two : goal.decreases-forms::made_of_two
-decreases-forms::made_of_two l = max (the_size l.left.now) (the_size l.right.now) * 16 + 3
+decreases-forms::made_of_two l = max (the_size l.left.now) (the_size l.right.now) * 16 + 7
 
 abbrev pub decreases-forms::listed : goal.decreases-forms::listed
 decreases-forms::listed l = most the_size l.items.now * 16 + 4
@@ -52,6 +52,15 @@ decreases-forms::grouped l = most the_size l.items.now * 16 + 4
 
 abbrev pub decreases-forms::sliced : goal.decreases-forms::sliced
 decreases-forms::sliced l = max (the_size l.base.now) (max (part_size l.from.now) (part_size l.to.now)) * 16 + 4
+
+abbrev pub decreases-targets::named_target : goal.decreases-targets::named_target
+decreases-targets::named_target l = the_size l.e.now * 16 + 4
+
+abbrev pub decreases-targets::target : goal.decreases-targets::target
+decreases-targets::target l = the_size l.e.now * 16 + 5
+
+abbrev pub decreases-targets::part : goal.decreases-targets::part
+decreases-targets::part l = the_size l.e.now * 16 + 6
 
 abbrev pub decreases-arrays::sized : goal.decreases-arrays::sized
 decreases-arrays::sized l = the_size l.len.now * 16 + 3
@@ -87,25 +96,25 @@ abbrev pub decreases-calling::called : goal.decreases-calling::called
 decreases-calling::called l = max (the_size l.function.now) (most the_size l.args.now) * 16 + 6
 
 abbrev pub decreases-assigning::pattern : goal.decreases-assigning::pattern
-decreases-assigning::pattern l = the_size l.e.now * 16 + 3
+decreases-assigning::pattern l = the_size l.e.now * 16 + 6
 
 abbrev pub decreases-assigning::grouped_pattern : goal.decreases-assigning::grouped_pattern
-decreases-assigning::grouped_pattern l = most the_size l.items.now * 16 + 5
+decreases-assigning::grouped_pattern l = most the_size l.items.now * 16 + 8
 
 abbrev pub decreases-assigning::patterns : goal.decreases-assigning::patterns
-decreases-assigning::patterns l = most the_size l.es.now * 16 + 4
+decreases-assigning::patterns l = most the_size l.es.now * 16 + 7
 
 abbrev pub decreases-assigning::copied_into : goal.decreases-assigning::copied_into
 decreases-assigning::copied_into l = max (the_size l.array.now) (max (the_size l.from.now) (the_size l.right.now)) * 16 + 3
 
 abbrev pub decreases-assigning::stored : goal.decreases-assigning::stored
-decreases-assigning::stored l = max (the_size l.left.now) (the_size l.right.now) * 16 + 4
+decreases-assigning::stored l = max (the_size l.left.now) (the_size l.right.now) * 16 + 7
 
 abbrev pub decreases-assigning::defined : goal.decreases-assigning::defined
 decreases-assigning::defined l = max (the_size l.left.now) (the_size l.right.now) * 16 + 3
 
 abbrev pub decreases-assigning::assigned : goal.decreases-assigning::assigned
-decreases-assigning::assigned l = max (the_size l.left.now) (the_size l.right.now) * 16 + 5
+decreases-assigning::assigned l = max (the_size l.left.now) (the_size l.right.now) * 16 + 8
 
 -- ---- what holds in the loops
 
