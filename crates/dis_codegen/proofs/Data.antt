@@ -1,14 +1,14 @@
 -- What is read of the module's data.
 use Rattle.std.proofs.Common.{◌≡◌, ℕ, zero, suc, ℤ, pos, ◌+◌, ◌*◌, Bool, true, false, List, [], ◌∷◌, ◌++◌, Some, refl, sym, ap, ◌∙◌, subst, arith}
 use Rattle.std.specs.Prelude.{slice_get}
-use Rattle.dis_isa.specs.declared.inst.Operand.{Operand}
 use Rattle.system_model.specs.World as outside
 use Rattle.core_code.specs.Code.{Module}
+use Rattle.limbo_values.specs.declared.number.Kind.TheVariants.{Int}
 use Rattle.dis_meaning.specs.Words.{Word, Plain, Refer, Found, ◌>>=◌, dead_address, or_wrong, word_at, plain, number_in}
 use Rattle.dis_meaning.specs.World as memory
 use Rattle.dis_meaning.specs.World.{Content, Instance, World}
 use Rattle.dis_meaning.specs.Process.{Process}
-use Rattle.dis_meaning.specs.Places.{Data, data_of, data_at, read, source_plain, given_number}
+use Rattle.dis_meaning.specs.Places.{Data, data_of, data_at, read, source_plain, given_of}
 use Rattle.dis_tables.specs.Code.{Datum, Text, Number, datum_offset, number_datum, number_source, number_middle}
 use Rattle.dis_tables.specs.Objects.{module_data}
 use Rattle.dis_codegen.specs.Start.{data_words, data_texts, opening_blocks}
@@ -67,9 +67,11 @@ module _ (m : Module) (k : Known) (w : outside.World) (x : World) (r : Process) 
   source_is true n j h = refl
   source_is false n j h = ap (λ a. a >>= plain) (number_read j n h.0)
 
-  pub middle_is : (b : Bool) (n j : ℕ) → HasAt (module_data m.functions) j (number_datum b (pos n)) → given_number x r (number_middle b n j) ≡ Found (pos n)
+  pub middle_is : (b : Bool) (n j : ℕ) → HasAt (module_data m.functions) j (number_datum b (pos n)) → given_of Int x r (number_middle b n j) ≡ Found (pos n)
   middle_is true n j h = refl
-  middle_is false n j h = ap (λ a. a >>= number_in) (number_read j (pos n) h.0)
+  middle_is false n j h =
+      ap (λ a. a >>= λ words. word_at words (datum_offset j) >>= number_in) data_is
+      ∙ ap (λ a. a >>= number_in) (at_word the_words (8 + 4 * j) (suc (suc j)) (Plain (pos n)) (omega arith) (number_word (module_data m.functions) 2 j (pos n) h.0))
 
   -- A text: its word, and the block that has it.
   pub record Texts (j : ℕ) (t : List ℕ) : Type 0 where

@@ -1,10 +1,9 @@
 -- The object of a module can be entered.
-use Rattle.std.proofs.Common.{◌≡◌, ℕ, suc, ◌+◌, ◌<◌, List, [], ◌∷◌, ◌++◌, length, Option, Some, None, refl, arith, length-append, map, codes}
+use Rattle.std.proofs.Common.{◌≡◌, ℕ, suc, ◌<◌, List, [], ◌∷◌, ◌++◌, length, Option, Some, None, refl, arith, length-append, map, codes}
 use Rattle.std.specs.Prelude.{slice_get}
 use Rattle.std.proofs.lemmas.List.{length-map}
 use Rattle.core_code.specs.Code.{Function, Module}
-use Rattle.dis_tables.specs.Code.{Code}
-use Rattle.dis_tables.specs.Objects.{find, init_of, base_of, or_ends, entry, functions_code, frame_desc, print_desc, entry_type_of}
+use Rattle.dis_tables.specs.Objects.{init_of, base_of, or_ends, entry, functions_code, frame_desc, print_desc, entry_type_of}
 use Rattle.dis_codegen.specs.Laws.{CanBeEntered}
 use Rattle.dis_codegen.proofs.Lookups.{found_within, frame_type_is}
 

@@ -1,5 +1,5 @@
 -- The entry of the code.
-use Rattle.std.proofs.Common.{◌≡◌, ℕ, suc, pos, ◌+◌, ◌-◌, ◌<◌, Bool, true, List, [], ◌∷◌, ◌++◌, length, Some, None, refl, sym, ap, ◌∙◌, subst, arith, rules, tests, if◌then◌else◌, codes, append_assoc}
+use Rattle.std.proofs.Common.{◌≡◌, ℕ, suc, pos, ◌+◌, ◌-◌, ◌<◌, true, List, [], ◌∷◌, ◌++◌, length, Some, None, refl, sym, ap, ◌∙◌, subst, arith, rules, tests, if◌then◌else◌, codes, append_assoc}
 use Rattle.std.specs.Prelude.{slice_get, slice_set, nat_lt}
 use Rattle.dis_isa.specs.declared.inst.Inst as code_inst
 use Rattle.dis_isa.specs.declared.inst.Middle.TheVariants as middle

@@ -1,5 +1,5 @@
 -- The object follows its three-address code.
-use Rattle.std.proofs.Common.{◌≡◌, ℕ, pos, ◌+◌, ◌*◌, Bool, false, [], refl, sym, subst, arith}
+use Rattle.std.proofs.Common.{◌≡◌, ℕ, pos, ◌+◌, ◌*◌, false, [], refl, sym, subst, arith}
 use Rattle.std.specs.Prelude.{slice_set}
 use Rattle.styx_msg.specs.declared.message.Rmsg.{Rmsg}
 use Rattle.process_model.specs.Process.{Effect, Went}

@@ -1,7 +1,10 @@
 -- What each instruction comes to, from what its operands are.
-use Rattle.std.proofs.Common.{◌≡◌, ℕ, ℤ, pos, Bool, List, Option, Some, ap, ◌∙◌}
-use Rattle.std.specs.Prelude.{slice_get}
-use Rattle.std.specs.Int.{int_wrap, w32}
+use Rattle.std.proofs.Common.{◌≡◌, ℕ, ℤ, pos, List, Option, Some, ap, ◌∙◌}
+use Rattle.std.specs.Prelude.{Ok, slice_get}
+use Rattle.limbo_values.specs.declared.number.Kind.TheVariants.{Int}
+use Rattle.limbo_values.specs.declared.operator.Operator.{Operator}
+use Rattle.limbo_values.specs.declared.operator.Comparison.{Comparison}
+use Rattle.limbo_values.specs.Operators.{applied, compared}
 use Rattle.dis_isa.specs.declared.inst.Inst.{Inst}
 use Rattle.dis_isa.specs.declared.inst.Middle.{Middle}
 use Rattle.dis_isa.specs.declared.inst.Middle.TheVariants as middle
@@ -11,11 +14,11 @@ use Rattle.dis_isa.specs.declared.op.Op.TheVariants as op
 use Rattle.dis_file.specs.declared.object.Import.{Import}
 use Rattle.dis_file.specs.declared.object.Object.{Object}
 use Rattle.dis_file.specs.declared.types.TypeDesc.{TypeDesc}
-use Rattle.dis_meaning.specs.Words.{InFrame, Word, Plain, Refer, Address, Found, ◌>>=◌, type_check, or_wrong, reference, word_number, blank}
+use Rattle.dis_meaning.specs.Words.{InFrame, Word, Plain, Refer, Address, Found, ◌>>=◌, type_check, or_wrong, reference, at_least_zero, word_number, blank}
 use Rattle.dis_meaning.specs.World.{Content, World}
 use Rattle.dis_meaning.specs.Process.{Frame, Process, Does}
-use Rattle.dis_meaning.specs.Places.{Spot, Memory, read, store, spot, source_number, source_plain, source_word, given_number, middle_number, words_at, with_words_at, place_in, address}
-use Rattle.dis_meaning.specs.Step.{next, target, branch, jumps, framed, frame_at, calls, plains, all_replaced, at_least_zero, middle_immediate, text_at, loaded, module_at, function_of, sys_call, operates, tests, obey}
+use Rattle.dis_meaning.specs.Places.{Spot, Memory, read, store, spot, source_of, source_plain, source_word, given_of, middle_of, words_at, with_words_at, place_in, address}
+use Rattle.dis_meaning.specs.Step.{next, target, branch, jumps, framed, frame_at, calls, plains, all_replaced, middle_immediate, text_at, loaded, module_at, function_of, sys_call, results, calculates, branches, obey}
 use Rattle.dis_tables.specs.Code.{inst}
 
 module _ (limit : ℕ) (o : Object) (x : World) (r : Process) where
@@ -42,22 +45,23 @@ module _ (limit : ℕ) (o : Object) (x : World) (r : Process) where
       ∙ ap (λ e. e >>= λ d. store x r d (address r s) >>= λ m. Found (next m)) c
       ∙ ap (λ e. e >>= λ m. Found (next m)) e
 
-  -- An operation on two numbers.
-  pub operated : (i : Inst) (f : ℤ → ℤ → ℤ) (s m : ℤ) (d : Spot) (after : Memory) → source_number x r i.src ≡ Found s → middle_number x r i.middle i.dst ≡ Found m → spot x r i.dst ≡ Found d → store x r d (Plain (int_wrap w32 (f m s))) ≡ Found after →
-      operates x r i f ≡ Found (next after)
-  operated i f s m d after a b c e =
-      ap (λ e. e >>= λ s. middle_number x r i.middle i.dst >>= λ m. spot x r i.dst >>= λ d. store x r d (Plain (int_wrap w32 (f m s))) >>= λ after. Found (next after)) a
-      ∙ ap (λ e. e >>= λ m. spot x r i.dst >>= λ d. store x r d (Plain (int_wrap w32 (f m s))) >>= λ after. Found (next after)) b
-      ∙ ap (λ e. e >>= λ d. store x r d (Plain (int_wrap w32 (f m s))) >>= λ after. Found (next after)) c
+  -- An operation on two ints.
+  pub operated : (i : Inst) (operator : Operator) (s m z : ℤ) (d : Spot) (after : Memory) → source_of Int x r i.src ≡ Found s → middle_of Int x r i.middle i.dst ≡ Found m → spot x r i.dst ≡ Found d →
+      applied Int operator m s ≡ Ok z → store x r d (Plain z) ≡ Found after → calculates x r i Int operator ≡ Found (next after)
+  operated i operator s m z d after a b c gives e =
+      ap (λ e. e >>= λ s. middle_of Int x r i.middle i.dst >>= λ m. spot x r i.dst >>= λ d. results Int x r d (applied Int operator m s)) a
+      ∙ ap (λ e. e >>= λ m. spot x r i.dst >>= λ d. results Int x r d (applied Int operator m s)) b
+      ∙ ap (λ e. e >>= λ d. results Int x r d (applied Int operator m s)) c
+      ∙ ap (results Int x r d) gives
       ∙ ap (λ e. e >>= λ after. Found (next after)) e
 
-  -- A branch by a test of two numbers.
-  pub tested : (i : Inst) (f : ℤ → ℤ → Bool) (s m : ℤ) (pc : ℕ) → source_number x r i.src ≡ Found s → given_number x r i.middle ≡ Found m → target o i.dst ≡ Found pc →
-      tests o x r i f ≡ Found (branch x r (f s m) pc)
-  tested i f s m pc a b c =
-      ap (λ e. e >>= λ s. given_number x r i.middle >>= λ m. target o i.dst >>= λ pc. Found (branch x r (f s m) pc)) a
-      ∙ ap (λ e. e >>= λ m. target o i.dst >>= λ pc. Found (branch x r (f s m) pc)) b
-      ∙ ap (λ e. e >>= λ pc. Found (branch x r (f s m) pc)) c
+  -- A branch by a comparison of two ints.
+  pub tested : (i : Inst) (comparison : Comparison) (s m : ℤ) (pc : ℕ) → source_of Int x r i.src ≡ Found s → given_of Int x r i.middle ≡ Found m → target o i.dst ≡ Found pc →
+      branches o x r i Int comparison ≡ Found (branch x r (compared comparison s m) pc)
+  tested i comparison s m pc a b c =
+      ap (λ e. e >>= λ s. given_of Int x r i.middle >>= λ m. target o i.dst >>= λ pc. Found (branch x r (compared comparison s m) pc)) a
+      ∙ ap (λ e. e >>= λ m. target o i.dst >>= λ pc. Found (branch x r (compared comparison s m) pc)) b
+      ∙ ap (λ e. e >>= λ pc. Found (branch x r (compared comparison s m) pc)) c
 
   pub jmp : (dst : Operand) (pc : ℕ) → target o dst ≡ Found pc → obey limit o x r (inst op.Jmp operand.None middle.None dst) op.Jmp ≡ Found (jumps x r pc)
   jmp dst pc a = ap (λ e. e >>= λ pc. Found (jumps x r pc)) a
@@ -77,13 +81,13 @@ module _ (limit : ℕ) (o : Object) (x : World) (r : Process) where
       ∙ ap (λ e. e >>= λ pc. Found (calls limit x r f pc)) c
 
   pub movm : (src : Operand) (mid : Middle) (dst : Operand) (s d : Spot) (from into words : List Word) (k j bytes count : ℕ) (n : ℤ) (vs : List Word) (after : Memory) →
-      spot x r src ≡ Found s → words_at x r s ≡ Found from → word_number (place_in s) ≡ Found k → given_number x r mid ≡ Found n → at_least_zero n ≡ Found bytes → word_number (pos bytes) ≡ Found count →
+      spot x r src ≡ Found s → words_at x r s ≡ Found from → word_number (place_in s) ≡ Found k → given_of Int x r mid ≡ Found n → at_least_zero n ≡ Found bytes → word_number (pos bytes) ≡ Found count →
       plains from k count ≡ Found vs → spot x r dst ≡ Found d → words_at x r d ≡ Found into → word_number (place_in d) ≡ Found j → all_replaced into j vs ≡ Found words → with_words_at x r d words ≡ Found after →
       obey limit o x r (inst op.Movm src mid dst) op.Movm ≡ Found (next after)
   movm src mid dst s d from into words k j bytes count n vs after a1 a2 a3 a4 a5 a6 a7 a8 a9 a10 a11 a12 =
-      ap (λ e. e >>= λ s. words_at x r s >>= λ from. word_number (place_in s) >>= λ k. given_number x r mid >>= at_least_zero >>= λ bytes. word_number (pos bytes) >>= λ count. plains from k count >>= λ vs. spot x r dst >>= λ d. words_at x r d >>= λ into. word_number (place_in d) >>= λ j. all_replaced into j vs >>= with_words_at x r d >>= λ m. Found (next m)) a1
-      ∙ ap (λ e. e >>= λ from. word_number (place_in s) >>= λ k. given_number x r mid >>= at_least_zero >>= λ bytes. word_number (pos bytes) >>= λ count. plains from k count >>= λ vs. spot x r dst >>= λ d. words_at x r d >>= λ into. word_number (place_in d) >>= λ j. all_replaced into j vs >>= with_words_at x r d >>= λ m. Found (next m)) a2
-      ∙ ap (λ e. e >>= λ k. given_number x r mid >>= at_least_zero >>= λ bytes. word_number (pos bytes) >>= λ count. plains from k count >>= λ vs. spot x r dst >>= λ d. words_at x r d >>= λ into. word_number (place_in d) >>= λ j. all_replaced into j vs >>= with_words_at x r d >>= λ m. Found (next m)) a3
+      ap (λ e. e >>= λ s. words_at x r s >>= λ from. word_number (place_in s) >>= λ k. given_of Int x r mid >>= at_least_zero >>= λ bytes. word_number (pos bytes) >>= λ count. plains from k count >>= λ vs. spot x r dst >>= λ d. words_at x r d >>= λ into. word_number (place_in d) >>= λ j. all_replaced into j vs >>= with_words_at x r d >>= λ m. Found (next m)) a1
+      ∙ ap (λ e. e >>= λ from. word_number (place_in s) >>= λ k. given_of Int x r mid >>= at_least_zero >>= λ bytes. word_number (pos bytes) >>= λ count. plains from k count >>= λ vs. spot x r dst >>= λ d. words_at x r d >>= λ into. word_number (place_in d) >>= λ j. all_replaced into j vs >>= with_words_at x r d >>= λ m. Found (next m)) a2
+      ∙ ap (λ e. e >>= λ k. given_of Int x r mid >>= at_least_zero >>= λ bytes. word_number (pos bytes) >>= λ count. plains from k count >>= λ vs. spot x r dst >>= λ d. words_at x r d >>= λ into. word_number (place_in d) >>= λ j. all_replaced into j vs >>= with_words_at x r d >>= λ m. Found (next m)) a3
       ∙ ap (λ e. e >>= at_least_zero >>= λ bytes. word_number (pos bytes) >>= λ count. plains from k count >>= λ vs. spot x r dst >>= λ d. words_at x r d >>= λ into. word_number (place_in d) >>= λ j. all_replaced into j vs >>= with_words_at x r d >>= λ m. Found (next m)) a4
       ∙ ap (λ e. e >>= λ bytes. word_number (pos bytes) >>= λ count. plains from k count >>= λ vs. spot x r dst >>= λ d. words_at x r d >>= λ into. word_number (place_in d) >>= λ j. all_replaced into j vs >>= with_words_at x r d >>= λ m. Found (next m)) a5
       ∙ ap (λ e. e >>= λ count. plains from k count >>= λ vs. spot x r dst >>= λ d. words_at x r d >>= λ into. word_number (place_in d) >>= λ j. all_replaced into j vs >>= with_words_at x r d >>= λ m. Found (next m)) a6

@@ -1,8 +1,16 @@
 -- Operations and comparisons.
 use Rattle.std.proofs.Common.{◌≡◌, ℕ, suc, ℤ, pos, ◌+◌, ◌<◌, ◌+ℤ◌, ◌-ℤ◌, ◌*ℤ◌, Bool, true, false, [], ◌∷◌, Some, None, refl, sym, ap, ◌∙◌, subst, arith, if◌then◌else◌}
-use Rattle.std.specs.Prelude.{slice_get, slice_set, int_lt}
+use Rattle.std.specs.Prelude.{Ok, cond, slice_get, slice_set, int_lt}
 use Rattle.std.specs.Int.{int_wrap, w32}
 use Rattle.std.specs.Ordering.{int_eq}
+use Rattle.std.specs.Ordering.{is_lt}
+use Rattle.std.specs.declared.cmp.Ordering.TheVariants as order
+use Rattle.limbo_values.specs.declared.number.Kind.TheVariants.{Int}
+use Rattle.limbo_values.specs.declared.operator.Operator as operators
+use Rattle.limbo_values.specs.declared.operator.Operator.TheVariants as operator
+use Rattle.limbo_values.specs.declared.operator.Comparison as values
+use Rattle.limbo_values.specs.declared.operator.Comparison.TheVariants as value
+use Rattle.limbo_values.specs.Operators as compare
 use Rattle.dis_isa.specs.declared.inst.Inst as code_inst
 use Rattle.dis_isa.specs.declared.inst.Middle.TheVariants as middle
 use Rattle.dis_isa.specs.declared.inst.Operand.TheVariants as operand
@@ -54,6 +62,26 @@ test_of _ = int_eq
 abbrev op_of : Operator → Op
 op_of Less = op.Bltw
 op_of _ = op.Beqw
+
+-- The machine's operator and comparison.
+abbrev comparison_of : Operator → values.Comparison
+comparison_of Less = value.Less
+comparison_of _ = value.Equal
+
+less_is : (a b : ℤ) → compare.compared value.Less a b ≡ int_lt a b
+less_is a b = go (int_lt a b) (int_lt b a)
+  where
+    go : (less more : Bool) → is_lt (cond less order.Less (cond more order.Greater order.Equal)) ≡ less
+    go true more = refl
+    go false true = refl
+    go false false = refl
+
+test_is : (o : Operator) (a b : ℤ) → compare.compared (comparison_of o) a b ≡ test_of o a b
+test_is Less a b = less_is a b
+test_is Equal a b = refl
+test_is Add a b = refl
+test_is Subtract a b = refl
+test_is Multiply a b = refl
 
 truth_word : (b : Bool) → word_of (truth b) ≡ Plain (if b then pos 1 else pos 0)
 truth_word true = refl
@@ -125,17 +153,18 @@ module _ (m : Module) (proper : IsProper m) (k : Known) (n : ℕ) (w : outside.W
     first_at offset i a e h = subst (λ c. slice_get (object_of m).insts c ≡ Some i) e h
 
     -- By an instruction of three operands.
-    arithmetic : (o : Operator) (into left right : ℕ) (oc : Op) (f : ℤ → ℤ → ℤ) (e : h.frame.inst ≡ core.Operate o into left right) → size (core.Operate o into left right) ≡ 1 →
+    arithmetic : (o : Operator) (into left right : ℕ) (oc : Op) (op' : operators.Operator) (f : ℤ → ℤ → ℤ) (e : h.frame.inst ≡ core.Operate o into left right) → size (core.Operate o into left right) ≡ 1 →
         IsInt J into → IsInt J left → IsInt J right → Runs J (suc p.frame.pc) →
         HasAt (object_of m).insts (place L p.frame.pc) (operation oc into left right) →
         word_of (result_of o (p.frame.slots left) (p.frame.slots right)) ≡ Plain (int_wrap w32 (f (number_of (p.frame.slots left)) (number_of (p.frame.slots right)))) →
-        dis_step.obey frames_limit (object_of m) x r (inst oc (slot right) (middle.Fp (slot_offset left)) (slot into)) oc ≡ dis_step.operates x r (inst oc (slot right) (middle.Fp (slot_offset left)) (slot into)) f →
+        ((a b : ℤ) → compare.applied Int op' a b ≡ Ok (int_wrap w32 (f a b))) →
+        dis_step.obey frames_limit (object_of m) x r (inst oc (slot right) (middle.Fp (slot_offset left)) (slot into)) oc ≡ dis_step.calculates x r (inst oc (slot right) (middle.Fp (slot_offset left)) (slot into)) Int op' →
         Goal m proper k n w x ws p r
-    arithmetic o into left right oc f e one ii il ir on has word is_op =
+    arithmetic o into left right oc op' f e one ii il ir on has word is_operator is_op =
         let v = result_of o (p.frame.slots left) (p.frame.slots right) in
         by_instruction m proper k n w x ws p r 0 b [] h _ _ (first_at 0 _ (place L p.frame.pc) (omega arith) has.0)
-        (is_op ∙ operated frames_limit (object_of m) x r (inst oc (slot right) (middle.Fp (slot_offset left)) (slot into)) f (number_of (p.frame.slots right)) (number_of (p.frame.slots left)) (Own (slot_offset into)) _
-        (slot_number m proper k n w x ws p r 0 b [] h right ir) (slot_middle m proper k n w x ws p r 0 b [] h left (slot into) il) refl
+        (is_op ∙ operated frames_limit (object_of m) x r (inst oc (slot right) (middle.Fp (slot_offset left)) (slot into)) op' (number_of (p.frame.slots right)) (number_of (p.frame.slots left)) (int_wrap w32 (f (number_of (p.frame.slots left)) (number_of (p.frame.slots right)))) (Own (slot_offset into)) _
+        (slot_number m proper k n w x ws p r 0 b [] h right ir) (slot_middle m proper k n w x ws p r 0 b [] h left (slot into) il) refl (is_operator _ _)
         (ap (store x r (Own (slot_offset into))) (sym word) ∙ slot_stored J p.frame.slots b r.frame.words h.frame.has x r into (word_of v) refl ii (word_plain v)))
         (wrote 0 b h (core.Operate o into left right) e one into v ii on refl)
 
@@ -158,9 +187,9 @@ module _ (m : Module) (proper : IsProper m) (k : Known) (n : ℕ) (w : outside.W
       where
         by_operator : (o : Operator) → h.frame.inst ≡ core.Operate o into left right → HasAt (object_of m).insts (place L p.frame.pc) (operate J.slots (place L p.frame.pc) o into left right) →
             IsInt J into × IsInt J left × IsInt J right × Runs J (suc p.frame.pc) → Goal m proper k n w x ws p r
-        by_operator Add e has pr = arithmetic Add into left right op.Addw (λ m s. m +ℤ s) e refl pr.0 pr.1 pr.2 pr.3 has (sum_word (p.frame.slots left) (p.frame.slots right)) refl
-        by_operator Subtract e has pr = arithmetic Subtract into left right op.Subw (λ m s. m -ℤ s) e refl pr.0 pr.1 pr.2 pr.3 has (difference_word (p.frame.slots left) (p.frame.slots right)) refl
-        by_operator Multiply e has pr = arithmetic Multiply into left right op.Mulw (λ m s. m *ℤ s) e refl pr.0 pr.1 pr.2 pr.3 has (product_word (p.frame.slots left) (p.frame.slots right)) refl
+        by_operator Add e has pr = arithmetic Add into left right op.Addw operator.Add (λ m s. m +ℤ s) e refl pr.0 pr.1 pr.2 pr.3 has (sum_word (p.frame.slots left) (p.frame.slots right)) (λ a b. refl) refl
+        by_operator Subtract e has pr = arithmetic Subtract into left right op.Subw operator.Subtract (λ m s. m -ℤ s) e refl pr.0 pr.1 pr.2 pr.3 has (difference_word (p.frame.slots left) (p.frame.slots right)) (λ a b. refl) refl
+        by_operator Multiply e has pr = arithmetic Multiply into left right op.Mulw operator.Multiply (λ m s. m *ℤ s) e refl pr.0 pr.1 pr.2 pr.3 has (product_word (p.frame.slots left) (p.frame.slots right)) (λ a b. refl) refl
         by_operator Less e has pr = compare_begins Less into left right op.Bltw e tt refl has
         by_operator Equal e has pr = compare_begins Equal into left right op.Beqw e tt refl has
 
@@ -250,11 +279,12 @@ module _ (m : Module) (proper : IsProper m) (k : Known) (n : ℕ) (w : outside.W
         let at : suc (place M p.frame.pc) ≡ offset + place M p.frame.pc = omega (arith, off) in
         by_instruction m proper k n w x ws p r offset b [] h (inst (op_of o) (slot left) (middle.Fp (slot_offset right)) (operand.Imm (pos (place M p.frame.pc + 3)))) _ (subst (λ a. slice_get (object_of m).insts a ≡ Some (inst (op_of o) (slot left) (middle.Fp (slot_offset right)) (operand.Imm (pos (place M p.frame.pc + 3))))) at stands_there.1.0)
         (is_test o is (inst (op_of o) (slot left) (middle.Fp (slot_offset right)) (operand.Imm (pos (place M p.frame.pc + 3))))
-        ∙ tested frames_limit (object_of m) x r (inst (op_of o) (slot left) (middle.Fp (slot_offset right)) (operand.Imm (pos (place M p.frame.pc + 3)))) (test_of o) (number_of (p.frame.slots left)) (number_of (p.frame.slots right)) (place M p.frame.pc + 3)
-        (slot_number m proper k n w x ws p r offset b [] h left ints.1) (slot_middle m proper k n w x ws p r offset b [] h right (operand.Imm (pos (place M p.frame.pc + 3))) ints.2) last_target)
+        ∙ tested frames_limit (object_of m) x r (inst (op_of o) (slot left) (middle.Fp (slot_offset right)) (operand.Imm (pos (place M p.frame.pc + 3)))) (comparison_of o) (number_of (p.frame.slots left)) (number_of (p.frame.slots right)) (place M p.frame.pc + 3)
+        (slot_number m proper k n w x ws p r offset b [] h left ints.1) (slot_middle m proper k n w x ws p r offset b [] h right (operand.Imm (pos (place M p.frame.pc + 3))) ints.2) last_target
+        ∙ ap (λ t. Found (dis_step.branch x r t (place M p.frame.pc + 3))) (test_is o (number_of (p.frame.slots left)) (number_of (p.frame.slots right))))
         (by_test (test_of o (number_of (p.frame.slots left)) (number_of (p.frame.slots right))) refl)
       where
-        is_test : (o : Operator) → IsComparison o → (j : code_inst.Inst) → dis_step.obey frames_limit (object_of m) x r j (op_of o) ≡ dis_step.tests (object_of m) x r j (test_of o)
+        is_test : (o : Operator) → IsComparison o → (j : code_inst.Inst) → dis_step.obey frames_limit (object_of m) x r j (op_of o) ≡ dis_step.branches (object_of m) x r j Int (comparison_of o)
         is_test Less c j = refl
         is_test Equal c j = refl
         is_test Add c j = absurd c

@@ -20,11 +20,13 @@ use Rattle.core_code.specs.Machine as machine
 use Rattle.core_code.specs.Machine.{Slots, put}
 use Rattle.core_code.specs.Step as core_step
 use Rattle.core_code.specs.Proper.{IsInt, Runs, ProperInst, IsProper}
+use Rattle.limbo_values.specs.declared.number.Kind.TheVariants.{Int}
+use Rattle.limbo_values.specs.declared.operator.Comparison.TheVariants.{Equal}
 use Rattle.dis_meaning.specs.Words.{Word, Plain, Found, Wrong, ◌>>=◌, number_in, plain, bad_jump}
 use Rattle.dis_meaning.specs.World.{World}
 use Rattle.dis_meaning.specs.Process as dis
 use Rattle.dis_meaning.specs.Process.{Frame, Process, with_words, with_frames}
-use Rattle.dis_meaning.specs.Places.{Own, source_number, source_plain, middle_number}
+use Rattle.dis_meaning.specs.Places.{Own, source_of, source_plain, middle_of}
 use Rattle.dis_meaning.specs.Step as dis_step
 use Rattle.dis_meaning.specs.Step.{word_of, target}
 use Rattle.dis_tables.specs.Code.{operation_size, size, slot, slot_offset, fits_source, number_source, Context, place, to_place, inst, inst_code}
@@ -120,10 +122,10 @@ module _ (m : Module) (proper : IsProper m) (k : Known) (n : ℕ) (w : outside.W
     pub slot_source : (s : ℕ) → IsInt F s → source_plain x r (slot s) ≡ Found (word_of (p.frame.slots s))
     slot_source s i = ap (λ a. a >>= plain) (slot_at F p.frame.slots b r.frame.words h.frame.has s i) ∙ plain_is (word_of (p.frame.slots s)) (word_plain (p.frame.slots s))
 
-    pub slot_number : (s : ℕ) → IsInt F s → source_number x r (slot s) ≡ Found (number_of (p.frame.slots s))
+    pub slot_number : (s : ℕ) → IsInt F s → source_of Int x r (slot s) ≡ Found (number_of (p.frame.slots s))
     slot_number s i = ap (λ a. a >>= number_in) (slot_at F p.frame.slots b r.frame.words h.frame.has s i) ∙ number_word_of (p.frame.slots s)
 
-    pub slot_middle : (s : ℕ) (dst : Operand) → IsInt F s → middle_number x r (middle.Fp (slot_offset s)) dst ≡ Found (number_of (p.frame.slots s))
+    pub slot_middle : (s : ℕ) (dst : Operand) → IsInt F s → middle_of Int x r (middle.Fp (slot_offset s)) dst ≡ Found (number_of (p.frame.slots s))
     slot_middle s dst i = ap (λ a. a >>= number_in) (slot_at F p.frame.slots b r.frame.words h.frame.has s i) ∙ number_word_of (p.frame.slots s)
 
   module _ (b : Word) (h : Running m k p r 0 b []) where
@@ -230,5 +232,5 @@ module _ (m : Module) (proper : IsProper m) (k : Known) (n : ℕ) (w : outside.W
         let cd = coded_as (core.Unless c j) e in
         let pr = proper_as (core.Unless c j) e in
         by_instruction 0 b [] h _ _ (at_begin _ cd.code.0)
-        (tested frames_limit (object_of m) x r (inst op.Beqw (slot c) (middle.Imm (pos 0)) (to_place C (suc p.frame.pc + j))) int_eq (number_of (p.frame.slots c)) (pos 0) (place C (suc p.frame.pc + j)) (slot_number 0 b [] h c pr.0) refl (in_code (suc p.frame.pc + j) pr.2))
+        (tested frames_limit (object_of m) x r (inst op.Beqw (slot c) (middle.Imm (pos 0)) (to_place C (suc p.frame.pc + j))) Equal (number_of (p.frame.slots c)) (pos 0) (place C (suc p.frame.pc + j)) (slot_number 0 b [] h c pr.0) refl (in_code (suc p.frame.pc + j) pr.2))
         (zero_test (p.frame.slots c) 0 c j e refl pr.1 pr.2)

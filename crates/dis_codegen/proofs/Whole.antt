@@ -1,5 +1,5 @@
 -- What the law asks.
-use Rattle.std.proofs.Common.{◌≡◌, ℕ, zero, suc, ◌+◌, ◌-◌, ◌<◌, ◌≤◌, Bool, true, false, List, [], ◌∷◌, ◌++◌, map, Option, Some, None, refl, sym, ◌∙◌, arith, rules, tests, codes, if◌then◌else◌}
+use Rattle.std.proofs.Common.{◌≡◌, ℕ, zero, suc, ◌+◌, ◌-◌, ◌<◌, ◌≤◌, Bool, true, false, List, [], ◌∷◌, ◌++◌, map, Option, Some, None, refl, arith, rules, tests, codes, if◌then◌else◌}
 use Rattle.std.specs.Prelude.{nat_lt}
 use Rattle.process_model.specs.Process as doing
 use Rattle.process_model.specs.Process.{Doing}
@@ -17,7 +17,7 @@ use Rattle.dis_meaning.specs.Process.{Frame, Process}
 use Rattle.dis_tables.specs.Code.{operation_size, moved_size, size}
 use Rattle.dis_tables.specs.Objects.{find, entry_size, entry_length}
 use Rattle.dis_codegen.proofs.Runs.{as_known, up}
-use Rattle.dis_codegen.specs.Stands.{Known, Grows, Made, Entering, Running, Ready, enters, loads, leaves, begins, compares, fails, result, framed, moved, addressed, formats, formatted, passed, prints, returns, Asking, code_and_object, sides}
+use Rattle.dis_codegen.specs.Stands.{Known, Grows, Made, Entering, Ready, enters, loads, leaves, begins, compares, fails, result, framed, moved, addressed, formats, formatted, passed, prints, returns, Asking, code_and_object, sides}
 use Rattle.dis_codegen.specs.Paces.{all_sizes, within, far, place}
 use Rattle.dis_codegen.proofs.Follows.{goes, answers_alike}
 

@@ -1,5 +1,5 @@
 -- What holds of the object of every proper module.
-use Rattle.std.specs.Prelude.{ℕ, suc, ◌≡◌, ◌<◌, ◌≤◌, ◌*◌, Bool, false, [], ◌∷◌, length, Some, slice_get}
+use Rattle.std.specs.Prelude.{ℕ, suc, ◌≡◌, ◌<◌, ◌≤◌, ◌*◌, false, [], ◌∷◌, length, Some, slice_get}
 use Rattle.process_model.specs.Process.{Ends}
 use Rattle.process_model.specs.Follows.{Follows}
 use Rattle.system_model.specs.World as outside

@@ -4,7 +4,7 @@ use Rattle.std.specs.Prelude.{slice_get, reverse, nat_eq}
 use Rattle.std.proofs.lemmas.Bool.{eqb-true}
 use Rattle.system_model.specs.Prints as prints
 use Rattle.system_model.specs.World as outside
-use Rattle.dis_meaning.specs.Words.{Place, InBlock, InFrame, Word, Access, Found, Wrong, ◌>>=◌, dead_address, stored}
+use Rattle.dis_meaning.specs.Words.{Place, InBlock, InFrame, Word, Access, Found, Wrong, Raises, ◌>>=◌, dead_address, stored}
 use Rattle.dis_meaning.specs.World.{World}
 use Rattle.dis_meaning.specs.Process.{Frame, Process, Does, with_words, with_frames}
 use Rattle.dis_meaning.specs.Places.{Spot, Far, Memory, words_in, all_frames, change, data_at, with_data, with_frame_words, store, place_in}
@@ -88,16 +88,19 @@ store_left x p s (InBlock n) at w ne = go (data_at x n)
     last : (a : Access World) → (a >>= (λ y. Found (record { world = y; process = discarded p s })) >>= λ m. Found (next m)) ≡ (a >>= (λ y. Found (record { world = y; process = p })) >>= λ m. Found (goes_without s m))
     last (Found y) = refl
     last (Wrong k) = refl
+    last (Raises text) = refl
 
     put : (a : Access (List Word)) → (a >>= (λ ws. with_data x n ws >>= λ y. Found (record { world = y; process = discarded p s })) >>= λ m. Found (next m)) ≡
         (a >>= (λ ws. with_data x n ws >>= λ y. Found (record { world = y; process = p })) >>= λ m. Found (goes_without s m))
     put (Found ws) = last (with_data x n ws)
     put (Wrong k) = refl
+    put (Raises text) = refl
 
     go : (a : Access (List Word)) → (a >>= (λ words. stored words at w >>= λ ws. with_data x n ws >>= λ y. Found (record { world = y; process = discarded p s })) >>= λ m. Found (next m)) ≡
         (a >>= (λ words. stored words at w >>= λ ws. with_data x n ws >>= λ y. Found (record { world = y; process = p })) >>= λ m. Found (goes_without s m))
     go (Found words) = put (stored words at w)
     go (Wrong k) = refl
+    go (Raises text) = refl
 store_left x p s (InFrame t) at w ne =
     ap (λ a. a >>= (λ words. stored words at w >>= λ ws. Found (changed p' ws)) >>= λ m. Found (next m)) (words_behind t (p.frame ∷ p.below) (without s p.made) p.made (words_left s t ne p.made))
     ∙ go (words_in t (all_frames p))
@@ -111,10 +114,12 @@ store_left x p s (InFrame t) at w ne =
     put : (a : Access (List Word)) → (a >>= (λ ws. Found (changed p' ws)) >>= λ m. Found (next m)) ≡ (a >>= (λ ws. Found (changed p ws)) >>= λ m. Found (goes_without s m))
     put (Found ws) = ap (λ made. Found (next (record { world = x; process = with_frames p (change t ws p.frame) (map (change t ws) p.below) made }))) (change_left s t ws p.made)
     put (Wrong k) = refl
+    put (Raises text) = refl
 
     go : (a : Access (List Word)) → (a >>= (λ words. stored words at w >>= λ ws. Found (changed p' ws)) >>= λ m. Found (next m)) ≡ (a >>= (λ words. stored words at w >>= λ ws. Found (changed p ws)) >>= λ m. Found (goes_without s m))
     go (Found words) = put (stored words at w)
     go (Wrong k) = refl
+    go (Raises text) = refl
 
 -- ---- a store in the frame that is gone
 
@@ -142,16 +147,19 @@ planned_first x p f = go (printed x f.words)
         (a >>= (λ place. Found (record { place = place; at = place_in s; printing = prints.print x.outside text })) >>= carried_out x (discarded p f.serial))
     at_place text s (Found place) = refl
     at_place text s (Wrong n) = refl
+    at_place text s (Raises raised) = refl
 
     to : (text : List ℕ) (a : Access Spot) → (a >>= λ s. place_of s >>= λ place. prints x (discarded p f.serial) place (place_in s) (prints.print x.outside text)) ≡
         (a >>= (λ s. place_of s >>= λ place. Found (record { place = place; at = place_in s; printing = prints.print x.outside text })) >>= carried_out x (discarded p f.serial))
     to text (Found s) = at_place text s (place_of s)
     to text (Wrong n) = refl
+    to text (Raises raised) = refl
 
     go : (a : Access (List ℕ)) → (a >>= λ text. answer_spot f.words >>= λ s. place_of s >>= λ place. prints x (discarded p f.serial) place (place_in s) (prints.print x.outside text)) ≡
         (a >>= (λ text. answer_spot f.words >>= λ s. place_of s >>= λ place. Found (record { place = place; at = place_in s; printing = prints.print x.outside text })) >>= carried_out x (discarded p f.serial))
     go (Found text) = to text (answer_spot f.words)
     go (Wrong n) = refl
+    go (Raises text) = refl
 
 -- A print answers or asks.
 pub is_print : (w : outside.World) (text : List ℕ) (g : code_printing.Printing) → view_printing g ≡ prints.print w text → IsPrint g
@@ -165,6 +173,7 @@ is_print w (c ∷ cs) printing.NoReply e = absurd cc
 pub halts_then : {S T : Type 0} (h : Halt) (a : Access S) (f : S → Access T) → Halts h a → Halts h (a >>= f)
 halts_then halt.NoMemory a f h = tt
 halts_then (halt.Fault n) a f h = ap (λ a. a >>= f) h
+halts_then (halt.Raises raised) a f h = ap (λ a. a >>= f) h
 
 pub frame_is : (p : code_proc.Proc) (k : ℕ) (f : Frame) (g : code_frame.Frame) → k < length p.made.items → g ≡ get_or p.made.items k g → slice_get (view_frames p.made.items) k ≡ Some f → f ≡ view_frame g
 frame_is p k f g lt is there = let same : Some f ≡ Some (view_frame g) = sym there ∙ seen view_frame p.made.items k g lt is in cc

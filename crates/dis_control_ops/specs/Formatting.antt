@@ -13,3 +13,4 @@ AddsVerb (Err halt.NoMemory) old new c args = Unit {0}
 AddsVerb (Err (halt.Fault fault.TypeCheck)) old new c args = (rest : List ℤ → Option (List ℕ)) → verb c args rest ≡ None
 AddsVerb (Err (halt.Fault fault.BadJump)) old new c args = ⊥
 AddsVerb (Err (halt.Fault fault.DeadAddress)) old new c args = ⊥
+AddsVerb (Err (halt.Raises raised)) old new c args = ⊥

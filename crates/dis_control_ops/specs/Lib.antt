@@ -3,3 +3,4 @@ pub mod Plans
 pub mod Loading
 pub mod Outcomes
 pub mod Formatting
+pub mod Table

@@ -1,6 +1,8 @@
 -- What an instruction and a reply come to, as the definitions have it.
 use Rattle.std.specs.Prelude.{◌≡◌, ℕ, List, [], Bool, true, false, Option, Some, None, Result, Ok, Err, slice_get}
 use Rattle.dis_file.specs.declared.object.Object.{Object}
+use Rattle.limbo_values.specs.declared.raised.Raised.{Raised}
+use Rattle.limbo_values.specs.Operators.{text_of}
 use Rattle.system_model.specs.Ending.{Ended, Broken, Faulted}
 use Rattle.dis_meaning.specs.Words.{Access, ◌>>=◌, type_check, or_wrong}
 use Rattle.dis_meaning.specs.Step.{object_of, work}
@@ -107,13 +109,20 @@ does_told (does.Asked m) = stepped.Asked m
 does_told does.Ended = stepped.Ended
 does_told (does.Broken text) = stepped.Broken text
 
-abbrev pub halt_told : Halt → Stepped
-halt_told halt.NoMemory = stepped.NoMemory
-halt_told (halt.Fault f) = stepped.Fault f
+-- A raise breaks the process, with its text, unless memory runs out.
+abbrev pub Breaks : Raised → Stepped → Type 0
+Breaks raised (stepped.Broken text) = text ≡ text_of raised
+Breaks raised stepped.NoMemory = Unit {0}
+Breaks raised _ = ⊥
 
-abbrev pub stepped_of : Result code_does.Does Halt → Stepped
-stepped_of (Ok d) = does_told d
-stepped_of (Err h) = halt_told h
+abbrev pub TellsHalt : Halt → Stepped → Type 0
+TellsHalt halt.NoMemory told = told ≡ stepped.NoMemory
+TellsHalt (halt.Fault f) told = told ≡ stepped.Fault f
+TellsHalt (halt.Raises raised) told = Breaks raised told
+
+abbrev pub Tells : Result code_does.Does Halt → Stepped → Type 0
+Tells (Ok d) told = told ≡ does_told d
+Tells (Err h) told = TellsHalt h told
 
 -- The object whose code a process runs.
 abbrev pub running : List Object → World → Process → Access Object

@@ -2,6 +2,7 @@
 
 ghost use Rattle.std.specs.Prelude.{◌≡◌, ℕ, ◌+◌, ◌<◌, ◌^◌, length, codes, IfOk, OnOk, OnErr, IfErr, Some, slice_get, vec_len, vec_capacity};
 ghost use Rattle.process_model.specs.Process.{Went};
+ghost use Rattle.limbo_values.specs.declared.number.Kind.TheVariants as kind;
 ghost use Rattle.dis_isa.specs.declared.op.Op.TheVariants as op;
 ghost use Rattle.dis_meaning.specs.Words as words;
 ghost use Rattle.dis_meaning.specs.World.{World};
@@ -14,12 +15,14 @@ ghost use Rattle.dis_control_ops.specs.Outcomes.{effect_of, ends, Stays, Kept, D
 
 use crate::outcome::Does;
 use dis_data_ops::{
-    Fault, Halt, Place, Proc, Store, Word, advance, at_least_zero, blank, block, given_number,
-    position, source_number, source_word, spot_of, words_in, write,
+    Fault, Halt, Place, Proc, Store, Word, advance, at_least_zero, block, given_int, position,
+    source_int, source_word, words_in,
 };
 use dis_file::Object;
 use dis_isa::{Inst, Operand};
+use dis_number_ops::{given_of, source_of};
 use inf_text::Text;
+use limbo_values::{Comparison, Kind, compare};
 use std::alloc::{AllocError, Global};
 use std::mem;
 
@@ -54,7 +57,9 @@ fn jump_to(proc: &mut Proc, pc: usize)
     ensures { (x : World) → meaning.jumps x (view_process proc.old) pc ≡ Went x (view_process proc.new) }
 {
     proc.frame.pc = pc;
-    proc.printing = None;
+    if proc.printing.is_some() {
+        proc.printing = None;
+    }
 }
 
 // It goes on there, or with the next instruction.
@@ -80,42 +85,67 @@ pub(crate) fn jump(object: &Object, proc: &mut Proc, inst: Inst) -> Result<(), H
     Ok(())
 }
 
-/// `beqw`: where the source is the middle.
-pub(crate) fn branch_equal(
+// Ints, which most programs compare, by themselves.
+#[inline(always)]
+fn branch_ints(
     object: &Object,
     store: &Store,
     proc: &mut Proc,
+    comparison: Comparison,
     inst: Inst,
 ) -> Result<(), Halt>
     requires { proc.old.frame.pc + 1 < 2 ^ 64 }
-    ensures gives { (limit : ℕ) → Gives (λ _. Went (view_world store.now) (view_process proc.new)) result
-        (meaning.obey limit object.now (view_world store.now) (view_process proc.old) inst op.Beqw) }
+    ensures gives { Gives (λ _. Went (view_world store.now) (view_process proc.new)) result
+        (meaning.branches object.now (view_world store.now) (view_process proc.old) inst kind.Int comparison) }
     ensures kept { OnErr result (view_process proc.new ≡ view_process proc.old) }
 {
-    let left = source_number(store, proc, inst.src)?;
-    let right = given_number(store, proc, inst.middle)?;
+    let left = source_int(store, proc, inst.src)?;
+    let right = given_int(store, proc, inst.middle)?;
     let pc = target(object, inst.dst)?;
-    branch(proc, left == right, pc);
+    branch(proc, comparison.is_met(left.cmp(&right)), pc);
     Ok(())
 }
 
-/// `bltw`: where the source is less than the middle.
-pub(crate) fn branch_less(
+fn branch_numbers(
     object: &Object,
     store: &Store,
     proc: &mut Proc,
+    kind: Kind,
+    comparison: Comparison,
     inst: Inst,
 ) -> Result<(), Halt>
     requires { proc.old.frame.pc + 1 < 2 ^ 64 }
-    ensures gives { (limit : ℕ) → Gives (λ _. Went (view_world store.now) (view_process proc.new)) result
-        (meaning.obey limit object.now (view_world store.now) (view_process proc.old) inst op.Bltw) }
+    ensures gives { Gives (λ _. Went (view_world store.now) (view_process proc.new)) result
+        (meaning.branches object.now (view_world store.now) (view_process proc.old) inst kind comparison) }
     ensures kept { OnErr result (view_process proc.new ≡ view_process proc.old) }
 {
-    let left = source_number(store, proc, inst.src)?;
-    let right = given_number(store, proc, inst.middle)?;
+    let left = source_of(store, proc, kind, inst.src)?;
+    let right = given_of(store, proc, kind, inst.middle)?;
     let pc = target(object, inst.dst)?;
-    branch(proc, left < right, pc);
+    branch(proc, compare(comparison, left, right), pc);
     Ok(())
+}
+
+/// A branch: where the source stands so to the middle.
+#[inline(always)]
+pub(crate) fn branch_where(
+    object: &Object,
+    store: &Store,
+    proc: &mut Proc,
+    kind: Kind,
+    comparison: Comparison,
+    inst: Inst,
+) -> Result<(), Halt>
+    requires { proc.old.frame.pc + 1 < 2 ^ 64 }
+    ensures gives { Gives (λ _. Went (view_world store.now) (view_process proc.new)) result
+        (meaning.branches object.now (view_world store.now) (view_process proc.old) inst kind comparison) }
+    ensures kept { OnErr result (view_process proc.new ≡ view_process proc.old) }
+{
+    match kind {
+        Kind::Int => branch_ints(object, store, proc, comparison, inst),
+        Kind::Byte => branch_numbers(object, store, proc, kind, comparison, inst),
+        Kind::Big => branch_numbers(object, store, proc, kind, comparison, inst),
+    }
 }
 
 /// `ret`: the frame goes, and the frame below goes on. The first function's return ends the process.

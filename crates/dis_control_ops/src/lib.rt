@@ -2,15 +2,16 @@
 //!
 //! `step` runs the instruction at a process's place in place: it changes the process and the store that all processes share, and says
 //! what it came to; `answer` does what a reply to a print does. The contract of each is the definition of its name: `view_process` and
-//! `view_world` of dis_data_ops join the data to those of the definitions. An instruction that faults, or is refused memory, changes
-//! nothing.
+//! `view_world` of dis_data_ops join the data to those of the definitions. An instruction that faults, raises an exception
+//! or is refused memory changes nothing; a raise breaks the process.
 //!
-//! dis_data_ops has words, frames, blocks, and the instructions on data. Here, in the order of reading: `outcome` (what an instruction
-//! came to); `control` (jumps, calls and returns), `making` (frames that are made), `formats`, `texts` and `printing` (a call of
-//! print), `sys` (modules); `steps` and `replies`. The machine stands on it.
+//! dis_data_ops has words, frames, blocks and moves, and dis_number_ops the instructions on numbers. Here, in the order of reading:
+//! `outcome` (what an instruction came to); `control` (jumps, branches, calls and returns), `making` (frames that are made), `formats`,
+//! `texts` and `printing` (a call of print), `sys` (modules); `table` (the operations on numbers); `steps` and `replies`. The machine
+//! stands on it.
 //!
 //! In `proofs/`, `Made` has frames that are made by their serials, `Calling` and `Discarding` frames that are called and that go,
-//! `Telling` what is told.
+//! `Telling` what is told, `Rowed` instructions by their rows.
 #![tactic(auto)]
 
 mod control;
@@ -21,6 +22,7 @@ mod printing;
 mod replies;
 mod steps;
 mod sys;
+mod table;
 mod texts;
 
 pub use outcome::{Heard, Stepped};

@@ -1,27 +1,30 @@
 //! One instruction of a process.
 
-ghost use Rattle.std.specs.Prelude.{◌≡◌, ◌+◌, ◌<◌, ◌^◌, Option, slice_get, OnOk};
+ghost use Rattle.std.specs.Prelude.{◌≡◌, ◌+◌, ◌<◌, ◌^◌, Option, slice_get, IfSome, IfOk, OnOk};
+ghost use Rattle.limbo_values.specs.Operators.{text_of};
 ghost use Rattle.dis_meaning.specs.Words as words;
 ghost use Rattle.dis_meaning.specs.Given.{HasGiven};
 ghost use Rattle.dis_meaning.specs.Step as meaning;
 ghost use Rattle.dis_data_ops.specs.declared.process.Asking.{Asking};
 ghost use Rattle.dis_data_ops.specs.Words.{Gives, GivesFault};
 ghost use Rattle.dis_data_ops.specs.View.{view_content, view_world, view_process, codes_of};
-ghost use Rattle.dis_control_ops.specs.Outcomes.{effect_of, went_of, does_told, halt_told, stepped_of, running};
+ghost use Rattle.dis_control_ops.specs.Outcomes.{effect_of, went_of, does_told, Breaks, TellsHalt, Tells, running};
+ghost use Rattle.dis_control_ops.specs.Table.{view_row, IsRowAt};
 ghost use Rattle.dis_control_ops.specs.Outcomes.{worked, Kept, Steps, stays_after, Stays, Sends, Sent};
 
-use crate::control::{branch_equal, branch_less, call, give_back, jump};
+use crate::control::{call, give_back, jump};
 use crate::making::make_frame;
 use crate::outcome::{Does, Stepped};
 use crate::sys::{call_module, load};
+use crate::table::{Row, number_row, obey_number, obey_row};
 use dis_data_ops::{
-    Content, Fault, Halt, Proc, Store, add, block, load_address, move_reference, move_word,
-    move_words, multiply, subtract,
+    Content, Fault, Halt, Proc, Store, block, load_address, move_reference, move_word, move_words,
 };
 use dis_file::Object;
 use dis_isa::{Inst, Op};
 use inf_text::Text;
-use std::alloc::Global;
+use limbo_values::Raised;
+use std::alloc::{AllocError, Global};
 
 fn object_of(content: &Content) -> Result<usize, Fault>
     ensures { GivesFault (λ n. n) result (meaning.object_of (view_content content.now)) }
@@ -100,19 +103,13 @@ fn obey(
         Op::Movp => went(move_reference(store, proc, inst)),
         Op::Movm => went(move_words(alloc, store, proc, inst)),
         Op::Lea => went(load_address(store, proc, inst)),
-        Op::Addw => went(add(store, proc, inst)),
-        Op::Subw => went(subtract(store, proc, inst)),
-        Op::Mulw => went(multiply(store, proc, inst)),
-        Op::Beqw => went(branch_equal(object, store, proc, inst)),
-        Op::Bltw => went(branch_less(object, store, proc, inst)),
         Op::Jmp => went(jump(object, proc, inst)),
         Op::Frame => went(make_frame(alloc, object, store, proc, inst)),
         Op::Call => call(alloc, limit, object, store, proc, inst),
         Op::Ret => Ok(give_back(proc)),
         Op::Load => went(load(alloc, object, store, proc, inst)),
         Op::Mcall => call_module(alloc, store, proc, inst),
-        // No other operation is in this part.
-        _ => Err(Halt::Fault(Fault::TypeCheck)),
+        _ => went(obey_number(object, store, proc, inst)),
     }
 }
 
@@ -146,23 +143,76 @@ fn told_does(does: Does) -> Stepped
     }
 }
 
-fn told_halt(halt: Halt) -> Stepped
-    ensures { result ≡ halt_told halt }
+// The text of an exception.
+fn exception(alloc: Global, raised: Raised) -> Result<Text, AllocError>
+    ensures { IfOk result (λ text. text ≡ text_of raised) }
+{
+    let chars: Vec<char> = raised.text().chars().collect(alloc)?;
+    Ok(Text::from_vec(chars))
+}
+
+// A process that raises an exception is broken, with its text.
+fn told_raise(alloc: Global, raised: Raised) -> Stepped
+    ensures { Breaks raised result }
+{
+    match exception(alloc, raised) {
+        Ok(text) => Stepped::Broken(text),
+        Err(_) => Stepped::NoMemory,
+    }
+}
+
+fn told_halt(alloc: Global, halt: Halt) -> Stepped
+    ensures { TellsHalt halt result }
 {
     match halt {
         Halt::NoMemory => Stepped::NoMemory,
         Halt::Fault(fault) => Stepped::Fault(fault),
+        Halt::Raises(raised) => told_raise(alloc, raised),
     }
 }
 
 // What it came to, as it is told.
-fn told(outcome: Result<Does, Halt>) -> Stepped
-    ensures told { result ≡ stepped_of outcome }
+fn told(alloc: Global, outcome: Result<Does, Halt>) -> Stepped
+    ensures told { Tells outcome result }
     ensures sent { (printing : Option Asking) → Sends outcome printing → Sent result printing }
 {
     match outcome {
         Ok(does) => told_does(does),
-        Err(halt) => told_halt(halt),
+        Err(halt) => told_halt(alloc, halt),
+    }
+}
+
+// What an instruction that always goes on came to, as it is told.
+#[inline(always)]
+fn told_went(alloc: Global, outcome: Result<(), Halt>) -> Stepped
+    ensures { Tells (went_of outcome) result }
+{
+    match outcome {
+        Ok(()) => Stepped::Went,
+        Err(halt) => told_halt(alloc, halt),
+    }
+}
+
+// The row of the instruction at the process's place, where it is one on numbers: most are.
+#[inline(always)]
+fn row_at<'a>(
+    objects: &'a [(Text, Object)],
+    store: &Store,
+    proc: &Proc,
+) -> Option<(&'a Object, Inst, Row)>
+    ensures row { IfSome result (λ found. IsRowAt (codes_of objects.now) (view_world store.now) (view_process proc.now)
+        found.0.now found.1 (view_row found.2)) }
+    ensures within { IfSome result (λ found. proc.now.frame.pc + 1 < 2 ^ 64) }
+{
+    let Ok(object) = code_of(objects, store, proc) else {
+        return None;
+    };
+    let Ok(inst) = inst_at(object, proc.frame.pc) else {
+        return None;
+    };
+    match number_row(inst.op) {
+        Some(row) => Some((object, inst, row)),
+        None => None,
     }
 }
 
@@ -181,7 +231,10 @@ fn obey_next(
         (view_world store.new) (view_process proc.new) }
     ensures sent { Sent result proc.new.printing }
 {
-    told(run(alloc, limit, objects, store, proc))
+    match row_at(objects, store, proc) {
+        Some((object, inst, row)) => told_went(alloc, obey_row(object, store, proc, inst, row)),
+        None => told(alloc, run(alloc, limit, objects, store, proc)),
+    }
 }
 
 /// One instruction of a process, where at most `limit` frames may be called. Where it neither goes on nor asks, nothing is changed.

@@ -4,7 +4,7 @@ use Rattle.std.specs.Prelude.{slice_get, slice_set, reverse}
 use Rattle.std.specs.Option.{option_map}
 use Rattle.std.proofs.lemmas.List.{map-set, length-map}
 use Rattle.std.proofs.lemmas.Option.{slice_get-map, slice_get_read, slice_get_within}
-use Rattle.dis_meaning.specs.Words.{Word, Access, Found, Wrong, ◌>>=◌, dead_address}
+use Rattle.dis_meaning.specs.Words.{Word, Access, Found, Wrong, Raises, ◌>>=◌, dead_address}
 use Rattle.dis_meaning.specs.World.{Content, World, block, with_content}
 use Rattle.dis_meaning.specs.Process.{Frame, with_words, with_frames}
 use Rattle.dis_meaning.specs.Places.{words_in, all_frames, change, with_frame_words, data_of, renewed}
@@ -136,6 +136,7 @@ block_as_content x n c at vs e =
     go : (a : Access (List Word)) → (a >>= λ ws. Found (with_content x n (renewed ws c))) ≡ (a >>= (λ ws. Found (renewed ws c)) >>= λ c. Found (with_content x n c))
     go (Found ws) = refl
     go (Wrong m) = refl
+    go (Raises text) = refl
 
 pub set_itself : {A : Type 0} (xs : List A) (k : ℕ) (x : A) → slice_get xs k ≡ Some x → slice_set xs k x ≡ xs
 set_itself [] k x h = absurd cc

@@ -1,7 +1,8 @@
 -- Words of the program, as the definitions have them, and what a call gives that may meet a fault.
 use Rattle.std.specs.Prelude.{◌≡◌, ℕ, List, map, Result, Ok, Err}
 use Rattle.dis_meaning.specs.Words.{Place, InBlock, InFrame, Word, Plain, Refer, Address}
-use Rattle.dis_meaning.specs.Words.{Access, Found, Wrong, type_check, bad_jump, dead_address}
+use Rattle.dis_meaning.specs.Words.{Access, Found, Wrong, Raises, type_check, bad_jump, dead_address}
+use Rattle.limbo_values.specs.Operators.{text_of}
 use Rattle.dis_data_ops.specs.declared.word.Place as code_place
 use Rattle.dis_data_ops.specs.declared.word.Place.TheVariants as place
 use Rattle.dis_data_ops.specs.declared.word.Word as code_word
@@ -37,6 +38,7 @@ GivesFault see (Err f) access = access ≡ Wrong (number_of f)
 abbrev pub Halts : {T : Type 0} → Halt → Access T → Type 0
 Halts halt.NoMemory access = Unit {0}
 Halts (halt.Fault f) access = access ≡ Wrong (number_of f)
+Halts (halt.Raises raised) access = access ≡ Raises (text_of raised)
 
 abbrev pub Gives : {S T : Type 0} → (S → T) → Result S Halt → Access T → Type 0
 Gives see (Ok s) access = access ≡ Found (see s)

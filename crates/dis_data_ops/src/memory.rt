@@ -1,5 +1,7 @@
 ghost use Rattle.std.specs.Prelude.{◌≡◌, ◌<◌, length, slice_get, OnOk, OnErr, true};
+ghost use Rattle.limbo_values.specs.declared.number.Kind.TheVariants.{Int};
 ghost use Rattle.dis_meaning.specs.Words as meaning;
+ghost use Rattle.dis_meaning.specs.Numbers as numbers;
 ghost use Rattle.dis_meaning.specs.Step as step;
 ghost use Rattle.dis_data_ops.specs.Words.{view_word, view_words, GivesFault};
 ghost use Rattle.dis_data_ops.specs.Storing.{put_all, takes_all};
@@ -7,7 +9,7 @@ ghost use Rattle.dis_data_ops.specs.Storing.{put_all, takes_all};
 use crate::word::{Fault, Word};
 
 /// The number of the word at a byte: a byte inside a word is none.
-pub(crate) fn word_number(at: i64) -> Result<usize, Fault>
+pub fn word_number(at: i64) -> Result<usize, Fault>
     ensures { GivesFault (λ k. k) result (meaning.word_number at) }
 {
     if at < 0 || at % 4 != 0 {
@@ -18,7 +20,7 @@ pub(crate) fn word_number(at: i64) -> Result<usize, Fault>
 
 /// A number that isn't below 0.
 pub fn at_least_zero(n: i32) -> Result<u32, Fault>
-    ensures { GivesFault (λ n. n) result (step.at_least_zero n) }
+    ensures { GivesFault (λ n. n) result (meaning.at_least_zero n) }
 {
     match u32::try_from(n) {
         Ok(n) => Ok(n),
@@ -27,7 +29,7 @@ pub fn at_least_zero(n: i32) -> Result<u32, Fault>
 }
 
 /// The word of this number.
-pub(crate) fn nth(words: &[Word], k: usize) -> Result<Word, Fault>
+pub fn nth(words: &[Word], k: usize) -> Result<Word, Fault>
     ensures word { GivesFault view_word result (meaning.or_wrong meaning.type_check (slice_get (view_words words.now) k)) }
     ensures within { OnOk result (k < length words.now) }
 {
@@ -43,6 +45,26 @@ pub fn word_at(words: &[Word], at: i64) -> Result<Word, Fault>
 {
     let k = word_number(at)?;
     nth(words, k)
+}
+
+/// The number in a word, 0 where an address stands in it.
+pub fn number_in(word: Word) -> Result<i32, Fault>
+    ensures { GivesFault (λ n. n) result (meaning.number_in (view_word word)) }
+{
+    match word {
+        Word::Plain(n) => Ok(n),
+        Word::Address { .. } => Ok(0),
+        Word::Refer(_) => Err(Fault::TypeCheck),
+    }
+}
+
+/// The int at a byte.
+#[inline(always)]
+pub fn int_at(words: &[Word], at: i64) -> Result<i32, Fault>
+    ensures { GivesFault (λ n. n) result (numbers.number_at Int (view_words words.now) at) }
+{
+    let word = word_at(words, at)?;
+    number_in(word)
 }
 
 /// Whether a word takes another: one of its own kind alone.

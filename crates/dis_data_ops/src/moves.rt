@@ -1,7 +1,6 @@
-//! Moves of words, and arithmetic.
+//! Moves of words.
 
-ghost use Rattle.std.specs.Prelude.{◌≡◌, ℕ, ◌+◌, ◌<◌, ◌^◌, ◌+ℤ◌, ◌-ℤ◌, ◌*ℤ◌, OnErr};
-ghost use Rattle.std.specs.Int.{int_wrap, w32};
+ghost use Rattle.std.specs.Prelude.{◌≡◌, ℕ, ◌+◌, ◌<◌, ◌^◌, OnErr};
 ghost use Rattle.process_model.specs.Process.{Went};
 ghost use Rattle.dis_isa.specs.declared.op.Op.TheVariants as op;
 ghost use Rattle.dis_file.specs.declared.object.Object.{Object};
@@ -10,9 +9,7 @@ ghost use Rattle.dis_data_ops.specs.Words.{Gives};
 ghost use Rattle.dis_data_ops.specs.View.{view_process, view_world};
 
 use crate::process::Proc;
-use crate::spots::{
-    address, middle_number, read, reference, source_number, source_plain, source_word, spot_of,
-};
+use crate::spots::{address, read, reference, source_plain, source_word, spot_of};
 use crate::store::Store;
 use crate::storing::finish;
 use crate::word::{Halt, Word};
@@ -55,61 +52,4 @@ pub fn load_address(store: &mut Store, proc: &mut Proc, inst: Inst) -> Result<()
     let to = spot_of(store, proc, inst.dst)?;
     let word = address(proc, from);
     Ok(finish(store, proc, to, word)?)
-}
-
-fn sum(x: i32, y: i32) -> i32
-    ensures { result ≡ int_wrap w32 (x +ℤ y) }
-{
-    x.wrapping_add(y)
-}
-
-fn difference(x: i32, y: i32) -> i32
-    ensures { result ≡ int_wrap w32 (x -ℤ y) }
-{
-    x.wrapping_sub(y)
-}
-
-fn product(x: i32, y: i32) -> i32
-    ensures { result ≡ int_wrap w32 (x *ℤ y) }
-{
-    x.wrapping_mul(y)
-}
-
-/// `addw`: the source is added to the middle.
-pub fn add(store: &mut Store, proc: &mut Proc, inst: Inst) -> Result<(), Halt>
-    requires { proc.old.frame.pc + 1 < 2 ^ 64 }
-    ensures gives { (limit : ℕ) (o : Object) → Gives (λ _. Went (view_world store.new) (view_process proc.new)) result
-        (meaning.obey limit o (view_world store.old) (view_process proc.old) inst op.Addw) }
-    ensures kept { OnErr result ((view_world store.new ≡ view_world store.old) × (view_process proc.new ≡ view_process proc.old)) }
-{
-    let right = source_number(store, proc, inst.src)?;
-    let left = middle_number(store, proc, inst.middle, inst.dst)?;
-    let to = spot_of(store, proc, inst.dst)?;
-    Ok(finish(store, proc, to, Word::Plain(sum(left, right)))?)
-}
-
-/// `subw`: the source is subtracted from the middle.
-pub fn subtract(store: &mut Store, proc: &mut Proc, inst: Inst) -> Result<(), Halt>
-    requires { proc.old.frame.pc + 1 < 2 ^ 64 }
-    ensures gives { (limit : ℕ) (o : Object) → Gives (λ _. Went (view_world store.new) (view_process proc.new)) result
-        (meaning.obey limit o (view_world store.old) (view_process proc.old) inst op.Subw) }
-    ensures kept { OnErr result ((view_world store.new ≡ view_world store.old) × (view_process proc.new ≡ view_process proc.old)) }
-{
-    let right = source_number(store, proc, inst.src)?;
-    let left = middle_number(store, proc, inst.middle, inst.dst)?;
-    let to = spot_of(store, proc, inst.dst)?;
-    Ok(finish(store, proc, to, Word::Plain(difference(left, right)))?)
-}
-
-/// `mulw`: the middle by the source.
-pub fn multiply(store: &mut Store, proc: &mut Proc, inst: Inst) -> Result<(), Halt>
-    requires { proc.old.frame.pc + 1 < 2 ^ 64 }
-    ensures gives { (limit : ℕ) (o : Object) → Gives (λ _. Went (view_world store.new) (view_process proc.new)) result
-        (meaning.obey limit o (view_world store.old) (view_process proc.old) inst op.Mulw) }
-    ensures kept { OnErr result ((view_world store.new ≡ view_world store.old) × (view_process proc.new ≡ view_process proc.old)) }
-{
-    let right = source_number(store, proc, inst.src)?;
-    let left = middle_number(store, proc, inst.middle, inst.dst)?;
-    let to = spot_of(store, proc, inst.dst)?;
-    Ok(finish(store, proc, to, Word::Plain(product(left, right)))?)
 }

@@ -11,7 +11,7 @@ ghost use Rattle.dis_data_ops.specs.Rows.{row_at, row_moved};
 
 use crate::memory::{at_least_zero, nth, word_number};
 use crate::process::Proc;
-use crate::spots::{given_number, plain, spot_of, words_at};
+use crate::spots::{given_int, plain, spot_of, words_at};
 use crate::store::Store;
 use crate::storing::finish_row;
 use crate::word::{Halt, Word};
@@ -39,7 +39,7 @@ fn row_at(alloc: Global, store: &Store, proc: &Proc, inst: Inst) -> Result<Vec<W
     let from = spot_of(store, proc, inst.src)?;
     let words = words_at(store, proc, from)?;
     let first = word_number(from.byte())?;
-    let middle = given_number(store, proc, inst.middle)?;
+    let middle = given_int(store, proc, inst.middle)?;
     let bytes = at_least_zero(middle)?;
     let count = word_number(i64::from(bytes))?;
     plains(alloc, words, first, count)

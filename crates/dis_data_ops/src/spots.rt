@@ -1,6 +1,7 @@
 //! The words that operands name (Dis Virtual Machine Specification, "Operand formats").
 
 ghost use Rattle.std.specs.Prelude.{◌≡◌};
+ghost use Rattle.limbo_values.specs.declared.number.Kind.TheVariants.{Int};
 ghost use Rattle.dis_meaning.specs.Words as words;
 ghost use Rattle.dis_meaning.specs.Places as meaning;
 ghost use Rattle.dis_data_ops.specs.Words.{view_place, view_word, view_words, Gives, GivesFault};
@@ -9,7 +10,7 @@ ghost use Rattle.dis_data_ops.specs.Spots.{view_spot};
 
 use crate::blocks::data_at;
 use crate::frames::words_in;
-use crate::memory::word_at;
+use crate::memory::{int_at, word_at};
 use crate::process::Proc;
 use crate::store::Store;
 use crate::word::{Fault, Halt, Place, Word};
@@ -48,11 +49,7 @@ fn words_of<'a>(store: &'a Store, proc: &'a Proc, place: Place) -> Result<&'a [W
 }
 
 /// The words among which the byte is.
-pub(crate) fn words_at<'a>(
-    store: &'a Store,
-    proc: &'a Proc,
-    spot: Spot,
-) -> Result<&'a [Word], Fault>
+pub fn words_at<'a>(store: &'a Store, proc: &'a Proc, spot: Spot) -> Result<&'a [Word], Fault>
     ensures { GivesFault (λ ws. view_words ws.now) result
         (meaning.words_at (view_world store.now) (view_process proc.now) (view_spot spot)) }
 {
@@ -68,6 +65,13 @@ pub(crate) fn read(store: &Store, proc: &Proc, spot: Spot) -> Result<Word, Fault
     ensures { GivesFault view_word result (meaning.read (view_world store.now) (view_process proc.now) (view_spot spot)) }
 {
     word_at(words_at(store, proc, spot)?, spot.byte())
+}
+
+/// The int that stands there.
+pub(crate) fn read_int(store: &Store, proc: &Proc, spot: Spot) -> Result<i32, Fault>
+    ensures { GivesFault (λ n. n) result (meaning.read_number Int (view_world store.now) (view_process proc.now) (view_spot spot)) }
+{
+    int_at(words_at(store, proc, spot)?, spot.byte())
 }
 
 /// Its address.
@@ -123,17 +127,6 @@ pub fn spot_of(store: &Store, proc: &Proc, operand: Operand) -> Result<Spot, Hal
     }
 }
 
-/// The number in a word, 0 where an address stands in it.
-pub fn number_in(word: Word) -> Result<i32, Fault>
-    ensures { GivesFault (λ n. n) result (words.number_in (view_word word)) }
-{
-    match word {
-        Word::Plain(n) => Ok(n),
-        Word::Address { .. } => Ok(0),
-        Word::Refer(_) => Err(Fault::TypeCheck),
-    }
-}
-
 /// A word that is plain.
 pub(crate) fn plain(word: Word) -> Result<Word, Fault>
     ensures { GivesFault view_word result (words.plain (view_word word)) }
@@ -164,13 +157,13 @@ pub fn source_word(store: &Store, proc: &Proc, source: Operand) -> Result<Word, 
     Ok(read(store, proc, at)?)
 }
 
-// The number in the word that an operand names.
+// The int that an operand names.
 fn number_at(store: &Store, proc: &Proc, source: Operand) -> Result<i32, Halt>
-    ensures { Gives (λ n. n) result (words.◌>>=◌ (words.◌>>=◌ (meaning.spot (view_world store.now) (view_process proc.now) source)
-        (meaning.read (view_world store.now) (view_process proc.now))) words.number_in) }
+    ensures { Gives (λ n. n) result (words.◌>>=◌ (meaning.spot (view_world store.now) (view_process proc.now) source)
+        (meaning.read_number Int (view_world store.now) (view_process proc.now))) }
 {
-    let word = source_word(store, proc, source)?;
-    Ok(number_in(word)?)
+    let at = spot_of(store, proc, source)?;
+    Ok(read_int(store, proc, at)?)
 }
 
 // The plain word that an operand names.
@@ -182,14 +175,14 @@ fn plain_at(store: &Store, proc: &Proc, source: Operand) -> Result<Word, Halt>
     Ok(plain(word)?)
 }
 
-/// The number of a source.
-pub fn source_number(store: &Store, proc: &Proc, source: Operand) -> Result<i32, Halt>
-    ensures { Gives (λ n. n) result (meaning.source_number (view_world store.now) (view_process proc.now) source) }
+/// The int of a source.
+pub fn source_int(store: &Store, proc: &Proc, source: Operand) -> Result<i32, Halt>
+    ensures { Gives (λ n. n) result (meaning.source_of Int (view_world store.now) (view_process proc.now) source) }
 {
     match source {
         Operand::Imm(n) => Ok(n),
+        Operand::Fp(at) => Ok(int_at(&proc.frame.words, i64::from(at))?),
         Operand::None => number_at(store, proc, source),
-        Operand::Fp(_) => number_at(store, proc, source),
         Operand::Mp(_) => number_at(store, proc, source),
         Operand::IndFp { .. } => number_at(store, proc, source),
         Operand::IndMp { .. } => number_at(store, proc, source),
@@ -210,37 +203,31 @@ pub(crate) fn source_plain(store: &Store, proc: &Proc, source: Operand) -> Resul
     }
 }
 
-/// The number of a middle that is there.
-pub fn given_number(store: &Store, proc: &Proc, middle: Middle) -> Result<i32, Halt>
-    ensures { Gives (λ n. n) result (meaning.given_number (view_world store.now) (view_process proc.now) middle) }
+/// The int of a middle that is there.
+pub fn given_int(store: &Store, proc: &Proc, middle: Middle) -> Result<i32, Halt>
+    ensures { Gives (λ n. n) result (meaning.given_of Int (view_world store.now) (view_process proc.now) middle) }
 {
     match middle {
         Middle::Imm(n) => Ok(n),
-        Middle::Fp(at) => {
-            let word = read(store, proc, Spot::Own(i64::from(at)))?;
-            Ok(number_in(word)?)
-        }
-        Middle::Mp(at) => {
-            let word = read(store, proc, Spot::Data(i64::from(at)))?;
-            Ok(number_in(word)?)
-        }
+        Middle::Fp(at) => Ok(int_at(&proc.frame.words, i64::from(at))?),
+        Middle::Mp(at) => Ok(read_int(store, proc, Spot::Data(i64::from(at)))?),
         Middle::None => Err(Halt::Fault(Fault::TypeCheck)),
     }
 }
 
-/// The number of an operation's middle; where there is none, the destination's.
-pub(crate) fn middle_number(
+/// The int of an operation's middle; where there is none, the destination's.
+pub fn middle_int(
     store: &Store,
     proc: &Proc,
     middle: Middle,
     destination: Operand,
 ) -> Result<i32, Halt>
-    ensures { Gives (λ n. n) result (meaning.middle_number (view_world store.now) (view_process proc.now) middle destination) }
+    ensures { Gives (λ n. n) result (meaning.middle_of Int (view_world store.now) (view_process proc.now) middle destination) }
 {
     match middle {
-        Middle::None => source_number(store, proc, destination),
-        Middle::Imm(_) => given_number(store, proc, middle),
-        Middle::Fp(_) => given_number(store, proc, middle),
-        Middle::Mp(_) => given_number(store, proc, middle),
+        Middle::None => source_int(store, proc, destination),
+        Middle::Imm(_) => given_int(store, proc, middle),
+        Middle::Fp(_) => given_int(store, proc, middle),
+        Middle::Mp(_) => given_int(store, proc, middle),
     }
 }

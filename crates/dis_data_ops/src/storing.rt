@@ -2,6 +2,7 @@
 
 ghost use Rattle.std.specs.Prelude.{◌≡◌, ◌+◌, ◌<◌, ◌^◌, OnErr};
 ghost use Rattle.process_model.specs.Process.{Went};
+ghost use Rattle.dis_meaning.specs.World.{World};
 ghost use Rattle.dis_meaning.specs.Places as places;
 ghost use Rattle.dis_data_ops.specs.Words.{view_word, view_words, GivesFault};
 ghost use Rattle.dis_data_ops.specs.View.{view_process, view_world};
@@ -10,7 +11,7 @@ ghost use Rattle.dis_data_ops.specs.Storing.{memory, resting, written, moved_on,
 
 use crate::blocks::write_block;
 use crate::frames::write_frame;
-use crate::memory::put_all;
+use crate::memory::{put, put_all};
 use crate::process::Proc;
 use crate::spots::Spot;
 use crate::store::Store;
@@ -38,16 +39,14 @@ pub fn advance(proc: &mut Proc)
     ensures { view_process proc.new ≡ moved_on (view_process proc.old) }
 {
     proc.frame.pc += 1;
-    proc.printing = None;
+    // Few processes wait for a reply: of most nothing is let go.
+    if proc.printing.is_some() {
+        proc.printing = None;
+    }
 }
 
 /// Stores words, and the process goes on with the next instruction.
-pub(crate) fn finish_all(
-    store: &mut Store,
-    proc: &mut Proc,
-    spot: Spot,
-    new: &[Word],
-) -> Result<(), Fault>
+pub fn finish_all(store: &mut Store, proc: &mut Proc, spot: Spot, new: &[Word]) -> Result<(), Fault>
     requires { proc.old.frame.pc + 1 < 2 ^ 64 }
     ensures gives { GivesFault (λ _. Went (view_world store.new) (view_process proc.new)) result
         (goes_on (written (view_world store.old) (view_process proc.old) (view_spot spot) (view_words new.now))) }
@@ -58,6 +57,29 @@ pub(crate) fn finish_all(
     Ok(())
 }
 
+// A word of the running frame by itself: most of what is stored goes there.
+#[inline(always)]
+fn finish_own(proc: &mut Proc, at: i64, new: Word) -> Result<(), Fault>
+    requires { proc.old.frame.pc + 1 < 2 ^ 64 }
+    ensures gives { (x : World) → GivesFault (λ _. Went x (view_process proc.new)) result
+        (goes_on (places.store x (view_process proc.old) (places.Own at) (view_word new))) }
+    ensures kept { OnErr result (proc.new ≡ proc.old) }
+{
+    put(&mut proc.frame.words, at, new)?;
+    advance(proc);
+    Ok(())
+}
+
+// A word elsewhere.
+fn finish_word(store: &mut Store, proc: &mut Proc, spot: Spot, new: Word) -> Result<(), Fault>
+    requires { proc.old.frame.pc + 1 < 2 ^ 64 }
+    ensures gives { GivesFault (λ _. Went (view_world store.new) (view_process proc.new)) result
+        (goes_on (places.store (view_world store.old) (view_process proc.old) (view_spot spot) (view_word new))) }
+    ensures kept { OnErr result ((view_world store.new ≡ view_world store.old) × (proc.new ≡ proc.old)) }
+{
+    finish_all(store, proc, spot, &[new])
+}
+
 /// Stores a word, and the process goes on with the next instruction.
 pub fn finish(store: &mut Store, proc: &mut Proc, spot: Spot, new: Word) -> Result<(), Fault>
     requires { proc.old.frame.pc + 1 < 2 ^ 64 }
@@ -65,7 +87,11 @@ pub fn finish(store: &mut Store, proc: &mut Proc, spot: Spot, new: Word) -> Resu
         (goes_on (places.store (view_world store.old) (view_process proc.old) (view_spot spot) (view_word new))) }
     ensures kept { OnErr result ((view_world store.new ≡ view_world store.old) × (proc.new ≡ proc.old)) }
 {
-    finish_all(store, proc, spot, &[new])
+    match spot {
+        Spot::Own(at) => finish_own(proc, at, new),
+        Spot::Data(_) => finish_word(store, proc, spot, new),
+        Spot::Far(_, _) => finish_word(store, proc, spot, new),
+    }
 }
 
 /// Stores words that a row of others gave, and the process goes on with the next instruction.

@@ -1,6 +1,7 @@
 ghost use Rattle.std.specs.Prelude.{◌≡◌};
 ghost use Rattle.dis_data_ops.specs.Words.{number_of};
 
+use limbo_values::Raised;
 use std::alloc::{AllocError, AllocFailed};
 
 /// Where words stand: in a block, or in a frame of the process, each by its serial.
@@ -45,11 +46,13 @@ impl Fault {
     }
 }
 
-/// Why an access gives nothing.
+/// Why an access or an instruction gives nothing.
 #[derive(Clone, Copy)]
 pub enum Halt {
     NoMemory,
     Fault(Fault),
+    /// An exception is raised instead.
+    Raises(Raised),
 }
 
 impl From<Fault> for Halt {
@@ -60,6 +63,17 @@ impl From<Fault> for Halt {
 
     fn from(fault: Fault) -> Halt {
         Halt::Fault(fault)
+    }
+}
+
+impl From<Raised> for Halt {
+    ghost use Rattle.std.specs.Prelude.{◌≡◌};
+    ghost use Rattle.dis_data_ops.specs.declared.word.Halt.TheVariants as halt;
+
+    ghost from_gives = { λ raised e. e ≡ halt.Raises raised };
+
+    fn from(raised: Raised) -> Halt {
+        Halt::Raises(raised)
     }
 }
 

@@ -1,5 +1,5 @@
 -- The first process of a machine has a frame whose serial was given.
-use Rattle.std.proofs.Common.{◌≡◌, ℕ, List, [], Option, Some, None, subst, arith}
+use Rattle.std.proofs.Common.{◌≡◌, [], Option, Some, None, subst, arith}
 use Rattle.std.specs.Prelude.{slice_get}
 use Rattle.dis_file.specs.declared.object.Object.{Object}
 use Rattle.system_model.specs.World.{opening_world}

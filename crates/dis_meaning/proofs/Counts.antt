@@ -1,7 +1,7 @@
 -- Counts move with what is stored.
 use Rattle.std.proofs.Common.{◌≡◌, ℕ, zero, suc, ◌+◌, ℤ, Bool, true, false, List, [], ◌∷◌, Option, Some, None, refl, ap, ◌∙◌, subst, arith, if◌then◌else◌}
 use Rattle.std.specs.Prelude.{slice_get, slice_set}
-use Rattle.dis_meaning.specs.Words.{Word, Access, Found, Wrong, ◌>>=◌, type_check, or_wrong, word_number, fits, replaced}
+use Rattle.dis_meaning.specs.Words.{Word, Access, Found, Wrong, Raises, ◌>>=◌, type_check, or_wrong, word_number, fits, replaced}
 use Rattle.dis_meaning.specs.Counts.{refers, in_words}
 use Rattle.dis_meaning.specs.Laws.{Replaced, StoresCount}
 
@@ -29,6 +29,7 @@ module _ (words after : List Word) (at : ℤ) (new : Word) where
 
   by_number : (a : Access ℕ) → word_number at ≡ a → (a >>= λ k. replaced words k new) ≡ Found after → Replaced words after at new
   by_number (Wrong n) at_k e = absurd cc
+  by_number (Raises text) at_k e = absurd cc
   by_number (Found k) at_k e = by_word k (slice_get words k) at_k refl e
 
 pub stores_count : StoresCount

@@ -1,11 +1,15 @@
 -- What a process does keeps the serials of its frames among those that were given.
-use Rattle.std.proofs.Common.{◌≡◌, ℕ, suc, ℤ, ◌<◌, ◌≤◌, Bool, true, false, List, [], ◌∷◌, ◌++◌, length, map, Option, Some, None, sym, subst, arith, if◌then◌else◌}
-use Rattle.std.specs.Prelude.{nat_eq, nat_lt, int_lt, pos, ◌+ℤ◌, ◌-ℤ◌, ◌*ℤ◌, slice_get, codes}
+use Rattle.std.proofs.Common.{ℕ, suc, ℤ, ◌<◌, ◌≤◌, Bool, true, false, List, [], ◌∷◌, ◌++◌, length, map, Option, Some, None, arith, if◌then◌else◌}
+use Rattle.std.specs.Prelude.{Result, Ok, Err, nat_eq, nat_lt, pos, slice_get, codes}
 use Rattle.std.specs.Ordering.{int_eq}
-use Rattle.std.specs.Int.{int_wrap, w32}
 use Rattle.std.specs.Str.{bytes_eq}
 use Rattle.styx_msg.specs.declared.message.Rmsg.{Rmsg}
 use Rattle.process_model.specs.Process.{Went, Ends}
+use Rattle.limbo_values.specs.declared.number.Kind.{Kind}
+use Rattle.limbo_values.specs.declared.number.Kind.TheVariants.{Int}
+use Rattle.limbo_values.specs.declared.raised.Raised.{Raised}
+use Rattle.limbo_values.specs.Numbers.{wrapped}
+use Rattle.limbo_values.specs.Operators.{applied, shifted, compared}
 use Rattle.dis_isa.specs.declared.inst.Inst.{Inst}
 use Rattle.dis_isa.specs.declared.op.Op.{Op}
 use Rattle.dis_isa.specs.declared.op.Op.TheVariants as op
@@ -14,13 +18,14 @@ use Rattle.dis_file.specs.declared.object.Object.{Object}
 use Rattle.system_model.specs.Values.{Value}
 use Rattle.system_model.specs.Prints.{Printing, Answers, Requests, NoReply, print, hear}
 use Rattle.system_model.specs.Ending.{Broken}
-use Rattle.dis_meaning.specs.Words.{Place, InBlock, InFrame, Word, Plain, Refer, Address, Access, Found, Wrong, ◌>>=◌, type_check, bad_jump, or_wrong, stored, reference, word_number, blank}
+use Rattle.dis_meaning.specs.Words.{Place, InBlock, InFrame, Word, Plain, Refer, Address, Access, Found, Wrong, Raises, ◌>>=◌, type_check, bad_jump, or_wrong, stored, reference, word_number, at_least_zero, blank}
 use Rattle.system_model.specs.World as outside
 use Rattle.dis_meaning.specs.World.{Sys, World, block, with_block}
 use Rattle.dis_meaning.specs.Process as process
 use Rattle.dis_meaning.specs.Process.{Frame, Process, Does, or_fault, with_words, with_frames, height}
-use Rattle.dis_meaning.specs.Places.{Spot, Own, Data, Far, Memory, spot, store, read, address, change, words_in, all_frames, words_at, with_data, with_words_at, place_in, source_number, source_plain, source_word, given_number, middle_number}
-use Rattle.dis_meaning.specs.Step.{immediate, target, at_least_zero, middle_immediate, next, made_frame, frame_of, frame_at, framed, names, word_of, plains, all_replaced, text_at, module_at, function_of, loaded, path_of_sys, printed, answer_spot, place_of, outside_is, answered, without, branch, returns, calls, prints, print_call, sys_call, operates, tests, obey, work, code_of, step, hears, heard, answer}
+use Rattle.dis_meaning.specs.Numbers.{Row, Calculates, Shifts, Converts, Moves, Branches, number_row, with_number_at}
+use Rattle.dis_meaning.specs.Places.{Spot, Own, Data, Far, Memory, spot, store, read, address, change, words_in, all_frames, words_at, with_data, with_words_at, place_in, read_number, store_number, source_of, source_plain, source_word, given_of, middle_of}
+use Rattle.dis_meaning.specs.Step.{immediate, target, middle_immediate, next, made_frame, frame_at, framed, names, word_of, plains, all_replaced, text_at, module_at, function_of, loaded, path_of_sys, printed, answer_spot, place_of, outside_is, answered, without, branch, returns, calls, prints, print_call, sys_call, results, by_row, in_table, obey, code_of, step, hears, heard, answer}
 use Rattle.dis_meaning.specs.Given.{AreGiven, HasGiven, StaysGiven, IsGivenAfter, SerialsAreGiven}
 use Rattle.dis_meaning.proofs.Begins.{begins_given}
 
@@ -28,15 +33,18 @@ use Rattle.dis_meaning.proofs.Begins.{begins_given}
 abbrev pub Finds : {T : Type 0} → (T → Type 0) → Access T → Type 0
 Finds holds (Found t) = holds t
 Finds holds (Wrong n) = Unit {0}
+Finds holds (Raises text) = Unit {0}
 
 pub finds_on : {S T : Type 0} (holds : S → Type 0) (after : T → Type 0) (a : Access S) (f : S → Access T) → Finds holds a → ((s : S) → holds s → Finds after (f s)) → Finds after (a >>= f)
 finds_on holds after (Found s) f h g = g s h
 finds_on holds after (Wrong n) f h g = tt
+finds_on holds after (Raises text) f h g = tt
 
 -- Whatever is found.
 pub on_any : {S T : Type 0} (after : T → Type 0) (a : Access S) (f : S → Access T) → ((s : S) → Finds after (f s)) → Finds after (a >>= f)
 on_any after (Found s) f g = g s
 on_any after (Wrong n) f g = tt
+on_any after (Raises text) f g = tt
 
 -- ---- frames
 
@@ -108,6 +116,9 @@ module _ (x : World) (p : Process) (h : HasGiven x p) where
   stored_given : (s : Spot) (new : Word) → Finds Stays (store x p s new)
   stored_given s new = on_any Stays (words_at x p s) _ (λ words. on_any Stays (stored words (place_in s) new) _ (λ after. words_given s after))
 
+  number_given : (kind : Kind) (s : Spot) (z : ℤ) → Finds Stays (store_number kind x p s z)
+  number_given kind s z = on_any Stays (words_at x p s) _ (λ words. on_any Stays (with_number_at kind words (place_in s) z) _ (λ after. words_given s after))
+
   -- The process goes on with frames of these serials.
   goes_on : (f : Frame) (below made : List Frame) → f.serial < x.frames → AreGiven x.frames below → AreGiven x.frames made → StaysGiven x x (with_frames p f below made)
   goes_on f below made lt b m = record { rises = omega arith; given = record { running = lt; waiting = b; made = m } }
@@ -161,6 +172,7 @@ answered_given x p h w place at v =
     again : (a : Access Memory) → Finds (λ m. StaysGiven (outside_is x w) m.world m.process) a → Finds (λ m. StaysGiven x m.world m.process) a
     again (Found m) g = record { rises = g.rises; given = g.given }
     again (Wrong n) g = tt
+    again (Raises text) g = tt
 
 module _ (x : World) (p : Process) (h : HasGiven x p) where
   prints_given : (place : Place) (at : ℤ) (g : Printing) → Good x p h (prints x p place at g)
@@ -191,6 +203,7 @@ module _ (x : World) (p : Process) (h : HasGiven x p) where
       again : (a : Access Memory) → Finds (λ m. StaysGiven (with_block x (Sys (names table))) m.world m.process) a → Finds (λ m. StaysGiven x m.world m.process) a
       again (Found m) g = record { rises = g.rises; given = g.given }
       again (Wrong n) g = tt
+      again (Raises text) g = tt
 
       go : (b : Bool) → Finds (λ m. StaysGiven x m.world m.process) (if b then store (with_block x (Sys (names table))) p d (Refer (Some (length x.blocks))) else store x p d (Refer None))
       go true = again _ (stored_given (with_block x (Sys (names table))) p (record { running = h.running; waiting = h.waiting; made = h.made }) d (Refer (Some (length x.blocks))))
@@ -212,30 +225,34 @@ module _ (x : World) (p : Process) (h : HasGiven x p) where
       }
 
   module _ (limit : ℕ) (o : Object) (i : Inst) where
-    operates_given : (f : ℤ → ℤ → ℤ) → Good x p h (operates x p i f)
-    operates_given f =
-        any x p h (source_number x p i.src) _ (λ s. any x p h (middle_number x p i.middle i.dst) _ (λ m. any x p h (spot x p i.dst) _ (λ d.
-        stores_on d (Plain (int_wrap w32 (f m s))))))
+    results_given : (kind : Kind) (d : Spot) (r : Result ℤ Raised) → Good x p h (results kind x p d r)
+    results_given kind d (Ok z) = then_next x p h (store_number kind x p d z) _ (number_given x p h kind d z) (λ m g. next_given x m g)
+    results_given kind d (Err raised) = any x p h (read_number kind x p d) _ (λ old. tt)
 
-    tests_given : (f : ℤ → ℤ → Bool) → Good x p h (tests o x p i f)
-    tests_given f =
-        any x p h (source_number x p i.src) _ (λ s. any x p h (given_number x p i.middle) _ (λ m. any x p h (target o i.dst) _ (λ pc. branch_given x p h (f s m) pc)))
+    row_given : (row : Row) → Good x p h (by_row o x p i row)
+    row_given (Calculates kind operator) =
+        any x p h (source_of kind x p i.src) _ (λ s. any x p h (middle_of kind x p i.middle i.dst) _ (λ m. any x p h (spot x p i.dst) _ (λ d. results_given kind d (applied kind operator m s))))
+    row_given (Shifts kind shift) =
+        any x p h (source_of Int x p i.src) _ (λ s. any x p h (middle_of kind x p i.middle i.dst) _ (λ m. any x p h (spot x p i.dst) _ (λ d. results_given kind d (Ok (shifted kind shift m s)))))
+    row_given (Converts from to) = any x p h (source_of from x p i.src) _ (λ s. any x p h (spot x p i.dst) _ (λ d. results_given to d (Ok (wrapped to s))))
+    row_given (Moves kind) = any x p h (source_of kind x p i.src) _ (λ s. any x p h (spot x p i.dst) _ (λ d. results_given kind d (Ok s)))
+    row_given (Branches kind comparison) =
+        any x p h (source_of kind x p i.src) _ (λ s. any x p h (given_of kind x p i.middle) _ (λ m. any x p h (target o i.dst) _ (λ pc. branch_given x p h (compared comparison s m) pc)))
+
+    table_given : (row : Option Row) → Good x p h (in_table o x p i row)
+    table_given (Some row) = row_given row
+    table_given None = tt
 
     obey_given : (c : Op) → Good x p h (obey limit o x p i c)
     obey_given op.Movw = any x p h (source_plain x p i.src) _ (λ w. any x p h (spot x p i.dst) _ (λ d. stores_on d w))
     obey_given op.Movp = any x p h (source_word x p i.src >>= reference) _ (λ r. any x p h (spot x p i.dst) _ (λ d. stores_on d (Refer r)))
     obey_given op.Movm =
         any x p h (spot x p i.src) _ (λ s. any x p h (words_at x p s) _ (λ from. any x p h (word_number (place_in s)) _ (λ k.
-        any x p h (given_number x p i.middle >>= at_least_zero) _ (λ bytes. any x p h (word_number (pos bytes)) _ (λ count. any x p h (plains from k count) _ (λ vs.
+        any x p h (given_of Int x p i.middle >>= at_least_zero) _ (λ bytes. any x p h (word_number (pos bytes)) _ (λ count. any x p h (plains from k count) _ (λ vs.
         any x p h (spot x p i.dst) _ (λ d. any x p h (words_at x p d) _ (λ into. any x p h (word_number (place_in d)) _ (λ j.
         then_next x p h (all_replaced into j vs >>= with_words_at x p d) _
         (on_any (Stays x p h) (all_replaced into j vs) _ (λ words. words_given x p h d words)) (λ m g. next_given x m g))))))))))
     obey_given op.Lea = any x p h (spot x p i.src) _ (λ s. any x p h (read x p s) _ (λ w. any x p h (spot x p i.dst) _ (λ d. stores_on d (address p s))))
-    obey_given op.Addw = operates_given (λ m s. m +ℤ s)
-    obey_given op.Subw = operates_given (λ m s. m -ℤ s)
-    obey_given op.Mulw = operates_given (λ m s. m *ℤ s)
-    obey_given op.Beqw = tests_given int_eq
-    obey_given op.Bltw = tests_given int_lt
     obey_given op.Jmp = any x p h (target o i.dst) _ (λ pc. goes_on x p h _ p.below p.made h.running h.waiting h.made)
     obey_given op.Frame =
         any x p h (immediate i.src) _ (λ n. any x p h (or_wrong type_check (slice_get o.types n)) _ (λ desc. any x p h (spot x p i.dst) _ (λ d.
@@ -251,11 +268,12 @@ module _ (x : World) (p : Process) (h : HasGiven x p) where
     obey_given op.Mcall =
         any x p h (source_word x p i.src >>= frame_at x p) _ (λ f. any x p h (middle_immediate i.middle) _ (λ k.
         any x p h (source_word x p i.dst >>= reference >>= module_at x) _ (λ c. any x p h (function_of c k) _ (λ name. sys_given name f))))
-    obey_given _ = tt
+    obey_given operation = table_given (number_row operation)
 
   or_fault_given : (a : Access Does) → Good x p h a → IsGivenAfter x (or_fault x p a)
   or_fault_given (Found d) g = g
   or_fault_given (Wrong n) g = omega arith
+  or_fault_given (Raises text) g = omega arith
 
   pub step_given : (limit : ℕ) (objects : List Object) → IsGivenAfter x (step limit objects x p)
   step_given limit objects =

@@ -1,6 +1,7 @@
 pub mod Words
 pub mod World
 pub mod Process
+pub mod Numbers
 pub mod Places
 pub mod Formats
 pub mod Step

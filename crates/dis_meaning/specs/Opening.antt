@@ -7,13 +7,14 @@ use Rattle.inf_text.specs.Options.{◌>>=◌}
 use Rattle.dis_file.specs.declared.object.Item.{Item}
 use Rattle.dis_file.specs.declared.object.Object.{Object}
 use Rattle.system_model.specs.World.{opening_world}
-use Rattle.dis_meaning.specs.Words.{Word, Plain, Refer, Access, Found, Wrong, stored, blank}
+use Rattle.dis_meaning.specs.Words.{Word, Plain, Refer, Access, Found, Wrong, Raises, stored, blank}
 use Rattle.dis_meaning.specs.World.{Content, Text, Instance, World}
 use Rattle.dis_meaning.specs.Process.{Process}
 
 abbrev pub if_found : {T : Type 0} → Access T → Option T
 if_found (Found t) = Some t
 if_found (Wrong number) = None
+if_found (Raises text) = None
 
 -- The characters that bytes spell, where they are well-formed UTF-8.
 abbrev pub characters : List ℕ → Option (List ℕ)

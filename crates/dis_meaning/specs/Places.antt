@@ -4,8 +4,10 @@ use Rattle.dis_isa.specs.declared.inst.Middle.{Middle}
 use Rattle.dis_isa.specs.declared.inst.Middle.TheVariants as middle
 use Rattle.dis_isa.specs.declared.inst.Operand.{Operand}
 use Rattle.dis_isa.specs.declared.inst.Operand.TheVariants as operand
+use Rattle.limbo_values.specs.declared.number.Kind.{Kind}
 use Rattle.dis_meaning.specs.Words.{Place, InBlock, InFrame, Word, Plain, Refer, Address, Access, Found, Wrong}
-use Rattle.dis_meaning.specs.Words.{◌>>=◌, type_check, dead_address, word_at, stored, number_in, plain}
+use Rattle.dis_meaning.specs.Words.{◌>>=◌, type_check, dead_address, word_at, stored, plain}
+use Rattle.dis_meaning.specs.Numbers.{number_at, with_number_at, immediate_as}
 use Rattle.dis_meaning.specs.World.{Content, Text, Instance, Sys, World, block, with_content}
 use Rattle.dis_meaning.specs.Process.{Frame, Process, with_words, with_frames}
 
@@ -103,11 +105,20 @@ spot x p (operand.IndFp inner outer) = read x p (Own inner) >>= λ w. behind w o
 spot x p (operand.IndMp inner outer) = read x p (Data inner) >>= λ w. behind w outer
 spot x p _ = Wrong type_check
 
--- The number of a source, and the plain word: an immediate is the number itself.
-abbrev pub source_number : World → Process → Operand → Access ℤ
-source_number x p (operand.Imm n) = Found n
-source_number x p o = spot x p o >>= λ s. read x p s >>= number_in
+-- The number of a kind that lies there.
+abbrev pub read_number : Kind → World → Process → Spot → Access ℤ
+read_number kind x p s = words_at x p s >>= λ words. number_at kind words (place_in s)
 
+-- A number of a kind is stored there, over one of its kind.
+abbrev pub store_number : Kind → World → Process → Spot → ℤ → Access Memory
+store_number kind x p s z = words_at x p s >>= λ words. with_number_at kind words (place_in s) z >>= with_words_at x p s
+
+-- The number of a source, as one of a kind.
+abbrev pub source_of : Kind → World → Process → Operand → Access ℤ
+source_of kind x p (operand.Imm n) = Found (immediate_as kind n)
+source_of kind x p o = spot x p o >>= read_number kind x p
+
+-- The plain word of a source: an immediate is the number itself.
 abbrev pub source_plain : World → Process → Operand → Access Word
 source_plain x p (operand.Imm n) = Found (Plain n)
 source_plain x p o = spot x p o >>= λ s. read x p s >>= plain
@@ -117,13 +128,13 @@ abbrev pub source_word : World → Process → Operand → Access Word
 source_word x p o = spot x p o >>= read x p
 
 -- The number of a middle that is there.
-abbrev pub given_number : World → Process → Middle → Access ℤ
-given_number x p (middle.Imm n) = Found n
-given_number x p (middle.Fp at) = read x p (Own at) >>= number_in
-given_number x p (middle.Mp at) = read x p (Data at) >>= number_in
-given_number x p middle.None = Wrong type_check
+abbrev pub given_of : Kind → World → Process → Middle → Access ℤ
+given_of kind x p (middle.Imm n) = Found (immediate_as kind n)
+given_of kind x p (middle.Fp at) = read_number kind x p (Own at)
+given_of kind x p (middle.Mp at) = read_number kind x p (Data at)
+given_of kind x p middle.None = Wrong type_check
 
 -- The number of an operation's middle: where there is none, the destination's.
-abbrev pub middle_number : World → Process → Middle → Operand → Access ℤ
-middle_number x p middle.None dst = source_number x p dst
-middle_number x p m dst = given_number x p m
+abbrev pub middle_of : Kind → World → Process → Middle → Operand → Access ℤ
+middle_of kind x p middle.None dst = source_of kind x p dst
+middle_of kind x p m dst = given_of kind x p m

@@ -3,8 +3,8 @@ use Rattle.std.specs.Prelude.{ℕ, suc, ℤ, List, [], length, Option, None}
 use Rattle.process_model.specs.Process.{Effect, Parks, Ends}
 use Rattle.system_model.specs.Values.{Value}
 use Rattle.system_model.specs.Prints.{Request, Writing}
-use Rattle.system_model.specs.Ending.{Ending, Faulted}
-use Rattle.dis_meaning.specs.Words.{Place, Word, Access, Found, Wrong}
+use Rattle.system_model.specs.Ending.{Ending, Broken, Faulted}
+use Rattle.dis_meaning.specs.Words.{Place, Word, Access, Found, Wrong, Raises}
 use Rattle.dis_meaning.specs.World.{World}
 
 -- A frame: its serial, which no other frame of the machine has, the instance whose code it runs, by the serial of its block, the
@@ -53,7 +53,9 @@ with_frames p f below made = record { number = p.number; frame = f; below = belo
 abbrev pub stands_still : World → Process → Does
 stands_still x p = Parks x [] p
 
--- An effect, or the fault that comes instead. A fault changes nothing else.
+-- An effect, or the fault or the raise that comes instead, neither of which changes anything else. Nothing handles an exception yet: a
+-- process that raises one is broken, with its text.
 abbrev pub or_fault : World → Process → Access Does → Does
 or_fault x p (Found does) = does
 or_fault x p (Wrong number) = Ends x (Faulted number p.frame.pc)
+or_fault x p (Raises text) = Ends x (Broken text)

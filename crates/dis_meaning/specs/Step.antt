@@ -1,12 +1,19 @@
 -- One instruction of a process (Dis Virtual Machine Specification, the instructions by name). A source is looked at first, then the
 -- middle, then the destination; the first of them that is wrong decides.
-use Rattle.std.specs.Prelude.{ℕ, zero, suc, ℤ, pos, negsuc, ◌+ℤ◌, ◌-ℤ◌, ◌*ℤ◌, Bool, true, false, List, [], ◌∷◌, ◌++◌, length}
-use Rattle.std.specs.Prelude.{map, drop, Option, Some, None, slice_get, nat_eq, nat_lt, int_lt, codes, if◌then◌else◌}
-use Rattle.std.specs.Int.{int_wrap, w32}
+use Rattle.std.specs.Prelude.{ℕ, zero, suc, ℤ, pos, Bool, true, false, List, [], ◌∷◌, ◌++◌, length}
+use Rattle.std.specs.Prelude.{map, drop, Option, Some, None, Result, Ok, Err, slice_get, nat_eq, nat_lt, codes, if◌then◌else◌}
 use Rattle.std.specs.Ordering.{int_eq}
 use Rattle.std.specs.Str.{bytes_eq}
 use Rattle.styx_msg.specs.declared.message.Rmsg.{Rmsg}
 use Rattle.process_model.specs.Process.{Went, Asks, Ends}
+use Rattle.limbo_values.specs.declared.number.Kind.{Kind}
+use Rattle.limbo_values.specs.declared.number.Kind.TheVariants.{Int}
+use Rattle.limbo_values.specs.declared.operator.Operator.{Operator}
+use Rattle.limbo_values.specs.declared.operator.Shift.{Shift}
+use Rattle.limbo_values.specs.declared.operator.Comparison.{Comparison}
+use Rattle.limbo_values.specs.declared.raised.Raised.{Raised}
+use Rattle.limbo_values.specs.Numbers.{wrapped}
+use Rattle.limbo_values.specs.Operators.{text_of as exception_of, applied, shifted, compared}
 use Rattle.dis_isa.specs.declared.inst.Inst.{Inst}
 use Rattle.dis_isa.specs.declared.inst.Middle.{Middle}
 use Rattle.dis_isa.specs.declared.inst.Middle.TheVariants as middle
@@ -20,23 +27,19 @@ use Rattle.system_model.specs.Values.{Value, Num}
 use Rattle.system_model.specs.World as outside
 use Rattle.system_model.specs.Prints.{Printing, Answers, Requests, NoReply, print, hear}
 use Rattle.system_model.specs.Ending.{Ended, Broken}
-use Rattle.dis_meaning.specs.Words.{Place, InBlock, InFrame, Word, Plain, Refer, Address, Access, Found, Wrong, ◌>>=◌, type_check}
-use Rattle.dis_meaning.specs.Words.{bad_jump, dead_address, or_wrong, word_at, number_in, plain, reference, word_number, replaced, blank}
+use Rattle.dis_meaning.specs.Words.{Place, InBlock, InFrame, Word, Plain, Refer, Address, Access, Found, Wrong, Raises, ◌>>=◌, type_check}
+use Rattle.dis_meaning.specs.Words.{bad_jump, or_wrong, word_at, number_in, plain, reference, word_number, replaced, at_least_zero, blank}
 use Rattle.dis_meaning.specs.World.{Content, Text, Instance, Sys, World, block, with_block}
 use Rattle.dis_meaning.specs.Process as process
 use Rattle.dis_meaning.specs.Process.{Frame, Process, Does, height, at_pc, with_words, with_frames, stands_still, or_fault}
-use Rattle.dis_meaning.specs.Places.{Spot, Far, Memory, read, store, spot, source_number, source_plain, source_word, given_number}
-use Rattle.dis_meaning.specs.Places.{middle_number, words_in, all_frames, words_at, with_words_at, place_in, address, behind}
+use Rattle.dis_meaning.specs.Numbers.{Row, Calculates, Shifts, Converts, Moves, Branches, number_row}
+use Rattle.dis_meaning.specs.Places.{Spot, Far, Memory, read, store, spot, source_plain, source_word, read_number, store_number, source_of}
+use Rattle.dis_meaning.specs.Places.{given_of, middle_of, words_in, all_frames, words_at, with_words_at, place_in, address, behind}
 use Rattle.dis_meaning.specs.Formats.{formatted}
 
 -- The process goes on with the next instruction.
 abbrev pub next : Memory → Does
 next m = Went m.world (with_frames m.process (at_pc m.process.frame (suc m.process.frame.pc)) m.process.below m.process.made)
-
--- A number that isn't below 0.
-abbrev pub at_least_zero : ℤ → Access ℕ
-at_least_zero (pos n) = Found n
-at_least_zero (negsuc n) = Wrong type_check
 
 -- The number of an immediate: a type, a function or a place in the code.
 abbrev pub immediate : Operand → Access ℕ
@@ -204,25 +207,58 @@ calls limit x p f pc =
     if nat_lt (height p) limit then Went x (with_frames p (at_pc f pc) (at_pc p.frame (suc p.frame.pc) ∷ p.below) (without f.serial p.made))
     else Ends x (Broken (codes "stack overflow"))
 
--- An operation on two numbers, whose result is stored.
-abbrev pub operates : World → Process → Inst → (ℤ → ℤ → ℤ) → Access Does
-operates x p i f =
-    source_number x p i.src >>= λ s.
-    middle_number x p i.middle i.dst >>= λ m.
-    spot x p i.dst >>= λ d.
-    store x p d (Plain (int_wrap w32 (f m s))) >>= λ after.
-    Found (next after)
+-- A result is stored. What an operation raises instead, the instruction raises, where a number stands that the result would replace.
+abbrev pub results : Kind → World → Process → Spot → Result ℤ Raised → Access Does
+results kind x p d (Ok z) = store_number kind x p d z >>= λ after. Found (next after)
+results kind x p d (Err raised) = read_number kind x p d >>= λ old. Raises (exception_of raised)
 
--- A branch where a test of two numbers holds.
-abbrev pub tests : Object → World → Process → Inst → (ℤ → ℤ → Bool) → Access Does
-tests o x p i f =
-    source_number x p i.src >>= λ s.
-    given_number x p i.middle >>= λ m.
+-- The middle is the left operand, the source the right one.
+abbrev pub calculates : World → Process → Inst → Kind → Operator → Access Does
+calculates x p i kind operator =
+    source_of kind x p i.src >>= λ s.
+    middle_of kind x p i.middle i.dst >>= λ m.
+    spot x p i.dst >>= λ d.
+    results kind x p d (applied kind operator m s)
+
+-- The middle is shifted, by a source that is an int.
+abbrev pub shifts : World → Process → Inst → Kind → Shift → Access Does
+shifts x p i kind shift =
+    source_of Int x p i.src >>= λ count.
+    middle_of kind x p i.middle i.dst >>= λ m.
+    spot x p i.dst >>= λ d.
+    results kind x p d (Ok (shifted kind shift m count))
+
+abbrev pub converts : World → Process → Inst → (from to : Kind) → Access Does
+converts x p i from to =
+    source_of from x p i.src >>= λ s.
+    spot x p i.dst >>= λ d.
+    results to x p d (Ok (wrapped to s))
+
+abbrev pub moves : World → Process → Inst → Kind → Access Does
+moves x p i kind = source_of kind x p i.src >>= λ s. spot x p i.dst >>= λ d. results kind x p d (Ok s)
+
+-- The process goes on there where the source stands so to the middle.
+abbrev pub branches : Object → World → Process → Inst → Kind → Comparison → Access Does
+branches o x p i kind comparison =
+    source_of kind x p i.src >>= λ s.
+    given_of kind x p i.middle >>= λ m.
     target o i.dst >>= λ pc.
-    Found (branch x p (f s m) pc)
+    Found (branch x p (compared comparison s m) pc)
+
+abbrev pub by_row : Object → World → Process → Inst → Row → Access Does
+by_row o x p i (Calculates kind operator) = calculates x p i kind operator
+by_row o x p i (Shifts kind shift) = shifts x p i kind shift
+by_row o x p i (Converts from to) = converts x p i from to
+by_row o x p i (Moves kind) = moves x p i kind
+by_row o x p i (Branches kind comparison) = branches o x p i kind comparison
+
+-- An operation that has no row isn't in this part.
+abbrev pub in_table : Object → World → Process → Inst → Option Row → Access Does
+in_table o x p i (Some row) = by_row o x p i row
+in_table o x p i None = Wrong type_check
 
 module _ (limit : ℕ) (o : Object) where
-  -- What an instruction does. Operations that aren't in this part are faults.
+  -- What an instruction does. Operations on numbers are those of the table, and those that aren't in this part are faults.
   abbrev pub obey : World → Process → Inst → Op → Access Does
   obey x p i op.Movw =
       source_plain x p i.src >>= λ w. spot x p i.dst >>= λ d. store x p d w >>= λ m. Found (next m)
@@ -232,7 +268,7 @@ module _ (limit : ℕ) (o : Object) where
       spot x p i.src >>= λ s.
       words_at x p s >>= λ from.
       word_number (place_in s) >>= λ k.
-      given_number x p i.middle >>= at_least_zero >>= λ bytes.
+      given_of Int x p i.middle >>= at_least_zero >>= λ bytes.
       word_number (pos bytes) >>= λ count.
       plains from k count >>= λ vs.
       spot x p i.dst >>= λ d.
@@ -242,11 +278,6 @@ module _ (limit : ℕ) (o : Object) where
       Found (next m)
   obey x p i op.Lea =
       spot x p i.src >>= λ s. read x p s >>= λ w. spot x p i.dst >>= λ d. store x p d (address p s) >>= λ m. Found (next m)
-  obey x p i op.Addw = operates x p i (λ m s. m +ℤ s)
-  obey x p i op.Subw = operates x p i (λ m s. m -ℤ s)
-  obey x p i op.Mulw = operates x p i (λ m s. m *ℤ s)
-  obey x p i op.Beqw = tests o x p i int_eq
-  obey x p i op.Bltw = tests o x p i int_lt
   obey x p i op.Jmp = target o i.dst >>= λ pc. Found (jumps x p pc)
   obey x p i op.Frame =
       immediate i.src >>= λ n.
@@ -270,7 +301,7 @@ module _ (limit : ℕ) (o : Object) where
       source_word x p i.dst >>= reference >>= module_at x >>= λ c.
       function_of c k >>= λ name.
       sys_call x p name f
-  obey x p i _ = Wrong type_check
+  obey x p i operation = in_table o x p i (number_row operation)
 
   -- The instruction at the frame's place.
   abbrev pub work : World → Process → Access Does

@@ -16,16 +16,18 @@ pub data Word : Type 0 where
   Refer : Option ℕ → Word
   Address : Place → (at : ℤ) → Word
 
--- What an access comes to: a value, or the number of a fault.
+-- What an access comes to: a value, the number of a fault, or the text of an exception that is raised instead.
 pub data Access (T : Type 0) : Type 0 where
   Found : T → Access T
   Wrong : (number : ℕ) → Access T
+  Raises : (text : List ℕ) → Access T
 
 infixl 10 ◌>>=◌
--- Goes on with what was found; the first fault stays.
+-- Goes on with what was found; the first fault or raise stays.
 abbrev pub ◌>>=◌ : {S T : Type 0} → Access S → (S → Access T) → Access T
 Found s >>= f = f s
 Wrong n >>= f = Wrong n
+Raises text >>= f = Raises text
 
 -- The faults of an object: an operand, a type or a table outside the object, or a word of another kind than is asked for; a place in
 -- the code that isn't there; an address of a block or frame that isn't there.
@@ -42,6 +44,11 @@ dead_address = 112
 abbrev pub or_wrong : {T : Type 0} → ℕ → Option T → Access T
 or_wrong number None = Wrong number
 or_wrong number (Some t) = Found t
+
+-- A number that isn't below 0.
+abbrev pub at_least_zero : ℤ → Access ℕ
+at_least_zero (pos n) = Found n
+at_least_zero (negsuc n) = Wrong type_check
 
 -- The number of the word at a byte: a byte inside a word is none.
 abbrev pub word_number : ℤ → Access ℕ

@@ -3,7 +3,7 @@ use Rattle.std.proofs.Common.{◌≡◌, ℤ, refl}
 use Rattle.process_model.specs.Process.{Went, Parks, Polls, Spawns, Asks, Ends}
 use Rattle.system_model.specs.Prints as prints
 use Rattle.system_model.specs.Prints.{Answers, Requests, NoReply}
-use Rattle.dis_meaning.specs.Words.{Place, Access, Found, Wrong, ◌>>=◌}
+use Rattle.dis_meaning.specs.Words.{Place, Access, Found, Wrong, Raises, ◌>>=◌}
 use Rattle.dis_meaning.specs.World.{World}
 use Rattle.dis_meaning.specs.Process.{Process, Does, or_fault, with_frames}
 use Rattle.dis_meaning.specs.Places.{Memory}
@@ -21,6 +21,7 @@ Goes (Spawns x p q) = ⊥
 or_fault_goes : (x : World) (p : Process) (m : Access Memory) → Goes (or_fault x p (m >>= λ m. Found (Went m.world (with_frames m.process m.process.frame m.process.below m.process.made))))
 or_fault_goes x p (Found m) = tt
 or_fault_goes x p (Wrong n) = tt
+or_fault_goes x p (Raises text) = tt
 
 pub hears_goes : (x : World) (p : Process) (place : Place) (at : ℤ) (g : prints.Printing) → (g ≡ NoReply → ⊥) → Goes (hears x p place at g)
 hears_goes x p place at (Answers w v) h = or_fault_goes x p (answered (outside_is x w) p place at v)

@@ -1,16 +1,16 @@
 -- What an exchange with the console leaves.
-use Rattle.std.proofs.Common.{◌≡◌, ◌≢◌, ◌≤◌, ◌<◌, ◌+◌, ◌⊎◌, ℕ, suc, Bool, true, false, List, [], ◌∷◌, ◌++◌, length, take, Option, Some, None, refl, sym, ap, subst, ◌∙◌, arith, rules, tests, append_assoc, length-append, inl, inr, if◌then◌else◌, Result, Ok, Err}
+use Rattle.std.proofs.Common.{◌≡◌, ◌≢◌, ◌<◌, ◌+◌, ◌⊎◌, ℕ, suc, Bool, true, false, List, [], ◌∷◌, ◌++◌, length, take, Option, Some, None, refl, sym, ap, subst, ◌∙◌, arith, append_assoc, length-append, inl, inr, if◌then◌else◌, Result, Ok, Err}
 use Rattle.std.specs.Prelude as std
 use Rattle.std.specs.Prelude.{◌==◌, MatchOption, slice_get}
 use Rattle.std.specs.Option.{option_map}
-use Rattle.std.specs.Io.KnownBytes.{Appends, Keeps}
+use Rattle.std.specs.Io.KnownBytes.{Keeps}
 use Rattle.std.proofs.KnownBytes.{Appends-trans, Appends-kept}
 use Rattle.std.proofs.lemmas.List.{take_all, append-nil}
 use Rattle.styx_msg.specs.declared.message.Tmsg.{Tmsg}
 use Rattle.styx_msg.specs.declared.message.Tmsg.TheVariants as t
 use Rattle.styx_msg.specs.declared.message.Rmsg.{Rmsg}
 use Rattle.styx_msg.specs.declared.message.Rmsg.TheVariants as r
-use Rattle.styx_msg.specs.Styx.{spelling, t_row, r_row, Fits}
+use Rattle.styx_msg.specs.Styx.{r_row, Fits}
 use Rattle.process_model.specs.Process as model
 use Rattle.dis_meaning.specs.Process.{Process, Printing}
 use Rattle.sys_print.specs.Sent.{IsSent}
@@ -20,15 +20,15 @@ use Rattle.machine_core.specs.declared.event.Event.TheVariants as event
 use Rattle.machine_core.specs.declared.machine.Machine.{Machine}
 use Rattle.machine_core.specs.declared.running.Doing.{Doing}
 use Rattle.machine_core.specs.declared.running.Doing.TheVariants as doing
-use Rattle.machine_core.specs.Journal.{State, fault_in, happens, state_of, quanta}
+use Rattle.machine_core.specs.Journal.{fault_in, happens, state_of, quanta}
 use Rattle.machine_core.specs.Frames.{requests}
 use Rattle.machine_core.specs.Running.{view_doing}
 use Rattle.machine_core.specs.Kept.{view_fault}
 use Rattle.machine_core.specs.declared.reply.ReplyFault.{ReplyFault}
 use Rattle.machine_core.specs.declared.reply.ReplyFault.TheVariants.{NoMemory, Refused}
-use Rattle.machine_core.specs.Standing.{codes, told, state, waiting, Entered, Unchanged, IsRefused, OnlyOutbox, AsksMore}
+use Rattle.machine_core.specs.Standing.{codes, told, state, waiting, Entered, IsRefused, OnlyOutbox, AsksMore}
 use Rattle.machine_core.proofs.Entering as entering
-use Rattle.console_server.specs.Console.{Answers, Writes, Exchange, Serves, output_of}
+use Rattle.console_server.specs.Console.{Writes, Exchange, Serves, output_of}
 use Rattle.console_server.specs.Exchange.{IsRequest, IsServed}
 use Rattle.machine_host.specs.Replies as host
 use Rattle.machine_host.specs.Replies.{IsReply}

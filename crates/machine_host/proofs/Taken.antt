@@ -1,11 +1,11 @@
 -- A process that waits takes the console's reply; and where it asks again, fewer bytes are left to be written.
-use Rattle.std.proofs.Common.{◌≡◌, ℕ, zero, suc, ◌+◌, ◌<◌, ◌≤◌, Bool, true, false, List, [], ◌∷◌, ◌++◌, length, drop, Option, Some, None, refl, sym, ap, subst, ◌∙◌, arith, rules, tests, if◌then◌else◌}
+use Rattle.std.proofs.Common.{◌≡◌, ℕ, zero, suc, ◌+◌, ◌<◌, Bool, true, false, List, [], ◌∷◌, ◌++◌, length, drop, Option, Some, None, refl, sym, ap, subst, ◌∙◌, arith, rules, tests, if◌then◌else◌}
 use Rattle.std.proofs.lemmas.List.{append-nil, drop_all, length-drop}
 use Rattle.std.specs.Prelude.{nat_lt, nat_eq, ◌==◌, slice_get}
 use Rattle.styx_msg.specs.declared.message.Rmsg.{Rmsg}
 use Rattle.styx_msg.specs.declared.message.Rmsg.TheVariants as r
-use Rattle.styx_msg.specs.Styx.{spelling, r_row, Fits, Begins}
-use Rattle.process_model.specs.Process.{Effect, Went, Parks, Polls, Spawns, Asks, Ends, Doing, Ready, Waiting, Asking, Gone}
+use Rattle.styx_msg.specs.Styx.{spelling, r_row, Begins}
+use Rattle.process_model.specs.Process.{Went, Parks, Polls, Spawns, Asks, Ends, Ready, Asking, Gone}
 use Rattle.process_model.specs.Machine as model
 use Rattle.process_model.specs.Machine.{answered, replied}
 use Rattle.process_model.specs.Plain.{no_names}
@@ -15,11 +15,10 @@ use Rattle.system_model.specs.World as outside
 use Rattle.system_model.specs.World.{wrote, end_wait}
 use Rattle.system_model.specs.Prints.{Request, Writing, Answers, Requests, NoReply, hear, took, go_on, refused, ask_piece}
 use Rattle.system_model.specs.Prints as prints
-use Rattle.system_model.specs.Ending.{Ending, Faulted}
-use Rattle.dis_meaning.specs.Words.{Access, Found, Wrong}
+use Rattle.dis_meaning.specs.Words.{Access, Found, Wrong, Raises}
 use Rattle.dis_meaning.specs.Words as words
 use Rattle.dis_meaning.specs.World.{World}
-use Rattle.dis_meaning.specs.Process.{Process, Printing, Does, or_fault, stands_still}
+use Rattle.dis_meaning.specs.Process.{Process, Printing, Does, or_fault}
 use Rattle.dis_meaning.specs.Step.{answer, heard, hears}
 use Rattle.inf_text.specs.Options.{◌>>=◌}
 use Rattle.machine_core.specs.declared.event.Event.TheVariants as event
@@ -91,6 +90,7 @@ stored_so : (k : Writing) (x : World) (p : Process) (m : Access Rattle.dis_meani
     IsTaken k (or_fault x p (and_then m (λ m. Found (Went (f m) (g m)))))
 stored_so k x p (Found m) f g = tt
 stored_so k x p (Wrong n) f g = tt
+stored_so k x p (Raises text) f g = tt
 
 answers_so : (k : Writing) (x : World) (p : Process) (a : Printing) (g : prints.Printing) → IsHeard k g → IsTaken k (hears x p a.place a.at g)
 answers_so k x p a (Answers w v) is = stored_so k x p _ _ _

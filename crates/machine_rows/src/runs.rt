@@ -115,12 +115,12 @@ fn runs_objects(rt: HostRuntime) -> Result<(), Fail> {
     let alloc = rt.alloc();
     let none = Operand::None;
     let jmp = inst(Op::Jmp, none, Middle::None, Operand::Imm(0));
-    let addl = inst(Op::Addl, Operand::Fp(32), Middle::None, Operand::Fp(32));
+    let addc = inst(Op::Addc, Operand::Fp(32), Middle::None, Operand::Fp(32));
     let ret = inst(Op::Ret, none, Middle::None, none);
     let (number, pc) = (110, 0);
     for (code, counts, end) in [
         (jmp, [2048, 2048, 2048].as_slice(), End::Limit),
-        (addl, [1].as_slice(), End::Faulted { number, pc }),
+        (addc, [1].as_slice(), End::Faulted { number, pc }),
         (ret, [1].as_slice(), End::Done),
     ] {
         expect_run(&rt, alloc, code, counts, end)?;

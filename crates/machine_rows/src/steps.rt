@@ -25,14 +25,14 @@ fn text(alloc: Global, spelling: &str) -> Result<Text, AllocError> {
     Ok(Text::from_vec(chars))
 }
 
-fn desc(alloc: Global, size: u32, map: &[u8]) -> Result<TypeDesc, AllocError> {
+pub(crate) fn desc(alloc: Global, size: u32, map: &[u8]) -> Result<TypeDesc, AllocError> {
     let map = seq(alloc, map)?;
     Ok(TypeDesc { size, map })
 }
 
 // An object of this code, whose data are the path of Sys, Sys and a format. Its frames have 11 words; those of a print have its
 // format behind the linkage.
-fn calling(alloc: Global, insts: &[Inst]) -> Result<Object, AllocError> {
+pub(crate) fn calling(alloc: Global, insts: &[Inst]) -> Result<Object, AllocError> {
     let mut types = Vec::new(alloc);
     types.push(desc(alloc, 12, &[0xE0])?)?;
     types.push(desc(alloc, 44, &[])?)?;
@@ -60,7 +60,7 @@ fn calling(alloc: Global, insts: &[Inst]) -> Result<Object, AllocError> {
 }
 
 // The object's data, and the texts that they refer to.
-fn store(alloc: Global) -> Result<Store, AllocError>
+pub(crate) fn store(alloc: Global) -> Result<Store, AllocError>
     ensures { IfOk result (λ s. s.frames ≡ 1) }
 {
     let mut words = blank(alloc, &desc(alloc, 12, &[0xE0])?)?;

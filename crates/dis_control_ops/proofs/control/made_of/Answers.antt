@@ -1,10 +1,8 @@
 use Rattle.std.proofs.Common.{◌≡◌, ℤ, pos, ap, ◌∙◌, sym, arith, subst, w64, to_z, of_z, SFits, if◌then◌else◌}
 use Rattle.std.proofs.lemmas.Int.{to_z-of_z}
 use Rattle.std.specs.Ordering.{int_eq}
-use Rattle.dis_meaning.specs.Words.{Found, Wrong, ◌>>=◌, type_check}
-use Rattle.dis_meaning.specs.Places.{words_in, all_frames}
-use Rattle.dis_meaning.specs.Step.{made_frame, frame_of}
-use Rattle.dis_meaning.specs.Process.{Frame, Process}
+use Rattle.dis_meaning.specs.Words.{Wrong, ◌>>=◌, type_check}
+use Rattle.dis_meaning.specs.Step.{made_frame}
 use Rattle.dis_data_ops.specs.Frames.{view_frames, count, IsAt}
 use Rattle.dis_data_ops.specs.View.{view_process}
 use Rattle.dis_control_ops.proofs.Made.{made_at_place, none_made}

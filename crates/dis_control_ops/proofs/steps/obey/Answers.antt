@@ -23,31 +23,6 @@ returns-in-Lea-clause-gives c =
     gives_op c.load_address.result c.went-in-Lea.result (view_world c.load_address.new.store) (view_process c.load_address.new.proc) c.args.limit c.args.object.now (view_world c.args.store.now) (view_process c.args.proc.now) c.args.inst op.Lea c.in-Lea.is c.went-in-Lea.ensures.went
     (c.load_address.ensures.gives c.args.limit c.args.object.now)
 
-pub returns-in-Addw-clause-gives : goal.returns-in-Addw-clause-gives
-returns-in-Addw-clause-gives c =
-    gives_op c.add.result c.went-in-Addw.result (view_world c.add.new.store) (view_process c.add.new.proc) c.args.limit c.args.object.now (view_world c.args.store.now) (view_process c.args.proc.now) c.args.inst op.Addw c.in-Addw.is c.went-in-Addw.ensures.went
-    (c.add.ensures.gives c.args.limit c.args.object.now)
-
-pub returns-in-Subw-clause-gives : goal.returns-in-Subw-clause-gives
-returns-in-Subw-clause-gives c =
-    gives_op c.subtract.result c.went-in-Subw.result (view_world c.subtract.new.store) (view_process c.subtract.new.proc) c.args.limit c.args.object.now (view_world c.args.store.now) (view_process c.args.proc.now) c.args.inst op.Subw c.in-Subw.is c.went-in-Subw.ensures.went
-    (c.subtract.ensures.gives c.args.limit c.args.object.now)
-
-pub returns-in-Mulw-clause-gives : goal.returns-in-Mulw-clause-gives
-returns-in-Mulw-clause-gives c =
-    gives_op c.multiply.result c.went-in-Mulw.result (view_world c.multiply.new.store) (view_process c.multiply.new.proc) c.args.limit c.args.object.now (view_world c.args.store.now) (view_process c.args.proc.now) c.args.inst op.Mulw c.in-Mulw.is c.went-in-Mulw.ensures.went
-    (c.multiply.ensures.gives c.args.limit c.args.object.now)
-
-pub returns-in-Beqw-clause-gives : goal.returns-in-Beqw-clause-gives
-returns-in-Beqw-clause-gives c =
-    gives_op c.branch_equal.result c.went-in-Beqw.result (view_world c.args.store.now) (view_process c.branch_equal.new.proc) c.args.limit c.args.object.now (view_world c.args.store.now) (view_process c.args.proc.now) c.args.inst op.Beqw c.in-Beqw.is c.went-in-Beqw.ensures.went
-    (c.branch_equal.ensures.gives c.args.limit)
-
-pub returns-in-Bltw-clause-gives : goal.returns-in-Bltw-clause-gives
-returns-in-Bltw-clause-gives c =
-    gives_op c.branch_less.result c.went-in-Bltw.result (view_world c.args.store.now) (view_process c.branch_less.new.proc) c.args.limit c.args.object.now (view_world c.args.store.now) (view_process c.args.proc.now) c.args.inst op.Bltw c.in-Bltw.is c.went-in-Bltw.ensures.went
-    (c.branch_less.ensures.gives c.args.limit)
-
 pub returns-in-Jmp-clause-gives : goal.returns-in-Jmp-clause-gives
 returns-in-Jmp-clause-gives c =
     gives_op c.jump.result c.went-in-Jmp.result (view_world c.args.store.now) (view_process c.jump.new.proc) c.args.limit c.args.object.now (view_world c.args.store.now) (view_process c.args.proc.now) c.args.inst op.Jmp c.in-Jmp.is c.went-in-Jmp.ensures.went

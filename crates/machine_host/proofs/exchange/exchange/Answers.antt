@@ -1,4 +1,4 @@
-use Rattle.std.proofs.Common.{◌≡◌, ◌<◌, ◌∷◌, [], ℕ, List, inl, inr, refl, sym, ap, subst, ◌∙◌}
+use Rattle.std.proofs.Common.{◌<◌, inl, inr, refl, sym, ap, subst}
 use Rattle.machine_host.specs.Talk.{left, left_of}
 use Rattle.machine_host.proofs.Exchanged.{is_request, request_of, is_reply, not_refused, asks_less, went, unserved, unentered, only_memory, on_fault, same_quanta}
 use Rattle.machine_host.proofs.exchange.exchange.Goals as goal

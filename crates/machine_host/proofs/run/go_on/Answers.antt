@@ -1,4 +1,4 @@
-use Rattle.std.proofs.Common.{◌≡◌, ◌∙◌}
+use Rattle.std.proofs.Common.{◌∙◌}
 use Rattle.machine_host.proofs.Exchanged.{quantum_talk, one_quantum, ok_map, err_map}
 use Rattle.machine_host.proofs.run.go_on.Goals as goal
 

@@ -1,6 +1,6 @@
-use Rattle.std.proofs.Common.{◌≡◌, ◌∷◌, [], refl, sym, ap, subst, ◌∙◌}
+use Rattle.std.proofs.Common.{sym, subst}
 use Rattle.sys_print.specs.Sent.{IsSent}
-use Rattle.machine_host.proofs.Exchanged.{Oldest, oldest, taken, calm, still, pends_on, left_is, on_fault}
+use Rattle.machine_host.proofs.Exchanged.{Oldest, oldest}
 use Rattle.machine_host.proofs.run.serve_one.Goals as goal
 
 pub exchange-requires-clause-sent : goal.exchange-requires-clause-sent

@@ -2,7 +2,7 @@ use Rattle.dis_data_ops.specs.Words.{view_word}
 use Rattle.dis_data_ops.specs.View.{view_process, view_world}
 use Rattle.dis_data_ops.specs.Spots.{view_spot}
 use Rattle.dis_data_ops.proofs.Going.{gives_same, one_written}
-use Rattle.dis_data_ops.proofs.storing.finish.Goals as goal
+use Rattle.dis_data_ops.proofs.storing.finish_word.Goals as goal
 
 pub returns-clause-gives : goal.returns-clause-gives
 returns-clause-gives c =
