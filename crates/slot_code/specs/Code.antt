@@ -1,0 +1,46 @@
+-- Three-address code, as plain data: instructions on places, each of which holds a whole value.
+use Rattle.std.specs.Prelude.{ℕ, ℤ, List}
+use Rattle.limbo_values.specs.declared.number.Kind.{Kind}
+use Rattle.limbo_values.specs.declared.operator.Comparison.{Comparison}
+use Rattle.limbo_typed.specs.declared.operation.Operation.{Operation}
+use Rattle.limbo_typed.specs.declared.print.Piece.{Piece}
+
+-- Where a value goes: into a variable of the function or of the module; into a temporary, of which each kind of number has its own; or
+-- among the arguments of the call that is being made ready. Each holds a number of this kind.
+pub data Spot : Type 0 where
+  Variable : Kind → (number : ℕ) → Spot
+  Global : Kind → (number : ℕ) → Spot
+  Temporary : Kind → (number : ℕ) → Spot
+  Argument : Kind → (number : ℕ) → Spot
+
+-- What an instruction takes: what such a place holds, or a number.
+pub data Operand : Type 0 where
+  In : Spot → Operand
+  Number : ℤ → Operand
+
+pub data Inst : Type 0 where
+  -- a place gets a value, which is a step of the program, or hands on what was got already; what an operation gives of one value, or of two
+  Move : (into : Spot) → (from : Operand) → Inst
+  Hand : (into : Spot) → (from : Operand) → Inst
+  Alter : Operation → (into : Spot) → (of : Operand) → Inst
+  Operate : Operation → (into : Spot) → (left right : Operand) → Inst
+  -- so many instructions are passed where a comparison of two numbers holds; always, as a step of the program or as none; or control goes
+  -- so many back
+  Branch : Comparison → (left right : Operand) → (passes : ℕ) → Inst
+  Jump : (passes : ℕ) → Inst
+  Skip : (passes : ℕ) → Inst
+  Back : (by : ℕ) → Inst
+  -- a call of a function is made ready, and is made, with so many arguments that it was given; the answer, of this kind, goes to a place
+  Begin : (function : ℕ) → Inst
+  Call : Kind → (function arguments : ℕ) → (into : Spot) → Inst
+  -- a print by this format is made ready, and is made
+  Format : List Piece → Inst
+  Print : (arguments : ℕ) → (into : Spot) → Inst
+  -- the function ends, and answers a value, or 0
+  Return : (value : Operand) → Inst
+  Leave : Inst
+
+-- A function: how many variables it has, parameters and all, and its instructions.
+pub record Function : Type 0 where
+  pub variables : ℕ
+  pub code : List Inst

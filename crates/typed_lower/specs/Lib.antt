@@ -1,0 +1,5 @@
+pub mod Kinds
+pub mod Terms
+pub mod Statements
+pub mod Stands
+pub mod Keeps

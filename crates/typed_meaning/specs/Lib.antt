@@ -1,0 +1,11 @@
+pub mod Values
+pub mod Formats
+pub mod Trees
+pub mod World
+pub mod Evaluation
+pub mod Program
+pub mod Process
+pub mod Step
+pub mod Rules
+pub mod Runs
+pub mod Replays
