@@ -170,9 +170,9 @@ module _ (routines : List Routine) (functions : List Function) (codes : List Ins
         go.0 d (Argument (part_of t).kind (length vs)) (λ u. todo vs (MoreTerms u ts)) g1 (at_next vs ts f.1)
         (has_at codes _ _ A (sym at) (has_front codes pc A R has)) (λ g2 a w v.
         let few_t : (x : ℕ) → written x ≡ false → writes (Local x) t ≡ false =
-        λ x e. (either_false routines functions codes (writes (Local x) t) (write (Local x) ts) (few x e)).0 in
+        λ x e. (either_false (writes (Local x) t) (write (Local x) ts) (few x e)).0 in
         let few_ts : (x : ℕ) → written x ≡ false → write (Local x) ts ≡ false =
-        λ x e. (either_false routines functions codes (writes (Local x) t) (write (Local x) ts) (few x e)).1 in
+        λ x e. (either_false (writes (Local x) t) (write (Local x) ts) (few x e)).1 in
         let m2 = runs_on written d pc (g1.pc + length A) ps vs g g1 g2 m (after_weaker (W t) written d d _ g1 g2 few_t (omega arith) a) in
         let g3 = record g2 { made = given (length vs) v g2.made } in
         let m3 = one_given written d (g1.pc + length A) ps vs v g g2 m2 in
@@ -244,9 +244,9 @@ module _ (routines : List Routine) (functions : List Function) (codes : List Ins
         has_at codes _ _ R (omega (arith, length-append X (i ∷ H ∷ []))) (has_back codes g.pc F R has) in
         let these : HasAt codes (g.pc + length X) (i ∷ H ∷ []) = has_back codes g.pc X (i ∷ H ∷ []) (has_front codes g.pc F R has) in
         let few_t : (x : ℕ) → written x ≡ false → writes (Local x) t ≡ false =
-        λ x e. (either_false routines functions codes (writes (Local x) t) (write (Local x) ts) (few x e)).0 in
+        λ x e. (either_false (writes (Local x) t) (write (Local x) ts) (few x e)).0 in
         let few_ts : (x : ℕ) → written x ≡ false → write (Local x) ts ≡ false =
-        λ x e. (either_false routines functions codes (writes (Local x) t) (write (Local x) ts) (few x e)).1 in
+        λ x e. (either_false (writes (Local x) t) (write (Local x) ts) (few x e)).1 in
         kept_goes routines functions codes t go.0 k d (λ u. todo [] (MoreTerms u ts)) g (at_next [] ts f.1)
         (has_front codes g.pc X (i ∷ H ∷ []) (has_front codes g.pc F R has)) (λ g1 v a h.
         let m = begun_making d (g.pc + length X) g1 (after_weaker (W t) written d d _ g g1 few_t (omega arith) a) in

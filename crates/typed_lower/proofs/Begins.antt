@@ -129,7 +129,7 @@ module _ (routines : List Routine) (functions : List Function) (codes : List Ins
       applied_two routines functions codes (Change o m p) o (λ vs v. Put p (stored_at p v) (given_by m vs v)) a b
       (changing routines functions codes o m p) f.0.1.0 (goes routines functions codes a f.0.0).0
       (goes routines functions codes b f.0.1.0).0 W
-      (λ x e. two_few routines functions codes (writes (Local x) a) (writes (Local x) b) e) 0 (spot_of p) (λ u. Then (Eval u) rest) g
+      (λ x e. two_few (writes (Local x) a) (writes (Local x) b) e) 0 (spot_of p) (λ u. Then (Eval u) rest) g
       (in_eval routines rest) has (put_ends o m p W 0 _ g rest none d)
   change_effects o m p ts f g rest none has d = absurd f.1
 

@@ -53,7 +53,7 @@ module _ (routines : List Routine) (functions : List Function) (codes : List Ins
   S g todo = Stands routines functions codes g todo
 
   abbrev lands : Bool → Bool → ℕ → ℕ → ℕ
-  lands = landing routines functions codes
+  lands = landing
 
   -- ---- a branch
 
@@ -183,5 +183,5 @@ module _ (routines : List Routine) (functions : List Function) (codes : List Ins
       (λ e v1 f. leads (moved g1 (lands wt e (suc g1.pc) n)) e v1
       (subst (λ p. After W d (lands wt e p n) g (moved g1 (lands wt e (suc g1.pc) n))) end
       (landed W d _ _ g g1 wt e n
-      (after_weaker _ W d d _ g g1 (λ y z. two_few routines functions codes (writes (Local y) a) (writes (Local y) b) z) (omega arith) a1)
+      (after_weaker _ W d d _ g g1 (λ y z. two_few (writes (Local y) a) (writes (Local y) b) z) (omega arith) a1)
       refl)) f))

@@ -69,7 +69,7 @@ module _ (routines : List Routine) (functions : List Function) (codes : List Ins
   S g todo = Stands routines functions codes g todo
 
   abbrev lands : Bool → Bool → ℕ → ℕ → ℕ
-  lands = landing routines functions codes
+  lands = landing
 
   abbrev W : Term → ℕ → Bool
   W t = Written routines functions codes t
@@ -114,9 +114,9 @@ module _ (routines : List Routine) (functions : List Function) (codes : List Ins
               (leads g2 b
               (subst (λ q. After whole d (lands wt b q n) g g2) (omega (arith, a.place, length-append L R))
               (after_then whole d (g.pc + length L) (lands wt b (g'.pc + length R) n) g g' g2
-              (after_weaker (W l) whole d d _ g g' (λ x f. (either_false routines functions codes (writes (Local x) l) _ f).0)
+              (after_weaker (W l) whole d d _ g g' (λ x f. (either_false (writes (Local x) l) _ f).0)
               (omega arith) a)
-              (after_weaker (W r) whole d d _ g' g2 (λ x f. (either_false routines functions codes (writes (Local x) l) _ f).1)
+              (after_weaker (W r) whole d d _ g' g2 (λ x f. (either_false (writes (Local x) l) _ f).1)
               (omega arith) a2)))),
         ))
 
@@ -132,7 +132,7 @@ module _ (routines : List Routine) (functions : List Function) (codes : List Ins
       subst (λ (y : Value). S g' (within (Evaluated y))) (sym (held_truth v b e))
           (leads g' b
           (subst (λ q. After whole d q g g') at
-          (after_weaker (W l) whole d d _ g g' (λ x f. (either_false routines functions codes (writes (Local x) l) _ f).0) (omega arith)
+          (after_weaker (W l) whole d d _ g g' (λ x f. (either_false (writes (Local x) l) _ f).0) (omega arith)
           a))),
     )
     by_outcome has leads g' b v a e (long s at) = (

@@ -1,10 +1,11 @@
 -- The same programs as those of the meaning, whose code computes the same.
-use Rattle.std.proofs.Common.{◌≡◌, ℕ, zero, suc, List, [], length, Option, Some, None, refl, codes}
-use Rattle.std.specs.Prelude.{slice_get}
+use Rattle.std.proofs.Common.{◌≡◌, ℕ, zero, suc, List, [], length, Option, Some, None, refl, subst, arith, codes}
+use Rattle.std.specs.Prelude.{map, slice_get}
 use Rattle.std.specs.Int.{int_wrap}
 use Rattle.std.specs.Fmt.{digits}
 use Rattle.styx_msg.specs.declared.message.Rmsg.TheVariants as r
 use Rattle.process_model.specs.Process.{Went, Asks, Ends}
+use Rattle.limbo_typed.specs.Typed as typed
 use Rattle.limbo_typed.specs.Typed.{Module}
 use Rattle.system_model.specs.Ending.{Ended, Broken}
 use Rattle.typed_meaning.specs.Runs.{first_world}
@@ -14,6 +15,8 @@ use Rattle.slot_code.specs.Machine.{Process, Does}
 use Rattle.slot_code.specs.Step.{step, answer}
 use Rattle.slot_code.specs.Rules.{first_process}
 use Rattle.typed_lower.specs.Statements.{module_code}
+use Rattle.typed_lower.specs.Stands.{AllHandled}
+use Rattle.typed_lower.specs.Keeps.{HasCode}
 
 abbrev opening : Option Function → Process
 opening (Some g) = first_process 0 g
@@ -57,3 +60,48 @@ breaks_at_last = refl
 later_loop_prints : Prints 60 later_loop (codes "1")
 unfolding later_loop int_wrap digits lib.Utf8.encode
 later_loop_prints = refl
+
+-- ---- the law is of such modules: all that stands in these has code
+
+abbrev Handles : Option typed.Function → Type 0
+Handles None = Unit {0}
+Handles (Some f) = AllHandled (map (λ v. v.ty) f.variables) 0 f.body
+
+has_code : (m : Module) → ((n : ℕ) → Handles (slice_get m.functions n)) → HasCode m
+has_code m all n f e = subst Handles e (all n)
+
+counting_all : (n : ℕ) → Handles (slice_get counting.functions n)
+unfolding counting
+counting_all zero = (tt, (((tt, (((tt, (tt, tt)), tt), tt)), tt, refl), (((tt, (tt, tt)), tt, refl), ((tt, tt), tt))))
+counting_all (suc zero) = (((tt, (tt, tt)), tt), (tt, tt))
+counting_all (suc (suc n)) = tt
+
+counting_has_code : HasCode counting
+counting_has_code = has_code counting counting_all
+
+loops_all : (n : ℕ) → Handles (slice_get loops.functions n)
+unfolding loops
+loops_all zero = (
+  (
+    (tt, refl),
+    ((tt, (tt, tt)), tt),
+    (((tt, tt), tt, refl), refl),
+    (
+      (
+        (tt, refl),
+        tt,
+        (((tt, tt), tt, refl), refl),
+        (
+          (((tt, (tt, tt)), tt), (omega arith, tt), tt),
+          ((((tt, (tt, tt)), tt), (omega arith, tt), tt), ((tt, tt), (omega arith, tt))),
+        ),
+      ),
+      tt,
+    ),
+  ),
+  ((tt, tt), tt),
+)
+loops_all (suc n) = tt
+
+loops_have_code : HasCode loops
+loops_have_code = has_code loops loops_all

@@ -32,14 +32,14 @@ module _ (routines : List Routine) (functions : List Function) (codes : List Ins
   one_goes o a goes d s within g cx has arrives =
       applied_one routines functions codes (Apply o) o (λ vs v. Evaluated v) a (applying routines functions codes o) goes
       (Written routines functions codes (Apply o (MoreTerms a NoTerms)))
-      (λ x e. (either_false routines functions codes (writes (Local x) a) false e).0) d s within g cx has
+      (λ x e. (either_false (writes (Local x) a) false e).0) d s within g cx has
       (λ g' a1 w vs v. arrives g' a1 w v)
 
   two_goes : (o : Operation) (a b : Term) → Fresh b → V a → V b → V (Apply o (MoreTerms a (MoreTerms b NoTerms)))
   two_goes o a b fresh goes_a goes_b d s within g cx has arrives =
       applied_two routines functions codes (Apply o) o (λ vs v. Evaluated v) a b (applying routines functions codes o) fresh goes_a goes_b
       (Written routines functions codes (Apply o (MoreTerms a (MoreTerms b NoTerms))))
-      (λ x e. two_few routines functions codes (writes (Local x) a) (writes (Local x) b) e) d s within g cx has
+      (λ x e. two_few (writes (Local x) a) (writes (Local x) b) e) d s within g cx has
       (λ g' a1 w vs v. arrives g' a1 w v)
 
   one_branch : (o : Operation) (a : Term) → V (Apply o (MoreTerms a NoTerms)) → B (Apply o (MoreTerms a NoTerms))

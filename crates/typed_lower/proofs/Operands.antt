@@ -57,6 +57,9 @@ holds_still g x _ (a_value y e) v = refl
 pub not_done : (r : Place → Value) (t u : Term) → next r t ≡ Stepped u → NotDone (next r t)
 not_done r t u e = subst NotDone (sym e) tt
 
+pub no_terms : (v : Value) → fill_all v NoTerms ≡ NoTerms
+no_terms v = refl
+
 module _ (routines : List Routine) (functions : List Function) (codes : List Inst) where
   -- ---- steps of trees
 
@@ -187,9 +190,6 @@ module _ (routines : List Routine) (functions : List Function) (codes : List Ins
       stands.raises w g todo (within t) i k (text_of r) does steps
       (λ n below. c.acts w g n below t (subst NotDone (sym e) tt)
       ∙ ap (λ x. stepped routines w (sourced n (beside g (within t)) below) x within) e)
-
-  pub no_terms : (v : Value) → fill_all v NoTerms ≡ NoTerms
-  no_terms v = refl
 
   -- An operation on one operand.
   pub one_going : (whole : Terms → Term) (o : Operation) (then : List Value → Value → Term) (s : Spot) (x : Operand) (u : Term)

@@ -85,6 +85,17 @@ leaf_stays g x (Read (At t (Global i))) b e n none =
     absurd (false≢true (sym no ∙ ap (λ o. not (is_leaf o)) none))
 leaf_stays g x _ b e n none = absurd (none-some x e)
 
+pub either_false : (a b : Bool) → (a || b) ≡ false → (a ≡ false) × (b ≡ false)
+either_false true b e = absurd (false≢true (sym e))
+either_false false b e = (refl, e)
+
+-- Where control is behind a condition.
+abbrev pub landing : (where_true holds : Bool) → (pc passes : ℕ) → ℕ
+landing true true pc n = pc + n
+landing true false pc n = pc
+landing false true pc n = pc
+landing false false pc n = pc + n
+
 module _ (routines : List Routine) (functions : List Function) (codes : List Inst) where
   abbrev pub Goes : Frame → Block → Type 0
   Goes g todo = Going routines functions codes g todo
@@ -99,13 +110,6 @@ module _ (routines : List Routine) (functions : List Function) (codes : List Ins
   ValueGoes t =
       (d : ℕ) (s : Spot) (within : Term → Block) (g : Frame) → Context routines within → HasAt codes g.pc ((part_of t).value d s)
       → Delivers routines functions codes s within (Written t) d (g.pc + length ((part_of t).value d s)) g → Goes g (within t)
-
-  -- Where control is behind a condition.
-  abbrev pub landing : (where_true holds : Bool) → (pc passes : ℕ) → ℕ
-  landing true true pc n = pc + n
-  landing true false pc n = pc
-  landing false true pc n = pc
-  landing false false pc n = pc + n
 
   -- Its code as a condition goes on at one place or the other, and what the program does next is to decide by the value.
   abbrev pub Decides : (within : Term → Block) → (written : ℕ → Bool) → (where_true : Bool) → (d pc passes : ℕ) → Frame → Type 0
@@ -178,10 +182,6 @@ module _ (routines : List Routine) (functions : List Function) (codes : List Ins
 
   -- ---- two operands
 
-  pub either_false : (a b : Bool) → (a || b) ≡ false → (a ≡ false) × (b ≡ false)
-  either_false true b e = absurd (false≢true (sym e))
-  either_false false b e = (refl, e)
-
   module _ (whole : Terms → Term) (o : Operation) (become : List Value → Value → Term) (a b : Term)
       (its : Applying routines functions codes whole o become)
       (fresh : Fresh b) (goes_a : ValueGoes a) (goes_b : ValueGoes b) (d : ℕ) (within : Term → Block) (c : Context routines within) where
@@ -197,7 +197,7 @@ module _ (routines : List Routine) (functions : List Function) (codes : List Ins
 
     right : (v : Value) → Context routines (λ t. two (Evaluated v) t)
     right v = within_hole routines within _ c (its.holes (λ t. MoreTerms (Evaluated v) (MoreTerms t NoTerms))
-        (later_among v (λ t. MoreTerms t NoTerms) (first_among NoTerms (no_terms routines functions codes))))
+        (later_among v (λ t. MoreTerms t NoTerms) (first_among NoTerms (no_terms))))
 
     abbrev B : Ready
     B = ready (suc d) (part_of b)

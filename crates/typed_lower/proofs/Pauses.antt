@@ -126,28 +126,28 @@ pub starts_low : (a : Bool) (n : ℕ) → n ≤ 5 → Starts a n
 starts_low a n l = (omega (arith, l), λ e. l)
 
 -- Where the value of a tree is kept, or is a leaf: another part begins then.
-abbrev Before : Bool → ℕ → List Inst → Type 0
-Before calls n a = (m : ℕ) → n ≤ m → 3 ≤ m → m ≤ 6 → Calm n m a
+abbrev Before : ℕ → List Inst → Type 0
+Before n a = (m : ℕ) → n ≤ m → 3 ≤ m → m ≤ 6 → Calm n m a
 
 kept_before : (t : Term) → CalmTree t → (d : ℕ) (k : Kind) (n : ℕ) → Starts (makes_call t) n
-    → Before (makes_call t) n ((part_of t).value (suc d) (Temporary k d))
+    → Before n ((part_of t).value (suc d) (Temporary k d))
 kept_before t its d k n s m l l3 l6 = calm_more n 3 m _ l3 (its.value (suc d) (Temporary k d) n s)
 
-none_before : (b : Bool) (n : ℕ) → Before b n []
-none_before b n m l l3 l6 = calm_more n n m [] l (calm_none n (omega (arith, l, l6)))
+none_before : (n : ℕ) → Before n []
+none_before n m l l3 l6 = calm_more n n m [] l (calm_none n (omega (arith, l, l6)))
 
 ready_calm : (t : Term) → CalmTree t → (o : Option Operand) (d : ℕ) (k : Kind) (n : ℕ) → Starts (makes_call t) n
-    → Before (makes_call t) n (ready_of d k o (part_of t).value).before
-ready_calm t its (Some x) d k n s = none_before (makes_call t) n
+    → Before n (ready_of d k o (part_of t).value).before
+ready_calm t its (Some x) d k n s = none_before n
 ready_calm t its None d k n s = kept_before t its d k n s
 
 choice_calm : (t : Term) → CalmTree t → (b : Bool) (x : Operand) (d n : ℕ) → Starts (makes_call t) n
-    → Before (makes_call t) n (if b then kept d (part_of t).kind (part_of t).value else record { before = []; operand = x }).before
+    → Before n (if b then kept d (part_of t).kind (part_of t).value else record { before = []; operand = x }).before
 choice_calm t its true x d n s = kept_before t its d (part_of t).kind n s
-choice_calm t its false x d n s = none_before (makes_call t) n
+choice_calm t its false x d n s = none_before n
 
 unless_calm : (t : Term) → CalmTree t → (o : Option Operand) (changes : Operand → Bool) (d n : ℕ) → Starts (makes_call t) n
-    → Before (makes_call t) n (unless_changed d (part_of t) o changes).before
+    → Before n (unless_changed d (part_of t) o changes).before
 unless_calm t its (Some x) changes d n s = choice_calm t its (changes x) x d n s
 unless_calm t its None changes d n s = kept_before t its d (part_of t).kind n s
 
@@ -163,7 +163,7 @@ two_calm a b ia ib d n i e s =
     B : List Inst
     B = (ready (suc d) (part_of b)).before
 
-    first : Before (makes_call a) n A
+    first : Before n A
     first = unless_calm a ia (part_of a).leaf (part_of b).changes d n (starts_left (makes_call a) (makes_call b) n s)
 
     second : (m : ℕ) → Starts (makes_call b) m → 3 ≤ m → Calm m 6 B
@@ -195,8 +195,8 @@ starts_two false true n s = s
 starts_two false false n s = s
 
 -- A value, and an instruction that stands for a step.
-valued : (b : Bool) (a : List Inst) (n : ℕ) (i : Inst) → is_silent i ≡ false → Calm n 3 a → Calm n 0 (a ++ i ∷ [])
-valued b a n i e x = calm_both n 3 0 a (i ∷ []) x (calm_step 3 i e (omega arith))
+valued : (a : List Inst) (n : ℕ) (i : Inst) → is_silent i ≡ false → Calm n 3 a → Calm n 0 (a ++ i ∷ [])
+valued a n i e x = calm_both n 3 0 a (i ∷ []) x (calm_step 3 i e (omega arith))
 
 abbrev Values : Bool → (ℕ → Spot → List Inst) → Type 0
 Values calls value = (d : ℕ) (s : Spot) (n : ℕ) → Starts calls n → Calm n 3 (value d s)
@@ -205,7 +205,7 @@ plain_branches : (calls : Bool) (value : ℕ → Spot → List Inst) → Values 
     → Starts calls n → Calm n 0 (tested w (ready_of d k o value) m)
 plain_branches calls value v (Some x) k w d m n s = calm_step n (branch w c.Unequal x (Number (pos 0)) m) (branch_loud w _ _ _ m) s.0
 plain_branches calls value v None k w d m n s =
-    valued calls (value (suc d) (Temporary k d)) n (branch w c.Unequal (In (Temporary k d)) (Number (pos 0)) m) (branch_loud w _ _ _ m)
+    valued (value (suc d) (Temporary k d)) n (branch w c.Unequal (In (Temporary k d)) (Number (pos 0)) m) (branch_loud w _ _ _ m)
     (v (suc d) (Temporary k d) n s)
 
 -- ---- operations

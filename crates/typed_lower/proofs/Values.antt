@@ -101,6 +101,11 @@ pub stored_temporaries : (w : World) (g : Frame) (p : Place) (v : Value) (k : Ki
 stored_temporaries w g (At t (Local y)) v k n = refl
 stored_temporaries w g (At t (Global y)) v k n = refl
 
+pub two_few : (a b : Bool) → (a || (b || false)) ≡ false → (a || b) ≡ false
+two_few true b e = e
+two_few false true e = e
+two_few false false e = e
+
 module _ (routines : List Routine) (functions : List Function) (codes : List Inst) where
   abbrev V : Term → Type 0
   V t = ValueGoes routines functions codes t
@@ -153,7 +158,7 @@ module _ (routines : List Routine) (functions : List Function) (codes : List Ins
       → Becomes become s within written d (g.pc + length (applied o (part_of a ∷ []) d s)) g → G g (within (whole (MoreTerms a NoTerms)))
   applied_one whole o become a its goes written few d s within g cx has arrives =
       let r = ready d (part_of a) in
-      let hole = its.holes (λ t. MoreTerms t NoTerms) (first_among NoTerms (no_terms routines functions codes)) in
+      let hole = its.holes (λ t. MoreTerms t NoTerms) (first_among NoTerms (no_terms)) in
       ready_goes routines functions codes a goes d (λ t. within (whole (MoreTerms t NoTerms))) g (within_hole routines within _ cx hole)
       (has_front codes g.pc r.before (Alter o s r.operand ∷ []) has) (λ g1 u a1 h.
       one_going routines functions codes whole o become s r.operand u within g1 its cx h
@@ -232,7 +237,7 @@ module _ (routines : List Routine) (functions : List Function) (codes : List Ins
       let B = Move (spot_of p) (In (Temporary k d)) ∷ Hand s (In (Temporary k d)) ∷ [] in
       let W = Written routines functions codes (Store p t) in
       let few : (x : ℕ) → W x ≡ false → (is_at (Local x) p ≡ false) × (writes (Local x) t ≡ false) =
-      λ x e. either_false routines functions codes (is_at (Local x) p) (writes (Local x) t) e in
+      λ x e. either_false (is_at (Local x) p) (writes (Local x) t) e in
       kept_goes routines functions codes t goes k d (λ u. within (Store p u)) g (within_hole routines within (Store p) cx (in_store p))
       (has_front codes g.pc A B has) (λ g1 v a1 h.
       written_on p k k d s v v (Store p (Evaluated v)) within W g g1 cx (λ x e. (few x e).0)
@@ -262,11 +267,6 @@ module _ (routines : List Routine) (functions : List Function) (codes : List Ins
             (subst (λ q. Delivers routines functions codes s within written d q g) (ap (λ q. suc (suc q)) (sym a1.place)) arrives))),
       )
 
-  pub two_few : (a b : Bool) → (a || (b || false)) ≡ false → (a || b) ≡ false
-  two_few true b e = e
-  two_few false true e = e
-  two_few false false e = e
-
   pub new_one_goes : (o : Operation) (p : Place) (a : Term) → V a → V (Change o given.New p (MoreTerms a NoTerms))
   new_one_goes o p a goes d s within g cx has arrives =
       let k = kind_at p in
@@ -274,9 +274,9 @@ module _ (routines : List Routine) (functions : List Function) (codes : List Ins
       let B = Move (spot_of p) (In (Temporary k d)) ∷ Hand s (In (Temporary k d)) ∷ [] in
       let W = Written routines functions codes (Change o given.New p (MoreTerms a NoTerms)) in
       let few : (x : ℕ) → W x ≡ false → (is_at (Local x) p ≡ false) × ((writes (Local x) a || false) ≡ false) =
-      λ x e. either_false routines functions codes (is_at (Local x) p) (writes (Local x) a || false) e in
+      λ x e. either_false (is_at (Local x) p) (writes (Local x) a || false) e in
       applied_one (Change o given.New p) o (λ vs v. Put p (stored_at p v) v) a (changing routines functions codes o given.New p) goes W
-      (λ x e. (either_false routines functions codes (writes (Local x) a) false (few x e).1).0) (suc d) (Temporary k d) within g cx
+      (λ x e. (either_false (writes (Local x) a) false (few x e).1).0) (suc d) (Temporary k d) within g cx
       (has_front codes g.pc A B has)
       (new_ending p k d (g.pc + length A) s within W g cx (λ x e. (few x e).0) (has_back codes g.pc A B has)
       (subst (λ q. Delivers routines functions codes s within W d q g) (omega (arith, length-append A B)) arrives))
@@ -290,7 +290,7 @@ module _ (routines : List Routine) (functions : List Function) (codes : List Ins
       let W = Written routines functions codes (Change o given.New p (MoreTerms a (MoreTerms b NoTerms))) in
       let few : (x : ℕ) → W x ≡ false
       → (is_at (Local x) p ≡ false) × ((writes (Local x) a || (writes (Local x) b || false)) ≡ false) =
-      λ x e. either_false routines functions codes (is_at (Local x) p) (writes (Local x) a || (writes (Local x) b || false)) e in
+      λ x e. either_false (is_at (Local x) p) (writes (Local x) a || (writes (Local x) b || false)) e in
       applied_two (Change o given.New p) o (λ vs v. Put p (stored_at p v) v) a b (changing routines functions codes o given.New p) fresh
       goes_a goes_b W (λ x e. two_few (writes (Local x) a) (writes (Local x) b) (few x e).1) (suc d) (Temporary k d) within g cx
       (has_front codes g.pc A B has)
@@ -304,10 +304,10 @@ module _ (routines : List Routine) (functions : List Function) (codes : List Ins
       let T = In (Temporary k d) in
       let whole = Change o given.Old p in
       let its = changing routines functions codes o given.Old p in
-      let hole = its.holes (λ t. MoreTerms t NoTerms) (first_among NoTerms (no_terms routines functions codes)) in
+      let hole = its.holes (λ t. MoreTerms t NoTerms) (first_among NoTerms (no_terms)) in
       let W = Written routines functions codes (whole (MoreTerms (Read p) NoTerms)) in
       let few : (x : ℕ) → W x ≡ false → is_at (Local x) p ≡ false =
-      λ x e. (either_false routines functions codes (is_at (Local x) p) (false || false) e).0 in
+      λ x e. (either_false (is_at (Local x) p) (false || false) e).0 in
       leaf_going routines functions codes (Temporary k d) (In (spot_of p)) (Read p) (λ t. within (whole (MoreTerms t NoTerms))) g
       (within_hole routines within _ cx hole) refl has.0 (λ w.
       let X = value_of w g (In (spot_of p)) in
