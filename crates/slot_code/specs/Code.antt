@@ -1,5 +1,5 @@
 -- Three-address code, as plain data: instructions on places, each of which holds a whole value.
-use Rattle.std.specs.Prelude.{ℕ, ℤ, List}
+use Rattle.std.specs.Prelude.{ℕ, ℤ, List, Option}
 use Rattle.limbo_values.specs.declared.number.Kind.{Kind}
 use Rattle.limbo_values.specs.declared.operator.Comparison.{Comparison}
 use Rattle.limbo_typed.specs.declared.operation.Operation.{Operation}
@@ -24,9 +24,9 @@ pub data Inst : Type 0 where
   Hand : (into : Spot) → (from : Operand) → Inst
   Alter : Operation → (into : Spot) → (of : Operand) → Inst
   Operate : Operation → (into : Spot) → (left right : Operand) → Inst
-  -- so many instructions are passed where a comparison of two numbers holds; always, as a step of the program or as none; or control goes
-  -- so many back
-  Branch : Comparison → (left right : Operand) → (passes : ℕ) → Inst
+  -- so many instructions are passed where a comparison of two numbers of a kind holds; always, as a step of the program or as none; or
+  -- control goes so many back
+  Branch : Kind → Comparison → (left right : Operand) → (passes : ℕ) → Inst
   Jump : (passes : ℕ) → Inst
   Skip : (passes : ℕ) → Inst
   Back : (by : ℕ) → Inst
@@ -40,7 +40,22 @@ pub data Inst : Type 0 where
   Return : (value : Operand) → Inst
   Leave : Inst
 
--- A function: how many variables it has, parameters and all, and its instructions.
+-- A function: its name; of which kind each of its variables is, and none for one that refers, which no instruction names; how many of
+-- them, the first, are parameters; of which kind its answer is; and its instructions.
 pub record Function : Type 0 where
-  pub variables : ℕ
+  pub name : List ℕ
+  pub variables : List (Option Kind)
+  pub parameters : ℕ
+  pub answer : Kind
   pub code : List Inst
+
+-- A variable of the module: of which kind it is, none for one that refers, and what it begins with.
+pub record GlobalVariable : Type 0 where
+  pub kind : Option Kind
+  pub initial : ℤ
+
+-- A module: its name, its variables and its functions.
+pub record Module : Type 0 where
+  pub name : List ℕ
+  pub globals : List GlobalVariable
+  pub functions : List Function

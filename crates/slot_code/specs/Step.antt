@@ -61,7 +61,7 @@ module _ (limit : ℕ) (functions : List Function) where
   obey w p (Alter o into of) = gives w p into (result_of o (value_of w p.frame of ∷ []))
   obey w p (Operate o into left right) =
       gives w p into (result_of o (value_of w p.frame left ∷ value_of w p.frame right ∷ []))
-  obey w p (Branch c left right n) =
+  obey w p (Branch k c left right n) =
       goes w p
       (chosen (compared_values c (value_of w p.frame left) (value_of w p.frame right)) (suc p.frame.pc + n) (suc p.frame.pc))
   obey w p (Jump n) = goes w p (suc p.frame.pc + n)

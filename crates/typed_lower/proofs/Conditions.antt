@@ -21,7 +21,7 @@ use Rattle.slot_code.specs.Machine.{Frame, moved, stored, value_of}
 use Rattle.slot_code.specs.Machine as machine
 use Rattle.slot_code.specs.Step as code_step
 use Rattle.slot_code.specs.Step.{compared_values}
-use Rattle.typed_lower.specs.Kinds.{writes}
+use Rattle.typed_lower.specs.Kinds.{kind_in, writes}
 use Rattle.typed_lower.specs.Terms.{Ready, part_of, ready, ready_before, branch, tested, compared as compared_code, kept}
 use Rattle.typed_lower.specs.Stands as stands
 use Rattle.typed_lower.specs.Stands.{Fresh, HasAt, run_to, beside, sourced, coded, obeys, Bursts, Quiet, Stands, Going, Next}
@@ -30,6 +30,7 @@ use Rattle.typed_lower.proofs.Places.{has_front, has_back, has_at, After, after_
 use Rattle.typed_lower.proofs.Operands.{Holds, a_value, Steps, applying, read_it, two_reads}
 use Rattle.typed_lower.proofs.Operands.{one_step, steps_then}
 use Rattle.typed_lower.proofs.Parts.{ValueGoes, BranchGoes, Decides, landing, Written, kept_goes, ready_goes, two_ready}
+use Rattle.typed_lower.proofs.Parts.{taken_alone}
 use Rattle.typed_lower.proofs.Values.{opposite_compared, test_holds, two_few}
 
 truth_holds : (b : Bool) → holds (Num (truth b)) ≡ b
@@ -64,34 +65,34 @@ module _ (routines : List Routine) (functions : List Function) (codes : List Ins
   chosen_place false false pc n = refl
 
   -- What the branch does.
-  branched : (wt : Bool) (x : Comparison) (X Y : Operand) (k : ℕ) (w : World) (g : Frame) (n : ℕ) (gs : List Frame) (p : _)
-      → obeys routines functions w (coded n g gs p) (branch wt x X Y k)
+  branched : (wt : Bool) (kind : Kind) (x : Comparison) (X Y : Operand) (k : ℕ) (w : World) (g : Frame) (n : ℕ) (gs : List Frame) (p : _)
+      → obeys routines functions w (coded n g gs p) (branch wt kind x X Y k)
       ≡ Went w (machine.with_frames (coded n g gs p)
       (moved g (lands wt (compared_values x (value_of w g X) (value_of w g Y)) (suc g.pc) k)) gs)
-  branched true x X Y k w g n gs p =
+  branched true kind x X Y k w g n gs p =
       ap (λ q. Went w (machine.with_frames (coded n g gs p) (moved g q) gs))
       (chosen_place true (compared_values x (value_of w g X) (value_of w g Y)) g.pc k)
-  branched false x X Y k w g n gs p =
+  branched false kind x X Y k w g n gs p =
       ap (λ b. Went w (machine.with_frames (coded n g gs p) (moved g (code_step.chosen b (suc g.pc + k) (suc g.pc))) gs))
       (opposite_compared x (value_of w g X) (value_of w g Y))
       ∙ ap (λ q. Went w (machine.with_frames (coded n g gs p) (moved g q) gs))
       (chosen_place false (compared_values x (value_of w g X) (value_of w g Y)) g.pc k)
 
   -- The tree is evaluated by then, in some steps, and holds where the comparison does; then the program decides.
-  branch_going : (wt : Bool) (x : Comparison) (X Y : Operand) (k : ℕ) (tree : Term) (within : Term → Block) (g : Frame)
-      → slice_get codes g.pc ≡ Some (branch wt x X Y k)
+  branch_going : (wt : Bool) (kind : Kind) (x : Comparison) (X Y : Operand) (k : ℕ) (tree : Term) (within : Term → Block) (g : Frame)
+      → slice_get codes g.pc ≡ Some (branch wt kind x X Y k)
       → ((w : World) → (j : ℕ) × (v : Value) × (holds v ≡ compared_values x (value_of w g X) (value_of w g Y))
       × Steps routines functions codes j w g (within tree) (within (Evaluated v)))
       → ((b : Bool) (v : Value) → holds v ≡ b → (after : Block)
       × Quiet routines functions (moved g (lands wt b (suc g.pc) k)) (within (Evaluated v)) after
       × S (moved g (lands wt b (suc g.pc) k)) after) → G g (within tree)
-  branch_going wt x X Y k tree within g there reading leads =
-      stands.instruction g (within tree) (branch wt x X Y k) there (λ w.
+  branch_going wt kind x X Y k tree within g there reading leads =
+      stands.instruction g (within tree) (branch wt kind x X Y k) there (λ w.
       let r = reading w in
       let b = compared_values x (value_of w g X) (value_of w g Y) in
       let l = leads b r.1 r.2 in
-      stands.passes w g (moved g (lands wt b (suc g.pc) k)) (within tree) l.0 (branch wt x X Y k) (r.0 + 1) refl
-      (branched wt x X Y k w g)
+      stands.passes w g (moved g (lands wt b (suc g.pc) k)) (within tree) l.0 (branch wt kind x X Y k) (r.0 + 1) refl
+      (branched wt kind x X Y k w g)
       (steps_then routines functions codes r.0 1 w w w g g (moved g (lands wt b (suc g.pc) k)) (within tree) (within (Evaluated r.1)) l.0
       r.3
       (λ n below. on (l.1 w n below) here)) (λ z. absurd (never_zero r.0 z)) l.2)
@@ -108,14 +109,14 @@ module _ (routines : List Routine) (functions : List Function) (codes : List Ins
   }
 
   -- A value is tested.
-  pub tested_goes : (r : Ready) (written : ℕ → Bool) (wt : Bool) (d n : ℕ) (within : Term → Block) (g g1 : Frame) (u : Term)
+  pub tested_goes : (k : Kind) (r : Ready) (written : ℕ → Bool) (wt : Bool) (d n : ℕ) (within : Term → Block) (g g1 : Frame) (u : Term)
       → Context routines within → Holds g1 r.operand u → After written d (g.pc + length r.before) g g1
-      → HasAt codes g.pc (tested wt r n)
-      → Decides routines functions codes within written wt d (g.pc + length (tested wt r n)) n g → G g1 (within u)
-  tested_goes r written wt d n within g g1 u cx h a1 has leads =
-      let i = branch wt c.Unequal r.operand (Number (pos 0)) n in
-      let end : suc (g.pc + length r.before) ≡ g.pc + length (tested wt r n) = omega (arith, length-append r.before (i ∷ [])) in
-      branch_going wt c.Unequal r.operand (Number (pos 0)) n u within g1
+      → HasAt codes g.pc (tested wt k r n)
+      → Decides routines functions codes within written wt d (g.pc + length (tested wt k r n)) n g → G g1 (within u)
+  tested_goes k r written wt d n within g g1 u cx h a1 has leads =
+      let i = branch wt k c.Unequal r.operand (Number (pos 0)) n in
+      let end : suc (g.pc + length r.before) ≡ g.pc + length (tested wt k r n) = omega (arith, length-append r.before (i ∷ [])) in
+      branch_going wt k c.Unequal r.operand (Number (pos 0)) n u within g1
       (has_at codes _ _ (i ∷ []) (sym a1.place) (has_back codes g.pc r.before (i ∷ []) has)).0 (λ w.
       let q = read_it routines functions codes within cx w g1 r.operand u h in
       (q.0, value_of w g1 r.operand, sym (test_holds (value_of w g1 r.operand)), q.1))
@@ -125,23 +126,23 @@ module _ (routines : List Routine) (functions : List Function) (codes : List Ins
 
   -- A part whose value is tested.
   pub plain_branch : (t : Term) → V t → (wt : Bool) (d n : ℕ) (within : Term → Block) (g : Frame) → Context routines within
-      → HasAt codes g.pc (tested wt (ready d (part_of t)) n)
+      → HasAt codes g.pc (tested wt (kind_in t) (ready d (part_of t)) n)
       → Decides routines functions codes within (Written routines functions codes t) wt d
-      (g.pc + length (tested wt (ready d (part_of t)) n)) n g → G g (within t)
+      (g.pc + length (tested wt (kind_in t) (ready d (part_of t)) n)) n g → G g (within t)
   plain_branch t goes wt d n within g cx has leads =
       let r = ready d (part_of t) in
       ready_goes routines functions codes t goes d within g cx (has_front codes g.pc r.before _ has)
-      (λ g1 u a1 h. tested_goes r (Written routines functions codes t) wt d n within g g1 u cx h a1 has leads)
+      (λ g1 u a1 h. tested_goes (kind_in t) r (Written routines functions codes t) wt d n within g g1 u cx h a1 has leads)
 
   -- A value that is kept, and then tested.
   pub kept_branch : (t : Term) → V t → (k : Kind) (wt : Bool) (d n : ℕ) (within : Term → Block) (g : Frame) → Context routines within
-      → HasAt codes g.pc (tested wt (kept d k (part_of t).value) n)
+      → HasAt codes g.pc (tested wt k (kept d k (part_of t).value) n)
       → Decides routines functions codes within (Written routines functions codes t) wt d
-      (g.pc + length (tested wt (kept d k (part_of t).value) n)) n g → G g (within t)
+      (g.pc + length (tested wt k (kept d k (part_of t).value) n)) n g → G g (within t)
   kept_branch t goes k wt d n within g cx has leads =
       let r = kept d k (part_of t).value in
       kept_goes routines functions codes t goes k d within g cx (has_front codes g.pc r.before _ has)
-      (λ g1 v a1 h. tested_goes r (Written routines functions codes t) wt d n within g g1 (Evaluated v) cx (a_value v h) a1 has leads)
+      (λ g1 v a1 h. tested_goes k r (Written routines functions codes t) wt d n within g g1 (Evaluated v) cx (a_value v h) a1 has leads)
 
   -- Two numbers are compared.
   compared_holds : (x : Comparison) (k : Kind) (X Y : Value) → (v : Value)
@@ -159,13 +160,14 @@ module _ (routines : List Routine) (functions : List Function) (codes : List Ins
       let o = operation.Compare x k in
       let A = ready_before d (part_of a) (part_of b) in
       let C = ready (suc d) (part_of b) in
-      let i = branch wt x A.operand C.operand n in
+      let i = branch wt k x A.operand C.operand n in
       let W = Written routines functions codes (Apply o (MoreTerms a (MoreTerms b NoTerms))) in
       let end : suc (g.pc + length (A.before ++ C.before)) ≡ g.pc + length ((A.before ++ C.before) ++ i ∷ []) =
       omega (arith, length-append (A.before ++ C.before) (i ∷ [])) in
-      two_ready routines functions codes (Apply o) o (λ vs v. Evaluated v) a b (applying routines functions codes o) fresh goes_a goes_b d
-      within cx g (has_front codes g.pc (A.before ++ C.before) (i ∷ []) has) (λ g1 u v a1 h h2.
-      branch_going wt x A.operand C.operand n (Apply o (MoreTerms u (MoreTerms v NoTerms))) within g1
+      two_ready routines functions codes (Apply o) o (λ vs v. Evaluated v) a b (applying routines functions codes o) fresh goes_a goes_b
+      (part_of a).leaf (part_of b).leaf (λ x e. e) (λ x e. e) (taken_alone false a b) d within cx g (has_front codes g.pc (A.before
+      ++ C.before) (i ∷ []) has) (λ g1 u v a1 h h2.
+      branch_going wt k x A.operand C.operand n (Apply o (MoreTerms u (MoreTerms v NoTerms))) within g1
       (has_at codes _ _ (i ∷ []) (sym a1.place) (has_back codes g.pc (A.before ++ C.before) (i ∷ []) has)).0 (λ w.
       let X = value_of w g1 A.operand in
       let Y = value_of w g1 C.operand in

@@ -5,6 +5,7 @@ use Rattle.std.specs.Int.{int_wrap}
 use Rattle.std.specs.Fmt.{digits}
 use Rattle.styx_msg.specs.declared.message.Rmsg.TheVariants as r
 use Rattle.process_model.specs.Process.{Went, Asks, Ends}
+use Rattle.limbo_values.specs.declared.number.Kind.TheVariants as kind
 use Rattle.limbo_typed.specs.Typed as typed
 use Rattle.limbo_typed.specs.Typed.{Module}
 use Rattle.system_model.specs.Ending.{Ended, Broken}
@@ -14,13 +15,13 @@ use Rattle.slot_code.specs.Code.{Function}
 use Rattle.slot_code.specs.Machine.{Process, Does}
 use Rattle.slot_code.specs.Step.{step, answer}
 use Rattle.slot_code.specs.Rules.{first_process}
-use Rattle.typed_lower.specs.Statements.{module_code}
+use Rattle.typed_lower.specs.Statements.{functions_code}
 use Rattle.typed_lower.specs.Stands.{AllHandled}
 use Rattle.typed_lower.specs.Keeps.{HasCode}
 
 abbrev opening : Option Function → Process
 opening (Some g) = first_process 0 g
-opening None = first_process 0 (record { variables = 0; code = [] })
+opening None = first_process 0 (record { name = []; variables = []; parameters = 0; answer = kind.Int; code = [] })
 
 -- At most so many instructions; each request is answered at once, with all that it asks.
 abbrev mutual
@@ -32,7 +33,7 @@ abbrev mutual
   run (suc n) fs d = None
 
 abbrev outcome : ℕ → Module → Option Outcome
-outcome n m = run n (module_code m) (Went (first_world m) (opening (slice_get (module_code m) 0)))
+outcome n m = run n (functions_code m) (Went (first_world m) (opening (slice_get (functions_code m) 0)))
 
 abbrev Prints : ℕ → Module → List ℕ → Type 0
 Prints n m text = outcome n m ≡ Some (record { bytes = text; how = Ended })

@@ -281,7 +281,7 @@ module _ (routines : List Routine) (functions : List Function) where
     enters : (at k n : ℕ) (w : World) (g g' : Frame) (todo before waits : Block) (f : ℕ) (arguments : List Value) (fs : List source.Frame)
         (gs : List Frame) (p : Option Writing) (r : Routine) (m : Function) → AllWait routines functions fs gs
         → Gone k w (sourced n (beside g todo) fs) w (sourced n (beside g before) fs) → slice_get functions f ≡ Some m
-        → r.variables ≡ m.variables → Does routines functions m.code 0 r.body → FrameWaits routines functions (beside g' waits) g'
+        → r.variables ≡ length m.variables → Does routines functions m.code 0 r.body → FrameWaits routines functions (beside g' waits) g'
         → g'.instance ≡ g.instance → g'.variables ≡ g.variables → (b : Bool)
         → (its_rules).step w (sourced n (beside g before) fs)
         ≡ (if b

@@ -5,24 +5,24 @@ use Rattle.limbo_typed.specs.Typed.{Module}
 use Rattle.typed_meaning.specs.Program.{routines_of}
 use Rattle.typed_meaning.specs.Runs.{first_world, first_process}
 use Rattle.slot_code.specs.Rules as code_rules
-use Rattle.typed_lower.specs.Statements.{module_code}
+use Rattle.typed_lower.specs.Statements.{functions_code}
 use Rattle.typed_lower.specs.Stands.{sides}
 use Rattle.typed_lower.specs.Keeps.{HasCode, Keeps, JournalsAreRuns}
 use Rattle.typed_lower.proofs.Simulation.{follows}
 use Rattle.typed_lower.proofs.Modules.{compiled, begins}
 use Rattle.typed_lower.proofs.Quiet.{few}
 
-pub keeps : (m : Module) → HasCode m → Keeps m (module_code m)
+pub keeps : (m : Module) → HasCode m → Keeps m (functions_code m)
 unfolding follows
 keeps m has = record {
-  follows = follows (routines_of m) (module_code m) (compiled m has) 7 (omega arith) (few m has);
+  follows = follows (routines_of m) (functions_code m) (compiled m has) 7 (omega arith) (few m has);
   pace = refl;
   begins = λ n first h e f. begins m has n first h e f;
 }
 
-pub journals : (m : Module) → HasCode m → JournalsAreRuns m (module_code m)
+pub journals : (m : Module) → HasCode m → JournalsAreRuns m (functions_code m)
 journals m has init first h there its longest journal t e =
     let k = keeps m has in
-    let b = plain_journals (sides (routines_of m) (module_code m)) k.follows (first_world m) (first_world m) (first_process first)
+    let b = plain_journals (sides (routines_of m) (functions_code m)) k.follows (first_world m) (first_world m) (first_process first)
     (code_rules.first_process init h) (k.begins init first h there its) refl longest journal t e in
     record { turns = b.turns; config = b.config; run = record { first = first; there = there; run = b.run }; told = b.trace }

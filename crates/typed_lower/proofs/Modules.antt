@@ -1,6 +1,7 @@
 -- The code of a module's functions does what they mean.
 use Rattle.std.proofs.Common.{◌≡◌, ℕ, suc, ◌+◌, ◌-◌, List, [], ◌∷◌, ◌++◌, length, map, Option, Some, None, refl, sym, ap, ◌∙◌, subst, arith}
 use Rattle.std.proofs.Common.{length-append}
+use Rattle.std.proofs.lemmas.List.{length-map}
 use Rattle.std.proofs.lemmas.Option.{none-some, same_Some, slice_get-map}
 use Rattle.std.specs.Prelude.{slice_get, option_map, replicate}
 use Rattle.limbo_typed.specs.Typed as typed
@@ -11,7 +12,7 @@ use Rattle.typed_meaning.specs.Program.{Routine, routine_of, routines_of}
 use Rattle.typed_meaning.specs.Runs.{first_process}
 use Rattle.slot_code.specs.Code.{Inst, Leave, Function}
 use Rattle.slot_code.specs.Rules as code_rules
-use Rattle.typed_lower.specs.Statements.{stmts_code, function_code, module_code}
+use Rattle.typed_lower.specs.Statements.{number_kind, stmts_code, function_code, functions_code}
 use Rattle.typed_lower.specs.Stands as stands
 use Rattle.typed_lower.specs.Stands.{AllHandled, HasAt, Does, Ready, Compiled}
 use Rattle.typed_lower.specs.Keeps.{HasCode}
@@ -55,16 +56,17 @@ module _ (routines : List Routine) (functions : List Function) where
       (stands.exits (0 + length B) [] Done (λ n a e. absurd (none-some a e)) (λ n a e. absurd (none-some a e)))
 
 compiled_by : (m : Module) → HasCode m → (n : ℕ) → (o : Option typed.Function) → slice_get m.functions n ≡ o
-    → Compiled (routines_of m) (module_code m) n
+    → Compiled (routines_of m) (functions_code m) n
 compiled_by m has n None e =
     stands.missing (slice_get-map routine_of m.functions n ∙ ap (option_map routine_of) e)
     (slice_get-map function_code m.functions n ∙ ap (option_map function_code) e)
 compiled_by m has n (Some f) e =
     stands.there (routine_of f) (function_code f) (slice_get-map routine_of m.functions n ∙ ap (option_map routine_of) e)
-    (slice_get-map function_code m.functions n ∙ ap (option_map function_code) e) refl
-    (body_code_does (routines_of m) (module_code m) f (has n f e))
+    (slice_get-map function_code m.functions n ∙ ap (option_map function_code) e)
+    (sym (length-map f.variables (λ v. number_kind v.ty)))
+    (body_code_does (routines_of m) (functions_code m) f (has n f e))
 
-pub compiled : (m : Module) → HasCode m → (n : ℕ) → Compiled (routines_of m) (module_code m) n
+pub compiled : (m : Module) → HasCode m → (n : ℕ) → Compiled (routines_of m) (functions_code m) n
 compiled m has n = compiled_by m has n (slice_get m.functions n) refl
 
 -- ---- the beginning
@@ -76,8 +78,8 @@ begins_by routines functions n first h e f (stands.missing a b) = absurd (none-s
 begins_by routines functions n first h e f (stands.there r g a b variables does) =
     let same_r : r ≡ first = same_Some r first (sym a ∙ e) in
     let same_g : g ≡ h = same_Some g h (sym b ∙ f) in
-    let many : first.variables ≡ h.variables =
-    ap (λ (x : Routine). x.variables) (sym same_r) ∙ variables ∙ ap (λ (x : Function). x.variables) same_g in
+    let many : first.variables ≡ length h.variables =
+    ap (λ (x : Routine). x.variables) (sym same_r) ∙ variables ∙ ap (λ (x : Function). length x.variables) same_g in
     let its : Does routines functions h.code 0 first.body =
     subst (λ (x : Routine). Does routines functions h.code 0 x.body) same_r
     (subst (λ (x : Function). Does routines functions x.code 0 r.body) same_g does) in
@@ -91,5 +93,6 @@ begins_by routines functions n first h e f (stands.there r g a b variables does)
     }
 
 pub begins : (m : Module) → HasCode m → (n : ℕ) (first : Routine) (h : Function) → slice_get (routines_of m) n ≡ Some first
-    → slice_get (module_code m) n ≡ Some h → Ready (routines_of m) (module_code m) (first_process first) (code_rules.first_process n h)
-begins m has n first h e f = begins_by (routines_of m) (module_code m) n first h e f (compiled m has n)
+    → slice_get (functions_code m) n ≡ Some h → Ready (routines_of m) (functions_code m) (first_process first)
+    (code_rules.first_process n h)
+begins m has n first h e f = begins_by (routines_of m) (functions_code m) n first h e f (compiled m has n)

@@ -17,10 +17,11 @@ use Rattle.typed_meaning.specs.Program.{Routine}
 use Rattle.typed_meaning.specs.Evaluation.{Stepped, next}
 use Rattle.typed_meaning.specs.Process.{reads}
 use Rattle.slot_code.specs.Code.{Spot, Temporary, Operand, In, Number, Inst, Function}
+use Rattle.limbo_types.specs.Types.{Ty}
 use Rattle.slot_code.specs.Code as code
 use Rattle.slot_code.specs.Machine.{Frame, value_of, put}
 use Rattle.typed_lower.specs.Kinds.{spot_at, leaf, is_leaf, changes, writes}
-use Rattle.typed_lower.specs.Terms.{Ready, part_of, ready, ready_of, ready_before, unless_changed, kept}
+use Rattle.typed_lower.specs.Terms.{Ready, part_of, ready, ready_of, unless_changed, kept, own, taken_by}
 use Rattle.typed_lower.specs.Stands as stands
 use Rattle.typed_lower.specs.Stands.{Fresh, HasAt, beside, sourced, Quiet, Stands, Going}
 use Rattle.typed_lower.proofs.Contexts.{Context, stepped, within_hole, first_among, later_among, fresh_fill}
@@ -68,7 +69,16 @@ pub record Stays (g : Frame) (x : Operand) (b : Term) (v : Value) : Type 0 where
       → ((n : ℕ) → writes (Local n) b ≡ false → slice_index_or g'.variables n zero_value ≡ slice_index_or g.variables n zero_value)
       → (w : World) → value_of w g' x ≡ v
 
-leaf_stays : (g : Frame) (x : Operand) (a b : Term) → leaf a ≡ Some x → changes x b ≡ false → leaf b ≡ None → (v : Value) × Stays g x b v
+-- The other tree is no leaf, or the operand is the function's own.
+pub data Alone (x : Operand) (b : Term) : Type 0 where
+  no_leaf : leaf b ≡ None → Alone x b
+  its_own : own (Some x) ≡ Some x → Alone x b
+
+not_global : (t : Ty) (i : ℕ) (b : Term) → not (is_leaf (leaf b)) ≡ false → Alone (In (code.Global (kind_of t) i)) b → ⊥
+not_global t i b unread (no_leaf none) = false≢true (sym unread ∙ ap (λ o. not (is_leaf o)) none)
+not_global t i b unread (its_own e) = none-some _ e
+
+leaf_stays : (g : Frame) (x : Operand) (a b : Term) → leaf a ≡ Some x → changes x b ≡ false → Alone x b → (v : Value) × Stays g x b v
 leaf_stays g x (Literal t (Num z)) b e n none =
     let same : Number z ≡ x = same_Some (Number z) x e in
     subst (λ y. (v : Value) × Stays g y b v) same (Num z, record { now = λ w. refl; later = λ g' k w. refl })
@@ -82,7 +92,7 @@ leaf_stays g x (Read (At t (Local i))) b e n none =
 leaf_stays g x (Read (At t (Global i))) b e n none =
     let same : In (code.Global (kind_of t) i) ≡ x = same_Some (In (spot_at t (Global i))) x e in
     let no : not (is_leaf (leaf b)) ≡ false = subst (λ y. changes y b ≡ false) (sym same) n in
-    absurd (false≢true (sym no ∙ ap (λ o. not (is_leaf o)) none))
+    absurd (not_global t i b no (subst (λ y. Alone y b) (sym same) none))
 leaf_stays g x _ b e n none = absurd (none-some x e)
 
 pub either_false : (a b : Bool) → (a || b) ≡ false → (a ≡ false) × (b ≡ false)
@@ -164,13 +174,17 @@ module _ (routines : List Routine) (functions : List Function) (codes : List Ins
   stays_here : (written : ℕ → Bool) (d : ℕ) (g : Frame) → After written d (g.pc + 0) g g
   stays_here written d g = subst (λ p. After written d p g g) (omega arith) (after_itself written d g)
 
+  -- It is taken as the leaf that it is, or as none.
+  abbrev pub IsLeaf : Term → Option Operand → Type 0
+  IsLeaf t o = (x : Operand) → o ≡ Some x → (part_of t).leaf ≡ Some x
+
   -- An operand.
-  ready_by : (t : Term) → ValueGoes t → (o : Option Operand) → (part_of t).leaf ≡ o → (d : ℕ) (within : Term → Block) (g : Frame)
+  pub ready_by : (t : Term) → ValueGoes t → (o : Option Operand) → IsLeaf t o → (d : ℕ) (within : Term → Block) (g : Frame)
       → Context routines within → HasAt codes g.pc (ready_of d (part_of t).kind o (part_of t).value).before
       → ((g' : Frame) (u : Term)
       → After (Written t) d (g.pc + length (ready_of d (part_of t).kind o (part_of t).value).before) g g'
       → Holds g' (ready_of d (part_of t).kind o (part_of t).value).operand u → Goes g' (within u)) → Goes g (within t)
-  ready_by t goes (Some x) e d within g c has on_it = on_it g t (stays_here (Written t) d g) (a_leaf t (sym (part_leaf t) ∙ e))
+  ready_by t goes (Some x) e d within g c has on_it = on_it g t (stays_here (Written t) d g) (a_leaf t (sym (part_leaf t) ∙ e x refl))
   ready_by t goes None e d within g c has on_it =
       kept_goes t goes (part_of t).kind d within g c has (λ g' v a h. on_it g' (Evaluated v) a (a_value v h))
 
@@ -178,13 +192,16 @@ module _ (routines : List Routine) (functions : List Function) (codes : List Ins
       → HasAt codes g.pc (ready d (part_of t)).before
       → ((g' : Frame) (u : Term) → After (Written t) d (g.pc + length (ready d (part_of t)).before) g g'
       → Holds g' (ready d (part_of t)).operand u → Goes g' (within u)) → Goes g (within t)
-  ready_goes t goes d within g c has on_it = ready_by t goes (part_of t).leaf refl d within g c has on_it
+  ready_goes t goes d within g c has on_it = ready_by t goes (part_of t).leaf (λ x e. e) d within g c has on_it
 
   -- ---- two operands
 
   module _ (whole : Terms → Term) (o : Operation) (become : List Value → Value → Term) (a b : Term)
       (its : Applying routines functions codes whole o become)
-      (fresh : Fresh b) (goes_a : ValueGoes a) (goes_b : ValueGoes b) (d : ℕ) (within : Term → Block) (c : Context routines within) where
+      (fresh : Fresh b) (goes_a : ValueGoes a) (goes_b : ValueGoes b) (left_leaf right_leaf : Option Operand)
+      (its_left : IsLeaf a left_leaf)
+      (its_right : IsLeaf b right_leaf) (alone : (x : Operand) → left_leaf ≡ Some x → right_leaf ≡ None → Alone x b) (d : ℕ)
+      (within : Term → Block) (c : Context routines within) where
     abbrev W : ℕ → Bool
     W x = Written a x || Written b x
 
@@ -200,7 +217,7 @@ module _ (routines : List Routine) (functions : List Function) (codes : List Ins
         (later_among v (λ t. MoreTerms t NoTerms) (first_among NoTerms (no_terms))))
 
     abbrev B : Ready
-    B = ready (suc d) (part_of b)
+    B = ready_of (suc d) (part_of b).kind right_leaf (part_of b).value
 
     -- Behind both.
     abbrev Then : (before : List Inst) → Operand → Frame → Type 0
@@ -215,7 +232,7 @@ module _ (routines : List Routine) (functions : List Function) (codes : List Ins
         let A = (part_of a).value (suc d) (Temporary k d) in
         kept_goes a goes_a k d (λ t. two t b) g left (has_front codes g.pc A B.before has) (λ g1 v a1 h.
         let at : g.pc + length A ≡ g1.pc = sym a1.place in
-        ready_goes b goes_b (suc d) (λ t. two (Evaluated v) t) g1 (right v)
+        ready_by b goes_b right_leaf its_right (suc d) (λ t. two (Evaluated v) t) g1 (right v)
         (has_at codes _ _ B.before at (has_back codes g.pc A B.before has))
         (λ g2 u a2 h2.
         let w1 : After W d (g.pc + length A) g g1 = after_weaker (Written a) W d d _ g g1 (λ x e. (either_false _ _ e).0) (omega arith) a1
@@ -227,18 +244,22 @@ module _ (routines : List Routine) (functions : List Function) (codes : List Ins
         on_it g2 (Evaluated v) u (subst (λ p. After W d p g g2) end (after_then W d _ _ g g1 g2 w1 w2))
         (a_value v (λ w. a2.low k d (omega arith) ∙ h w)) h2))
 
+    leaf_left : (x : Operand) → left_leaf ≡ Some x → leaf a ≡ Some x
+    leaf_left x e = sym (part_leaf a) ∙ its_left x e
+
     -- The left one stays where it is.
-    two_stay : (x : Operand) → leaf a ≡ Some x → changes x b ≡ false → (p : Option Operand) → (part_of b).leaf ≡ p → (g : Frame)
+    two_stay : (x : Operand) → left_leaf ≡ Some x → changes x b ≡ false → (p : Option Operand) → right_leaf ≡ p → (g : Frame)
         → HasAt codes g.pc (ready_of (suc d) (part_of b).kind p (part_of b).value).before
         → ((g' : Frame) (u v : Term)
         → After W d (g.pc + length (ready_of (suc d) (part_of b).kind p (part_of b).value).before) g g' → Holds g' x u
         → Holds g' (ready_of (suc d) (part_of b).kind p (part_of b).value).operand v → Goes g' (two u v)) → Goes g (two a b)
-    two_stay x e n (Some y) eb g has on_it = on_it g a b (stays_here W d g) (a_leaf a e) (a_leaf b (sym (part_leaf b) ∙ eb))
+    two_stay x e n (Some y) eb g has on_it =
+        on_it g a b (stays_here W d g) (a_leaf a (leaf_left x e)) (a_leaf b (sym (part_leaf b) ∙ its_right y eb))
     two_stay x e n None eb g has on_it =
-        let s = leaf_stays g x a b e n (sym (part_leaf b) ∙ eb) in
+        let s = leaf_stays g x a b (leaf_left x e) n (alone x e eb) in
         stands.quietly g (two a b) (two (Evaluated s.0) b)
         (quiet_step (λ t. two t b) left g a (Evaluated s.0)
-        (λ w. leaf_step w g (two a b) x a e ∙ ap (λ v. Stepped (Evaluated v)) (s.1.now w)))
+        (λ w. leaf_step w g (two a b) x a (leaf_left x e) ∙ ap (λ v. Stepped (Evaluated v)) (s.1.now w)))
         (kept_goes b goes_b (part_of b).kind (suc d) (λ t. two (Evaluated s.0) t) g (right s.0) has (λ g1 v a1 h.
         on_it g1 (Evaluated s.0) (Evaluated v)
         (after_weaker (Written b) W d (suc d) _ g g1 (λ z f. (either_false (Written a z) _ f).1) (omega arith) a1)
@@ -247,18 +268,47 @@ module _ (routines : List Routine) (functions : List Function) (codes : List Ins
     abbrev Chosen : Operand → Bool → Ready
     Chosen x ch = if ch then kept d (part_of a).kind (part_of a).value else record { before = []; operand = x }
 
-    by_change : (x : Operand) → leaf a ≡ Some x → (ch : Bool) → (part_of b).changes x ≡ ch → (g : Frame)
+    by_change : (x : Operand) → left_leaf ≡ Some x → (ch : Bool) → (part_of b).changes x ≡ ch → (g : Frame)
         → HasAt codes g.pc ((Chosen x ch).before ++ B.before) → Then (Chosen x ch).before (Chosen x ch).operand g → Goes g (two a b)
     by_change x e true ec g h t = two_kept (part_of a).kind g h t
-    by_change x e false ec g h t = two_stay x e (sym (part_changes b x) ∙ ec) (part_of b).leaf refl g h t
+    by_change x e false ec g h t = two_stay x e (sym (part_changes b x) ∙ ec) right_leaf refl g h t
 
-    two_by : (p : Option Operand) → (part_of a).leaf ≡ p → (g : Frame)
+    two_by : (p : Option Operand) → left_leaf ≡ p → (g : Frame)
         → HasAt codes g.pc ((unless_changed d (part_of a) p (part_of b).changes).before ++ B.before)
         → Then (unless_changed d (part_of a) p (part_of b).changes).before (unless_changed d (part_of a) p (part_of b).changes).operand g
         → Goes g (two a b)
     two_by None e g has on_it = two_kept (part_of a).kind g has on_it
-    two_by (Some x) e g has on_it = by_change x (sym (part_leaf a) ∙ e) ((part_of b).changes x) refl g has on_it
+    two_by (Some x) e g has on_it = by_change x e ((part_of b).changes x) refl g has on_it
 
-    pub two_ready : (g : Frame) → HasAt codes g.pc ((ready_before d (part_of a) (part_of b)).before ++ B.before)
-        → Then (ready_before d (part_of a) (part_of b)).before (ready_before d (part_of a) (part_of b)).operand g → Goes g (two a b)
-    two_ready g has on_it = two_by (part_of a).leaf refl g has on_it
+    abbrev A : Ready
+    A = unless_changed d (part_of a) left_leaf (part_of b).changes
+
+    pub two_ready : (g : Frame) → HasAt codes g.pc (A.before ++ B.before) → Then A.before A.operand g → Goes g (two a b)
+    two_ready g has on_it = two_by left_leaf refl g has on_it
+
+-- ---- operands of an operation that takes long
+
+own_again : (l : Option Operand) (x : Operand) → own l ≡ Some x → own (Some x) ≡ Some x
+own_again (Some (In (code.Global k i))) x e = absurd (none-some x e)
+own_again None x e = absurd (none-some x e)
+own_again (Some (In (code.Variable k i))) x e = ap own (sym e) ∙ e
+own_again (Some (In (code.Temporary k i))) x e = ap own (sym e) ∙ e
+own_again (Some (In (code.Argument k i))) x e = ap own (sym e) ∙ e
+own_again (Some (Number z)) x e = ap own (sym e) ∙ e
+
+own_is : (l : Option Operand) (x : Operand) → own l ≡ Some x → l ≡ Some x
+own_is (Some (In (code.Global k i))) x e = absurd (none-some x e)
+own_is None x e = absurd (none-some x e)
+own_is (Some (In (code.Variable k i))) x e = e
+own_is (Some (In (code.Temporary k i))) x e = e
+own_is (Some (In (code.Argument k i))) x e = e
+own_is (Some (Number z)) x e = e
+
+pub taken_is : (b : Bool) (l : Option Operand) (x : Operand) → taken_by b l ≡ Some x → l ≡ Some x
+taken_is true l x e = own_is l x e
+taken_is false l x e = e
+
+pub taken_alone : (c : Bool) (a b : Term) (x : Operand) → taken_by c (part_of a).leaf ≡ Some x → taken_by c (part_of b).leaf ≡ None
+    → Alone x b
+taken_alone true a b x e n = its_own (own_again (part_of a).leaf x e)
+taken_alone false a b x e n = no_leaf (sym (part_leaf b) ∙ n)

@@ -20,6 +20,7 @@ use Rattle.slot_code.specs.Code.{Format}
 use Rattle.slot_code.specs.Code as code
 use Rattle.typed_lower.specs.Kinds.{leaf, makes_call, make_call, kind_in, kind_at, kind_given, spot_of}
 use Rattle.typed_lower.specs.Terms.{Part, part_of, parts_of, ready, ready_of, ready_before, unless_changed, kept, applied, branch, tested}
+use Rattle.typed_lower.specs.Terms.{takes_long, taken_by, seen_by}
 use Rattle.typed_lower.specs.Terms.{compared, connected, changed, first_put, all_put, made_ready, count}
 use Rattle.typed_lower.specs.Stands.{Fresh, AllFresh, is_silent, run_to}
 
@@ -152,22 +153,24 @@ unless_calm t its (Some x) changes d n s = choice_calm t its (changes x) x d n s
 unless_calm t its None changes d n s = kept_before t its d (part_of t).kind n s
 
 -- Two operands, and an instruction that stands for a step.
-two_calm : (a b : Term) → CalmTree a → CalmTree b → (d n : ℕ) (i : Inst) → is_silent i ≡ false → Starts (makes_call a || makes_call b) n
-    → Calm n 0 ((ready_before d (part_of a) (part_of b)).before ++ (ready (suc d) (part_of b)).before ++ i ∷ [])
-two_calm a b ia ib d n i e s =
+two_calm : (a b : Term) → CalmTree a → CalmTree b → (p q : Option Operand) (d n : ℕ) (i : Inst) → is_silent i ≡ false
+    → Starts (makes_call a || makes_call b) n
+    → Calm n 0 ((unless_changed d (part_of a) p (part_of b).changes).before
+    ++ (ready_of (suc d) (part_of b).kind q (part_of b).value).before ++ i ∷ [])
+two_calm a b ia ib p q d n i e s =
     by (makes_call b) refl
   where
     A : List Inst
-    A = (ready_before d (part_of a) (part_of b)).before
+    A = (unless_changed d (part_of a) p (part_of b).changes).before
 
     B : List Inst
-    B = (ready (suc d) (part_of b)).before
+    B = (ready_of (suc d) (part_of b).kind q (part_of b).value).before
 
     first : Before n A
-    first = unless_calm a ia (part_of a).leaf (part_of b).changes d n (starts_left (makes_call a) (makes_call b) n s)
+    first = unless_calm a ia p (part_of b).changes d n (starts_left (makes_call a) (makes_call b) n s)
 
     second : (m : ℕ) → Starts (makes_call b) m → 3 ≤ m → Calm m 6 B
-    second m t l = ready_calm b ib (part_of b).leaf (suc d) (part_of b).kind m t 6 t.0 (omega arith) (omega arith)
+    second m t l = ready_calm b ib q (suc d) (part_of b).kind m t 6 t.0 (omega arith) (omega arith)
 
     whole : (m : ℕ) → n ≤ m → 3 ≤ m → Starts (makes_call b) m → Calm n 0 (A ++ B ++ i ∷ [])
     whole m l l3 t =
@@ -185,9 +188,9 @@ one_calm a its o d k n i e s =
     calm_both n 6 0 (ready_of d k o (part_of a).value).before (i ∷ []) (ready_calm a its o d k n s 6 s.0 (omega arith) (omega arith))
     (calm_step 6 i e (omega arith))
 
-branch_loud : (w : Bool) (x : Comparison) (a b : Operand) (n : ℕ) → is_silent (branch w x a b n) ≡ false
-branch_loud true x a b n = refl
-branch_loud false x a b n = refl
+branch_loud : (w : Bool) (k : Kind) (x : Comparison) (a b : Operand) (n : ℕ) → is_silent (branch w k x a b n) ≡ false
+branch_loud true k x a b n = refl
+branch_loud false k x a b n = refl
 
 starts_two : (a b : Bool) (n : ℕ) → Starts (a || (b || false)) n → Starts (a || b) n
 starts_two true b n s = s
@@ -202,10 +205,10 @@ abbrev Values : Bool → (ℕ → Spot → List Inst) → Type 0
 Values calls value = (d : ℕ) (s : Spot) (n : ℕ) → Starts calls n → Calm n 3 (value d s)
 
 plain_branches : (calls : Bool) (value : ℕ → Spot → List Inst) → Values calls value → (o : Option Operand) (k : Kind) (w : Bool) (d m n : ℕ)
-    → Starts calls n → Calm n 0 (tested w (ready_of d k o value) m)
-plain_branches calls value v (Some x) k w d m n s = calm_step n (branch w c.Unequal x (Number (pos 0)) m) (branch_loud w _ _ _ m) s.0
+    → Starts calls n → Calm n 0 (tested w k (ready_of d k o value) m)
+plain_branches calls value v (Some x) k w d m n s = calm_step n (branch w k c.Unequal x (Number (pos 0)) m) (branch_loud w k _ _ _ m) s.0
 plain_branches calls value v None k w d m n s =
-    valued (value (suc d) (Temporary k d)) n (branch w c.Unequal (In (Temporary k d)) (Number (pos 0)) m) (branch_loud w _ _ _ m)
+    valued (value (suc d) (Temporary k d)) n (branch w k c.Unequal (In (Temporary k d)) (Number (pos 0)) m) (branch_loud w k _ _ _ m)
     (v (suc d) (Temporary k d) n s)
 
 -- ---- operations
@@ -214,14 +217,17 @@ pub one_value : (o : Operation) (a : Term) → CalmTree a → (calls : Bool) →
     → Values calls (applied o (part_of a ∷ []))
 one_value o a its calls e d s n t =
     calm_more n 0 3 _ (omega arith)
-    (one_calm a its (part_of a).leaf d (part_of a).kind n (Alter o s (ready d (part_of a)).operand) refl
+    (one_calm a its (taken_by (takes_long o) (part_of a).leaf) d (part_of a).kind n (Alter o s (ready d (seen_by o
+    (part_of a))).operand) refl
     (starts_left (makes_call a) false n (subst (λ b. Starts b n) e t)))
 
 pub two_value : (o : Operation) (a b : Term) → CalmTree a → CalmTree b → (calls : Bool) → calls ≡ (makes_call a || (makes_call b || false))
     → Values calls (applied o (part_of a ∷ part_of b ∷ []))
 two_value o a b ia ib calls e d s n t =
     calm_more n 0 3 _ (omega arith)
-    (two_calm a b ia ib d n (Operate o s (ready_before d (part_of a) (part_of b)).operand (ready (suc d) (part_of b)).operand) refl
+    (two_calm a b ia ib (taken_by (takes_long o) (part_of a).leaf) (taken_by (takes_long o) (part_of b).leaf) d n
+    (Operate o s (ready_before d (seen_by o (part_of a)) (seen_by o (part_of b))).operand (ready (suc d) (seen_by o
+    (part_of b))).operand) refl
     (starts_two (makes_call a) (makes_call b) n (subst (λ x. Starts x n) e t)))
 
 one_branches : (o : Operation) (a : Term) (calls : Bool) → Values calls (applied o (part_of a ∷ [])) → (w : Bool) (d m n : ℕ)
@@ -235,8 +241,9 @@ two_branches : (o : Operation) (a b : Term) → CalmTree a → CalmTree b → (c
     → Values calls (applied o (part_of a ∷ part_of b ∷ [])) → (w : Bool) (d m n : ℕ) → Starts calls n
     → Calm n 0 (compared o (part_of a ∷ part_of b ∷ []) (kind_given o) (applied o (part_of a ∷ part_of b ∷ [])) w d m)
 two_branches (operation.Compare x k) a b ia ib calls e v w d m n s =
-    two_calm a b ia ib d n (branch w x (ready_before d (part_of a) (part_of b)).operand (ready (suc d) (part_of b)).operand m)
-    (branch_loud w x _ _ m) (starts_two (makes_call a) (makes_call b) n (subst (λ y. Starts y n) e s))
+    two_calm a b ia ib (part_of a).leaf (part_of b).leaf d n (branch w k x (ready_before d (part_of a) (part_of b)).operand (ready
+    (suc d) (part_of b)).operand m)
+    (branch_loud w k x _ _ m) (starts_two (makes_call a) (makes_call b) n (subst (λ y. Starts y n) e s))
 two_branches o a b ia ib calls e v w d m n s =
     plain_branches calls (applied o (part_of a ∷ part_of b ∷ [])) v None (kind_given o) w d m n s
 

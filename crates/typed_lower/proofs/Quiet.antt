@@ -18,7 +18,7 @@ use Rattle.typed_lower.specs.Terms.{part_of, parts_of, applied, ready, branches}
 use Rattle.typed_lower.specs.Statements as lower
 use Rattle.typed_lower.specs.Statements.{Around, effects, sets, moves, done, condition, either, passed, further, inside, with_test}
 use Rattle.typed_lower.specs.Statements.{while_loop, do_loop}
-use Rattle.typed_lower.specs.Statements.{returned, stmt_code, stmts_code, function_code, module_code}
+use Rattle.typed_lower.specs.Statements.{returned, stmt_code, stmts_code, function_code, functions_code}
 use Rattle.typed_lower.specs.Stands.{Fresh, FreshStm, FreshOption, FreshOptional, Handled, AllHandled, FewSilent, run_to, is_silent}
 use Rattle.typed_lower.specs.Keeps.{HasCode}
 use Rattle.typed_lower.proofs.Bodies.{further_many}
@@ -151,7 +151,7 @@ function_still f h =
     let types = map (λ v. v.ty) f.variables in
     then_more (stmts_code types [] f.body) (Leave ∷ []) (stmts_still types f.body [] h) (one_step Leave refl)
 
-few_by : (m : Module) → HasCode m → (n : ℕ) (h : Function) → slice_get (module_code m) n ≡ Some h → (o : Option typed.Function)
+few_by : (m : Module) → HasCode m → (n : ℕ) (h : Function) → slice_get (functions_code m) n ≡ Some h → (o : Option typed.Function)
     → slice_get m.functions n ≡ o → (pc : ℕ) → run_to 0 h.code pc < 7
 few_by m has n h e None none pc =
     absurd (none-some h (sym (slice_get-map function_code m.functions n ∙ ap (option_map function_code) none) ∙ e))
@@ -162,5 +162,5 @@ few_by m has n h e (Some f) there pc =
     few_runs 0 (function_code f).code (calm_less 0 3 3 (function_code f).code (omega arith) (function_still f (has n f there))).few pc in
     subst (λ (x : Function). run_to 0 x.code pc < 7) same (omega (arith, its))
 
-pub few : (m : Module) → HasCode m → FewSilent (module_code m) 7
+pub few : (m : Module) → HasCode m → FewSilent (functions_code m) 7
 few m has n h e pc = few_by m has n h e (slice_get m.functions n) refl pc

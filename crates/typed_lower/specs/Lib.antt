@@ -3,3 +3,4 @@ pub mod Terms
 pub mod Statements
 pub mod Stands
 pub mod Keeps
+pub mod Sizes

@@ -352,7 +352,7 @@ module _ (routines : List Routine) (functions : List Function) where
 -- A function of the program and its code: of the same number, or none of it.
 pub data Compiled (routines : List Routine) (functions : List Function) (f : ℕ) : Type 0 where
   missing : slice_get routines f ≡ None → slice_get functions f ≡ None → Compiled routines functions f
-  there : (r : Routine) (h : Function) → slice_get routines f ≡ Some r → slice_get functions f ≡ Some h → r.variables ≡ h.variables
+  there : (r : Routine) (h : Function) → slice_get routines f ≡ Some r → slice_get functions f ≡ Some h → r.variables ≡ length h.variables
       → Does routines functions h.code 0 r.body → Compiled routines functions f
 
 -- No function has more than so many instructions in a row that may stand for no step.

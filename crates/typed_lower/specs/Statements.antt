@@ -1,10 +1,14 @@
 -- The code of statements, functions and modules.
 use Rattle.std.specs.Prelude.{ℕ, suc, ◌+◌, false, List, [], ◌∷◌, ◌++◌, length, map, Option, Some, None, slice_index_or}
-use Rattle.limbo_types.specs.Types.{Ty}
+use Rattle.limbo_types.specs.Types.{Ty, Byte, Int, Big}
+use Rattle.limbo_values.specs.declared.number.Kind.{Kind}
+use Rattle.limbo_values.specs.declared.number.Kind.TheVariants as kind
 use Rattle.limbo_typed.specs.Typed as typed
 use Rattle.limbo_typed.specs.Typed.{Stmt, Stmts, Function, Module}
+use Rattle.system_model.specs.Values.{Value, Num}
+use Rattle.typed_meaning.specs.Values.{kind_of}
 use Rattle.typed_meaning.specs.Trees.{Place, Term, Literal, Store, Change, Stm, Eval}
-use Rattle.typed_meaning.specs.Program.{term_of, evaluated, local, declared_value}
+use Rattle.typed_meaning.specs.Program.{term_of, evaluated, local, declared_value, globals_of}
 use Rattle.slot_code.specs.Code.{Temporary, Operand, In, Inst, Move, Jump, Back, Return, Leave}
 use Rattle.slot_code.specs.Code as code
 use Rattle.typed_lower.specs.Kinds.{kind_in, spot_of, leaf}
@@ -104,11 +108,33 @@ module _ (types : List Ty) where
 
 -- ---- functions and modules
 
+-- Of which kind a variable of a type is: none where it isn't a number.
+abbrev pub number_kind : Ty → Option Kind
+number_kind Byte = Some kind.Byte
+number_kind Int = Some kind.Int
+number_kind Big = Some kind.Big
+number_kind t = None
+
 abbrev pub function_code : Function → code.Function
 function_code f = record {
-  variables = length f.variables;
+  name = f.name;
+  variables = map (λ v. number_kind v.ty) f.variables;
+  parameters = length f.of.args;
+  answer = kind_of f.of.answer;
   code = stmts_code (map (λ v. v.ty) f.variables) [] f.body ++ Leave ∷ [];
 }
 
-abbrev pub module_code : Module → List code.Function
-module_code m = map function_code m.functions
+abbrev pub functions_code : Module → List code.Function
+functions_code m = map function_code m.functions
+
+-- A variable of the module, which begins with this value.
+abbrev pub global_code : typed.Var → Value → code.GlobalVariable
+global_code v (Num z) = record { kind = number_kind v.ty; initial = z }
+
+abbrev pub globals_code : List typed.Var → List Value → List code.GlobalVariable
+globals_code [] vs = []
+globals_code (x ∷ xs) [] = []
+globals_code (x ∷ xs) (v ∷ vs) = global_code x v ∷ globals_code xs vs
+
+abbrev pub module_code : Module → code.Module
+module_code m = record { name = m.name; globals = globals_code m.globals (globals_of m); functions = functions_code m }

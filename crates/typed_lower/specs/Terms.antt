@@ -2,7 +2,7 @@
 -- in use.
 use Rattle.std.specs.Prelude.{ℕ, suc, pos, ◌+◌, Bool, true, false, List, [], ◌∷◌, ◌++◌, length, Option, Some, None, if◌then◌else◌}
 use Rattle.limbo_values.specs.declared.number.Kind.{Kind}
-use Rattle.limbo_values.specs.declared.number.Kind.TheVariants.{Int}
+use Rattle.limbo_values.specs.declared.number.Kind.TheVariants.{Byte, Int, Big}
 use Rattle.limbo_values.specs.declared.operator.Comparison.{Comparison}
 use Rattle.limbo_values.specs.declared.operator.Comparison.TheVariants as c
 use Rattle.limbo_typed.specs.declared.operation.Operation.{Operation}
@@ -34,10 +34,10 @@ opposite c.AtMost = c.Greater
 opposite c.Greater = c.AtMost
 opposite c.AtLeast = c.Less
 
--- A branch past so many instructions where a comparison holds, or where it doesn't.
-abbrev pub branch : (where_true : Bool) → Comparison → Operand → Operand → (passes : ℕ) → Inst
-branch true c x y n = Branch c x y n
-branch false c x y n = Branch (opposite c) x y n
+-- A branch past so many instructions where a comparison of numbers of a kind holds, or where it doesn't.
+abbrev pub branch : (where_true : Bool) → Kind → Comparison → Operand → Operand → (passes : ℕ) → Inst
+branch true k c x y n = Branch k c x y n
+branch false k c x y n = Branch k (opposite c) x y n
 
 -- A tree as the code around it takes it: of which kind its value is, whether it is a leaf, whether it makes a call, whether it may change
 -- what a leaf reads; its code, which leaves the value at a place; and its code as a condition, from where control passes so many
@@ -76,20 +76,41 @@ unless_changed d p None changes = kept d p.kind p.value
 abbrev pub ready_before : ℕ → Part → Part → Ready
 ready_before d p q = unless_changed d p p.leaf q.changes
 
+-- An operation of which one instruction of a machine reads the operands and a later one writes the result. Its operands are the function's
+-- own: a variable of the module, which anybody may write meanwhile, is read first.
+abbrev pub takes_long : Operation → Bool
+takes_long (operation.Compare x k) = true
+takes_long operation.Not = true
+takes_long (operation.Convert Byte Big) = true
+takes_long (operation.Convert Big Byte) = true
+takes_long o = false
+
+abbrev pub own : Option Operand → Option Operand
+own (Some (In (code.Global k x))) = None
+own l = l
+
+abbrev pub taken_by : Bool → Option Operand → Option Operand
+taken_by true l = own l
+taken_by false l = l
+
+abbrev pub seen_by : Operation → Part → Part
+seen_by o p = record p { leaf = taken_by (takes_long o) p.leaf }
+
 -- What an operation gives.
 abbrev pub applied : Operation → List Part → ℕ → Spot → List Inst
-applied o (p ∷ []) d s = one (ready d p) (λ x. Alter o s x)
-applied o (p ∷ q ∷ []) d s = two (ready_before d p q) (ready (suc d) q) (λ x y. Operate o s x y)
+applied o (p ∷ []) d s = one (ready d (seen_by o p)) (λ x. Alter o s x)
+applied o (p ∷ q ∷ []) d s =
+    two (ready_before d (seen_by o p) (seen_by o q)) (ready (suc d) (seen_by o q)) (λ x y. Operate o s x y)
 applied o ps d s = []
 
 -- A value is tested, and so is a comparison, which needs no value.
-abbrev pub tested : Bool → Ready → (passes : ℕ) → List Inst
-tested w x n = one x (λ x. branch w c.Unequal x (Number (pos 0)) n)
+abbrev pub tested : Bool → Kind → Ready → (passes : ℕ) → List Inst
+tested w k x n = one x (λ x. branch w k c.Unequal x (Number (pos 0)) n)
 
 abbrev pub compared : Operation → List Part → Kind → (ℕ → Spot → List Inst) → Bool → ℕ → (passes : ℕ) → List Inst
 compared (operation.Compare o j) (p ∷ q ∷ []) k value w d n =
-    two (ready_before d p q) (ready (suc d) q) (λ x y. branch w o x y n)
-compared o ps k value w d n = tested w (kept d k value) n
+    two (ready_before d p q) (ready (suc d) q) (λ x y. branch w j o x y n)
+compared o ps k value w d n = tested w k (kept d k value) n
 
 -- `&&` passes where the left operand doesn't hold, and `||` where it does: to where control passes if that decides so, and else behind the
 -- right operand.
@@ -150,7 +171,7 @@ part t value branches = record {
 }
 
 abbrev pub plain : Term → (ℕ → Spot → List Inst) → Part
-plain t value = part t value (λ w d n. tested w (ready_of d (kind_in t) (leaf t) value) n)
+plain t value = part t value (λ w d n. tested w (kind_in t) (ready_of d (kind_in t) (leaf t) value) n)
 
 -- how many trees there are
 abbrev pub count : Terms → ℕ

@@ -1,8 +1,10 @@
 -- The functions of a checked module, as trees of which nothing is done yet, and what its variables begin with.
 use Rattle.std.specs.Prelude.{ℕ, suc, nat_eq, if◌then◌else◌, List, [], ◌∷◌, map, length, option_map, Option, Some, None, slice_index_or}
-use Rattle.limbo_types.specs.Types.{Ty, Int}
+use Rattle.limbo_types.specs.Types.{Ty, Byte, Int}
+use Rattle.limbo_values.specs.declared.number.Kind.TheVariants as kind
 use Rattle.limbo_typed.specs.declared.module.Initial.{Initial}
 use Rattle.limbo_typed.specs.declared.operation.Given.TheVariants as given
+use Rattle.limbo_typed.specs.declared.operation.Operation.TheVariants as operation
 use Rattle.limbo_typed.specs.declared.print.Printed.{Printed}
 use Rattle.limbo_typed.specs.declared.print.Printed.TheVariants as printed
 use Rattle.limbo_typed.specs.declared.print.Piece.{Piece}
@@ -40,6 +42,11 @@ abbrev pub printing : Printed → typed.Optional → List Piece → Terms → Te
 printing printed.Print typed.Absent ps ts = Print ps ts
 printing _ file ps ts = Missing
 
+-- What is printed of an argument: a byte stands there as an int of the same value.
+abbrev pub as_printed : Ty → Term → Term
+as_printed Byte t = Apply (operation.Convert kind.Byte kind.Int) (MoreTerms t NoTerms)
+as_printed _ t = t
+
 -- `p op= e`, `++` and `--` read the place first; what they give goes there.
 abbrev mutual
   pub term_of : typed.Expr → Term
@@ -55,12 +62,16 @@ abbrev mutual
       at_place (place_of p) (λ q. Change o given.New q (MoreTerms (Read q) (MoreTerms (term_of e) NoTerms)))
   node_of t (typed.Step o g p) = at_place (place_of p) (λ q. Change o g q (MoreTerms (Read q) NoTerms))
   node_of t (typed.Call f es) = Call t f (terms_of es)
-  node_of t (typed.Print w m file ps es) = printing w file ps (terms_of es)
+  node_of t (typed.Print w m file ps es) = printing w file ps (printed_of es)
   node_of t _ = Missing
 
   pub terms_of : typed.Exprs → Terms
   terms_of typed.NoExprs = NoTerms
   terms_of (typed.MoreExprs e es) = MoreTerms (term_of e) (terms_of es)
+
+  pub printed_of : typed.Exprs → Terms
+  printed_of typed.NoExprs = NoTerms
+  printed_of (typed.MoreExprs (Of t n) es) = MoreTerms (as_printed t (node_of t n)) (printed_of es)
 
 -- ---- statements
 

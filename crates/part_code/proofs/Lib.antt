@@ -1,0 +1,9 @@
+mod Level
+mod Alike
+mod Operands
+mod Conditions
+mod Calls
+mod Callees
+mod Expressions
+mod Statements
+mod Functions

@@ -1,0 +1,15 @@
+pub mod Others
+pub mod Leaves
+pub mod Printed
+pub mod Weighed
+pub mod Written
+pub mod Turned
+pub mod Parts
+pub mod Tested
+pub mod Emission
+pub mod Stated
+pub mod Looping
+pub mod Declared
+pub mod Laid
+pub mod Few
+pub mod FewStatements

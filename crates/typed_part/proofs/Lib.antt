@@ -1,0 +1,8 @@
+pub mod Types
+pub mod Others
+pub mod Printing
+pub mod Operands
+pub mod Loops
+pub mod Tests
+pub mod Coded
+mod Examples
