@@ -1,4 +1,5 @@
-pub mod Together
+pub mod Opening
 pub mod Small
+pub mod Strings
 pub mod Beginning
-pub mod Behind
+pub mod Together

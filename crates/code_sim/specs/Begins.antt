@@ -1,9 +1,9 @@
 -- What a machine of a module's object begins with.
 use Rattle.std.specs.Prelude.{◌≡◌, Some}
-use Rattle.limbo_small.specs.Typed.{Module}
-use Rattle.limbo_lower.specs.Code.{module_code}
+use Rattle.limbo_typed.specs.Typed.{Module}
+use Rattle.typed_lower.specs.Statements.{module_code}
 use Rattle.dis_meaning.specs.Opening.{Opened, opened}
-use Rattle.dis_codegen.specs.Start.{opening, first_process}
+use Rattle.dis_follows.specs.Start.{opening, first_process}
 use Rattle.code_sim.specs.Keeps.{object_for}
 
 -- The world and the process in which the object's keeping of the module begins.

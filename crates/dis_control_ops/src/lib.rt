@@ -11,7 +11,7 @@
 //! stands on it.
 //!
 //! In `proofs/`, `Made` has frames that are made by their serials, `Calling` and `Discarding` frames that are called and that go,
-//! `Telling` what is told, `Rowed` instructions by their rows.
+//! `Telling` what is told, `Rowed` instructions by their rows, `Verbs` the verbs of formats.
 #![tactic(auto)]
 
 mod control;

@@ -1,20 +1,16 @@
 //! Texts of blocks, and the text of a print.
 
-ghost use Rattle.std.specs.Prelude.{◌≡◌, drop};
 ghost use Rattle.dis_meaning.specs.Step as meaning;
 ghost use Rattle.dis_data_ops.specs.Words.{view_words, Gives, GivesFault};
 ghost use Rattle.dis_data_ops.specs.View.{view_content, view_world};
 
 use crate::formats::formatted;
-use dis_data_ops::{Content, Fault, Halt, Store, Word, block, number_in, reference, word_at};
+use dis_data_ops::{Content, Fault, Halt, Store, Word, block, reference, word_at};
 use inf_text::Text;
 use std::alloc::Global;
 
 /// Where a print's frame has its format.
 const FORMAT: i64 = 32;
-
-/// How many words of a print's frame stand before the format's arguments.
-const BEFORE_ARGUMENTS: usize = 9;
 
 fn text_of(content: &Content) -> Result<&[char], Fault>
     ensures { GivesFault (λ t. t.now) result (meaning.text_of (view_content content.now)) }
@@ -36,32 +32,11 @@ pub(crate) fn text_at(store: &Store, serial: Option<u64>) -> Result<&[char], Fau
     }
 }
 
-/// The numbers in words.
-fn numbers(alloc: Global, words: &[Word]) -> Result<Vec<i32>, Halt>
-    ensures { Gives (λ v. v.items) result (meaning.numbers (view_words words.now)) }
-{
-    let mut found = Vec::new(alloc);
-    for word in words {
-        let n = number_in(*word)?;
-        found.push(n)?;
-    }
-    Ok(found)
-}
-
-// The words of a print's frame behind its format.
-fn arguments(words: &[Word]) -> &[Word]
-    ensures { view_words result.now ≡ drop 9 (view_words words.now) }
-{
-    let first = BEFORE_ARGUMENTS.min(words.len());
-    &words[first..]
-}
-
 /// The text of a print whose frame has these words.
 pub(crate) fn printed(alloc: Global, store: &Store, words: &[Word]) -> Result<Text, Halt>
     ensures { Gives (λ t. t) result (meaning.printed (view_world store.now) (view_words words.now)) }
 {
     let block = reference(word_at(words, FORMAT)?)?;
     let format = text_at(store, block)?;
-    let args = numbers(alloc, arguments(words))?;
-    formatted(alloc, format, &args)
+    formatted(alloc, format, words)
 }

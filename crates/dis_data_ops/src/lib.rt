@@ -32,7 +32,7 @@ pub use begin::first_process;
 pub use blocks::block;
 pub use frame::{Frame, blank};
 pub use frames::{position, words_in};
-pub use memory::{at_least_zero, int_at, nth, number_in, put, word_at, word_number};
+pub use memory::{at_least_zero, byte_number, int_at, nth, number_in, put, word_at, word_number};
 pub use moves::{load_address, move_reference, move_word};
 pub use process::{Asking, Proc};
 pub use rows::move_words;

@@ -1,4 +1,4 @@
-ghost use Rattle.std.specs.Prelude.{◌≡◌, ◌<◌, length, slice_get, OnOk, OnErr, true};
+ghost use Rattle.std.specs.Prelude.{◌≡◌, ◌<◌, ◌^◌, length, slice_get, IfOk, OnOk, OnErr, true};
 ghost use Rattle.limbo_values.specs.declared.number.Kind.TheVariants.{Int};
 ghost use Rattle.dis_meaning.specs.Words as meaning;
 ghost use Rattle.dis_meaning.specs.Numbers as numbers;
@@ -16,6 +16,17 @@ pub fn word_number(at: i64) -> Result<usize, Fault>
         return Err(Fault::TypeCheck);
     }
     Ok((at / 4) as usize)
+}
+
+/// The number of a byte among those of some words.
+pub fn byte_number(at: i64) -> Result<usize, Fault>
+    ensures number { GivesFault (λ n. n) result (meaning.at_least_zero at) }
+    ensures within { IfOk result (λ n. n < 2 ^ 63) }
+{
+    if at < 0 {
+        return Err(Fault::TypeCheck);
+    }
+    Ok(at as usize)
 }
 
 /// A number that isn't below 0.

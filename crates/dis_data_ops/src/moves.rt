@@ -9,7 +9,7 @@ ghost use Rattle.dis_data_ops.specs.Words.{Gives};
 ghost use Rattle.dis_data_ops.specs.View.{view_process, view_world};
 
 use crate::process::Proc;
-use crate::spots::{address, read, reference, source_plain, source_word, spot_of};
+use crate::spots::{address, around, reference, source_plain, source_word, spot_of};
 use crate::store::Store;
 use crate::storing::finish;
 use crate::word::{Halt, Word};
@@ -40,7 +40,7 @@ pub fn move_reference(store: &mut Store, proc: &mut Proc, inst: Inst) -> Result<
     Ok(finish(store, proc, to, Word::Refer(block))?)
 }
 
-/// `lea`: the address of a source.
+/// `lea`: the address of a source, which is any byte of a word.
 pub fn load_address(store: &mut Store, proc: &mut Proc, inst: Inst) -> Result<(), Halt>
     requires { proc.old.frame.pc + 1 < 2 ^ 64 }
     ensures gives { (limit : ℕ) (o : Object) → Gives (λ _. Went (view_world store.new) (view_process proc.new)) result
@@ -48,7 +48,7 @@ pub fn load_address(store: &mut Store, proc: &mut Proc, inst: Inst) -> Result<()
     ensures kept { OnErr result ((view_world store.new ≡ view_world store.old) × (view_process proc.new ≡ view_process proc.old)) }
 {
     let from = spot_of(store, proc, inst.src)?;
-    let _there = read(store, proc, from)?;
+    let _there = around(store, proc, from)?;
     let to = spot_of(store, proc, inst.dst)?;
     let word = address(proc, from);
     Ok(finish(store, proc, to, word)?)

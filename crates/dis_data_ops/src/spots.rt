@@ -10,7 +10,7 @@ ghost use Rattle.dis_data_ops.specs.Spots.{view_spot};
 
 use crate::blocks::data_at;
 use crate::frames::words_in;
-use crate::memory::{int_at, word_at};
+use crate::memory::{byte_number, int_at, nth, word_at};
 use crate::process::Proc;
 use crate::store::Store;
 use crate::word::{Fault, Halt, Place, Word};
@@ -65,6 +65,15 @@ pub(crate) fn read(store: &Store, proc: &Proc, spot: Spot) -> Result<Word, Fault
     ensures { GivesFault view_word result (meaning.read (view_world store.now) (view_process proc.now) (view_spot spot)) }
 {
     word_at(words_at(store, proc, spot)?, spot.byte())
+}
+
+/// The word in which the byte lies.
+pub(crate) fn around(store: &Store, proc: &Proc, spot: Spot) -> Result<Word, Fault>
+    ensures { GivesFault view_word result (meaning.around (view_world store.now) (view_process proc.now) (view_spot spot)) }
+{
+    let words = words_at(store, proc, spot)?;
+    let byte = byte_number(spot.byte())?;
+    nth(words, byte / 4)
 }
 
 /// The int that stands there.

@@ -11,7 +11,8 @@ use Rattle.dis_objects.specs.Objects.{find, entry, functions_code, data_place, e
 use Rattle.dis_objects.specs.Objects.{functions_data, string_item, globals_items, items_from, sys_imports, init_links, object_of}
 use Rattle.dis_objects.specs.Objects.{entry_length, entry_size, init_of, all_code, most_instructions, zeros_place}
 use Rattle.dis_objects.specs.Proper.{IsProper}
-use Rattle.dis_objects.specs.Sites.{AllSmall, functions_size, code_size, entries_from}
+use Rattle.dis_objects.specs.Words.{AllSmall}
+use Rattle.dis_objects.specs.Sites.{functions_size, code_size, entries_from}
 use Rattle.dis_generation.specs.Site.{IsReady}
 use Rattle.dis_generation.proofs.Ready.{code_long, zeros_near}
 

@@ -12,7 +12,8 @@ use Rattle.dis_objects.specs.Code.{start, sizes, data_bytes, insts_code, within_
 use Rattle.dis_objects.specs.Objects.{entry_size, base_of, function_data, functions_code, context, data_place, zeros_place}
 use Rattle.dis_objects.specs.Objects.{most_instructions, entry, entry_length, begins, code_instructions, init_of}
 use Rattle.dis_objects.specs.Proper.{IsProper, GoesOn}
-use Rattle.dis_objects.specs.Sites.{AllSmall, functions_size, code_size, places_from}
+use Rattle.dis_objects.specs.Words.{AllSmall}
+use Rattle.dis_objects.specs.Sites.{functions_size, code_size, places_from}
 use Rattle.dis_objects.proofs.Layouts.{place_before, place_behind_first}
 use Rattle.dis_objects.proofs.Walks.{Within, room_within, whole_grows}
 use Rattle.dis_generation.specs.Site.{Stands, IsReady}
@@ -94,7 +95,7 @@ module _ (m : Module) (number : ℕ) (f : Function) (room : Room) (zeros : ℕ) 
 -- ---- the module
 
 proper_code : (m : Module) → IsProper m → (n : ℕ) (f : Function) → slice_get m.functions n ≡ Some f → AllSized [] f.code
-proper_code m h n f e = function_sized m f (h n f e)
+proper_code m h n f e = function_sized m f (h.functions n f e)
 
 functions_few : (fs : List Function) → ((n : ℕ) (f : Function) → slice_get fs n ≡ Some f → 0 < sizes f.code) → length fs ≤ functions_size fs
 functions_few [] h = omega arith
@@ -114,7 +115,7 @@ module _ (m : Module) (zeros : ℕ) (entries : List ℕ) (h : IsReady m zeros en
   pub ready_few : length m.functions ≤ most_instructions
   ready_few =
       let some : (n : ℕ) (f : Function) → slice_get m.functions n ≡ Some f → 0 < sizes f.code =
-      λ n f e. let o = one_each [] f.code (proper_code m h.proper n f e) in let s = (h.proper n f e).some in omega (arith, o, s) in
+      λ n f e. let o = one_each [] f.code (proper_code m h.proper n f e) in let s = (h.proper.functions n f e).some in omega (arith, o, s) in
       let r = functions_few m.functions some in
       let s = h.short in omega (arith, r, s)
 
@@ -125,7 +126,7 @@ module _ (m : Module) (zeros : ℕ) (entries : List ℕ) (h : IsReady m zeros en
       room ≡ room_of m.functions f → places ≡ places_from (base_of m.functions k) f.code → Stands m k f room zeros entries places
   ready_stands k f room places e r p = record {
     there = e;
-    proper = h.proper k f e;
+    proper = h.proper.functions k f e;
     small = h.small.frames k f e;
     globals = h.small.globals;
     short = h.short;

@@ -4,12 +4,12 @@ use Rattle.limbo_values.specs.declared.number.Kind.{Kind}
 use Rattle.slot_code.specs.Code.{Spot, Operand, Inst, Function, Module}
 use Rattle.slot_code.specs.View.{view_function, view_module}
 use Rattle.dis_objects.specs.declared.ready.Making.{Making}
-use Rattle.dis_objects.specs.Words.{globals_limit, data_limit}
+use Rattle.dis_objects.specs.Words.{globals_limit, data_limit, SmallFrame, AllSmall}
 use Rattle.dis_objects.specs.Frames.{Room, room_of, all_bytes, most_bytes, made_at, spot_count, operand_count, count}
 use Rattle.dis_objects.specs.Code.{Context, globals_bytes}
 use Rattle.dis_objects.specs.Objects.{entry_size, base_of, context, zeros_place, most_instructions}
 use Rattle.dis_objects.specs.Proper.{IsProper, ProperFunction}
-use Rattle.dis_objects.specs.Sites.{view_room, made_of, IsCounted, SmallFrame, AllSmall, code_size, entries_from, places_from}
+use Rattle.dis_objects.specs.Sites.{view_room, made_of, IsCounted, code_size, entries_from, places_from}
 use Rattle.dis_generation.specs.declared.site.Site.{Site}
 
 -- The function of this number, with the places where the functions' code begins and where that of its instructions does, its frame and the

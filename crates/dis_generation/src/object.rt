@@ -6,7 +6,7 @@ ghost use Rattle.slot_code.specs.View.{view_function, view_module};
 ghost use Rattle.dis_objects.specs.Objects as objects;
 ghost use Rattle.dis_objects.specs.Objects.{object_of, all_code, code_instructions, most_instructions};
 ghost use Rattle.dis_objects.specs.Proper.{IsProper};
-ghost use Rattle.dis_objects.specs.Sites.{AllSmall};
+ghost use Rattle.dis_objects.specs.Words.{AllSmall};
 ghost use Rattle.dis_objects.specs.Spelled.{AreSpelled};
 ghost use Rattle.dis_generation.specs.Site.{IsReady};
 
@@ -106,7 +106,7 @@ fn make_object(
 ///
 /// # Errors
 /// `CodeTooLarge` only where the code passes 1,048,576 instructions, and such a module has no object; `NoMemory`, also for a format whose
-/// text has 4 GiB or more, and for a variable of the module that begins with a number that its kind doesn't have.
+/// text has 4 GiB or more.
 pub fn generate(alloc: Global, module: &SlotModule) -> Result<Object, GenFault>
     requires proper { IsProper (view_module «module».now) }
     requires small { AllSmall (view_module «module».now) }

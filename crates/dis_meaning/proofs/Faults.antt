@@ -18,7 +18,7 @@ use Rattle.dis_meaning.specs.Words.{Place, InFrame, Refer, Address, Access, Foun
 use Rattle.dis_meaning.specs.World.{World}
 use Rattle.dis_meaning.specs.Process.{Frame, Process, Does, or_fault, with_frames, height}
 use Rattle.dis_meaning.specs.Numbers.{Row, Calculates, Shifts, Converts, Moves, Branches, number_row}
-use Rattle.dis_meaning.specs.Places.{Spot, spot, store, read, address, words_at, with_words_at, place_in, read_number, store_number, source_of, source_plain, source_word, given_of, middle_of}
+use Rattle.dis_meaning.specs.Places.{around, Spot, spot, store, address, words_at, with_words_at, place_in, read_number, store_number, source_of, source_plain, source_word, given_of, middle_of}
 use Rattle.dis_meaning.specs.Step.{immediate, target, middle_immediate, frame_at, plains, all_replaced, text_at, module_at, function_of, loaded, printed, answer_spot, place_of, outside_is, answered, without, branch, returns, calls, prints, print_call, sys_call, results, by_row, in_table, obey, work, code_of}
 use Rattle.dis_meaning.specs.Laws.{FaultsChangeNothing, BreaksChangeNothing}
 
@@ -97,7 +97,7 @@ module _ (limit : ℕ) (o : Object) (x : World) (p : Process) (i : Inst) where
       clean_on (spot x p i.src) _ (λ s. clean_on (words_at x p s) _ (λ from. clean_on (word_number (place_in s)) _ (λ k.
       clean_on (given_of Int x p i.middle >>= at_least_zero) _ (λ bytes. clean_on (word_number (pos bytes)) _ (λ count. clean_on (plains from k count) _ (λ vs.
       clean_on (spot x p i.dst) _ (λ d. clean_on (words_at x p d) _ (λ into. clean_on (word_number (place_in d)) _ (λ j. clean_on (all_replaced into j vs >>= with_words_at x p d) _ (λ m. found _ tt))))))))))
-  obey_clean op.Lea = clean_on (spot x p i.src) _ (λ s. clean_on (read x p s) _ (λ w. clean_on (spot x p i.dst) _ (λ d. clean_on (store x p d (address p s)) _ (λ m. found _ tt))))
+  obey_clean op.Lea = clean_on (spot x p i.src) _ (λ s. clean_on (around x p s) _ (λ w. clean_on (spot x p i.dst) _ (λ d. clean_on (store x p d (address p s)) _ (λ m. found _ tt))))
   obey_clean op.Jmp = clean_on (target o i.dst) _ (λ pc. found _ tt)
   obey_clean op.Frame = clean_on (immediate i.src) _ (λ n. clean_on (or_wrong type_check (slice_get o.types n)) _ (λ desc. clean_on (spot x p i.dst) _ (λ d. clean_on (store x p d (Address (InFrame x.frames) (pos 0))) _ (λ m. found _ tt))))
   obey_clean op.Call = clean_on (source_word x p i.src >>= frame_at x p) _ (λ f. clean_on (target o i.dst) _ (λ pc. found _ (calls_clean limit x p f pc)))

@@ -24,7 +24,7 @@ use Rattle.dis_meaning.specs.World.{Sys, World, block, with_block}
 use Rattle.dis_meaning.specs.Process as process
 use Rattle.dis_meaning.specs.Process.{Frame, Process, Does, or_fault, with_words, with_frames, height}
 use Rattle.dis_meaning.specs.Numbers.{Row, Calculates, Shifts, Converts, Moves, Branches, number_row, with_number_at}
-use Rattle.dis_meaning.specs.Places.{Spot, Own, Data, Far, Memory, spot, store, read, address, change, words_in, all_frames, words_at, with_data, with_words_at, place_in, read_number, store_number, source_of, source_plain, source_word, given_of, middle_of}
+use Rattle.dis_meaning.specs.Places.{around, Spot, Own, Data, Far, Memory, spot, store, address, change, words_in, all_frames, words_at, with_data, with_words_at, place_in, read_number, store_number, source_of, source_plain, source_word, given_of, middle_of}
 use Rattle.dis_meaning.specs.Step.{immediate, target, middle_immediate, next, made_frame, frame_at, framed, names, word_of, plains, all_replaced, text_at, module_at, function_of, loaded, path_of_sys, printed, answer_spot, place_of, outside_is, answered, without, branch, returns, calls, prints, print_call, sys_call, results, by_row, in_table, obey, code_of, step, hears, heard, answer}
 use Rattle.dis_meaning.specs.Given.{AreGiven, HasGiven, StaysGiven, IsGivenAfter, SerialsAreGiven}
 use Rattle.dis_meaning.proofs.Begins.{begins_given}
@@ -252,7 +252,7 @@ module _ (x : World) (p : Process) (h : HasGiven x p) where
         any x p h (spot x p i.dst) _ (λ d. any x p h (words_at x p d) _ (λ into. any x p h (word_number (place_in d)) _ (λ j.
         then_next x p h (all_replaced into j vs >>= with_words_at x p d) _
         (on_any (Stays x p h) (all_replaced into j vs) _ (λ words. words_given x p h d words)) (λ m g. next_given x m g))))))))))
-    obey_given op.Lea = any x p h (spot x p i.src) _ (λ s. any x p h (read x p s) _ (λ w. any x p h (spot x p i.dst) _ (λ d. stores_on d (address p s))))
+    obey_given op.Lea = any x p h (spot x p i.src) _ (λ s. any x p h (around x p s) _ (λ w. any x p h (spot x p i.dst) _ (λ d. stores_on d (address p s))))
     obey_given op.Jmp = any x p h (target o i.dst) _ (λ pc. goes_on x p h _ p.below p.made h.running h.waiting h.made)
     obey_given op.Frame =
         any x p h (immediate i.src) _ (λ n. any x p h (or_wrong type_check (slice_get o.types n)) _ (λ desc. any x p h (spot x p i.dst) _ (λ d.

@@ -5,3 +5,5 @@ pub mod Given
 pub mod Examples
 pub mod ReadBack
 pub mod Replacing
+pub mod Formats
+pub mod Around

@@ -100,7 +100,7 @@ whole_pos a = let e : a / 2 ^ 32 * 2 ^ 32 + a % 2 ^ 32 ≡ a = omega arith in ap
 whole_negsuc : (a : ℕ) → high_part (negsuc a) *ℤ pos (2 ^ 32) +ℤ pos (2 ^ 32 - 1 - a % 2 ^ 32) ≡ negsuc a
 whole_negsuc a = grind (arith, ints)
 
-parts_join : (z : ℤ) → joined (high_part z) (low_part z) ≡ z
+pub parts_join : (z : ℤ) → joined (high_part z) (low_part z) ≡ z
 unfolding int_wrap
 parts_join (pos a) = ap (λ low. high_part (pos a) *ℤ pos (2 ^ 32) +ℤ pos low) (of_z-to_z w32 (a % 2 ^ 32) (omega arith)) ∙ whole_pos a
 parts_join (negsuc a) = ap (λ low. high_part (negsuc a) *ℤ pos (2 ^ 32) +ℤ pos low) (of_z-to_z w32 (2 ^ 32 - 1 - a % 2 ^ 32) (omega arith)) ∙ whole_negsuc a

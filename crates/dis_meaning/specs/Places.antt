@@ -1,12 +1,12 @@
 -- The words that operands name (Dis Virtual Machine Specification, "Operand formats").
-use Rattle.std.specs.Prelude.{ℕ, ℤ, ◌+ℤ◌, List, [], ◌∷◌, ◌++◌, map, Some, nat_eq, if◌then◌else◌}
+use Rattle.std.specs.Prelude.{ℕ, ℤ, ◌+ℤ◌, ◌/◌, List, [], ◌∷◌, ◌++◌, map, Some, nat_eq, slice_get, if◌then◌else◌}
 use Rattle.dis_isa.specs.declared.inst.Middle.{Middle}
 use Rattle.dis_isa.specs.declared.inst.Middle.TheVariants as middle
 use Rattle.dis_isa.specs.declared.inst.Operand.{Operand}
 use Rattle.dis_isa.specs.declared.inst.Operand.TheVariants as operand
 use Rattle.limbo_values.specs.declared.number.Kind.{Kind}
 use Rattle.dis_meaning.specs.Words.{Place, InBlock, InFrame, Word, Plain, Refer, Address, Access, Found, Wrong}
-use Rattle.dis_meaning.specs.Words.{◌>>=◌, type_check, dead_address, word_at, stored, plain}
+use Rattle.dis_meaning.specs.Words.{◌>>=◌, type_check, dead_address, or_wrong, at_least_zero, word_at, stored, plain}
 use Rattle.dis_meaning.specs.Numbers.{number_at, with_number_at, immediate_as}
 use Rattle.dis_meaning.specs.World.{Content, Text, Instance, Sys, World, block, with_content}
 use Rattle.dis_meaning.specs.Process.{Frame, Process, with_words, with_frames}
@@ -53,6 +53,10 @@ place_in (Far place at) = at
 -- The word that stands there.
 abbrev pub read : World → Process → Spot → Access Word
 read x p s = words_at x p s >>= λ words. word_at words (place_in s)
+
+-- The word in which the byte lies.
+abbrev pub around : World → Process → Spot → Access Word
+around x p s = words_at x p s >>= λ words. at_least_zero (place_in s) >>= λ n. or_wrong type_check (slice_get words (n / 4))
 
 -- Its address.
 abbrev pub address : Process → Spot → Word

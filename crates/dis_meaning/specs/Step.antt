@@ -1,7 +1,7 @@
 -- One instruction of a process (Dis Virtual Machine Specification, the instructions by name). A source is looked at first, then the
 -- middle, then the destination; the first of them that is wrong decides.
 use Rattle.std.specs.Prelude.{ℕ, zero, suc, ℤ, pos, Bool, true, false, List, [], ◌∷◌, ◌++◌, length}
-use Rattle.std.specs.Prelude.{map, drop, Option, Some, None, Result, Ok, Err, slice_get, nat_eq, nat_lt, codes, if◌then◌else◌}
+use Rattle.std.specs.Prelude.{map, Option, Some, None, Result, Ok, Err, slice_get, nat_eq, nat_lt, codes, if◌then◌else◌}
 use Rattle.std.specs.Ordering.{int_eq}
 use Rattle.std.specs.Str.{bytes_eq}
 use Rattle.styx_msg.specs.declared.message.Rmsg.{Rmsg}
@@ -28,12 +28,12 @@ use Rattle.system_model.specs.World as outside
 use Rattle.system_model.specs.Prints.{Printing, Answers, Requests, NoReply, print, hear}
 use Rattle.system_model.specs.Ending.{Ended, Broken}
 use Rattle.dis_meaning.specs.Words.{Place, InBlock, InFrame, Word, Plain, Refer, Address, Access, Found, Wrong, Raises, ◌>>=◌, type_check}
-use Rattle.dis_meaning.specs.Words.{bad_jump, or_wrong, word_at, number_in, plain, reference, word_number, replaced, at_least_zero, blank}
+use Rattle.dis_meaning.specs.Words.{bad_jump, or_wrong, word_at, plain, reference, word_number, replaced, at_least_zero, blank}
 use Rattle.dis_meaning.specs.World.{Content, Text, Instance, Sys, World, block, with_block}
 use Rattle.dis_meaning.specs.Process as process
 use Rattle.dis_meaning.specs.Process.{Frame, Process, Does, height, at_pc, with_words, with_frames, stands_still, or_fault}
 use Rattle.dis_meaning.specs.Numbers.{Row, Calculates, Shifts, Converts, Moves, Branches, number_row}
-use Rattle.dis_meaning.specs.Places.{Spot, Far, Memory, read, store, spot, source_plain, source_word, read_number, store_number, source_of}
+use Rattle.dis_meaning.specs.Places.{Spot, Far, Memory, around, store, spot, source_plain, source_word, read_number, store_number, source_of}
 use Rattle.dis_meaning.specs.Places.{given_of, middle_of, words_in, all_frames, words_at, with_words_at, place_in, address, behind}
 use Rattle.dis_meaning.specs.Formats.{formatted}
 
@@ -93,21 +93,14 @@ abbrev pub text_at : World → Option ℕ → Access (List ℕ)
 text_at x None = Found []
 text_at x (Some n) = block x n >>= text_of
 
--- The numbers in these words.
-abbrev pub numbers : List Word → Access (List ℤ)
-numbers [] = Found []
-numbers (w ∷ ws) = number_in w >>= λ n. numbers ws >>= λ ns. Found (n ∷ ns)
-
 -- Where a call's answer goes: the address that stands at 16 of its frame.
 abbrev pub answer_spot : List Word → Access Spot
 answer_spot words = word_at words (pos 16) >>= λ w. behind w (pos 0)
 
--- What a print's frame holds: the format is the first argument, at 32, and the others follow.
+-- What a print's frame holds: the format is the first argument, at 32, and the numbers follow, from 36 on.
 abbrev pub printed : World → List Word → Access (List ℕ)
 printed x words =
-    word_at words (pos 32) >>= reference >>= text_at x >>= λ format.
-    numbers (drop 9 words) >>= λ args.
-    or_wrong type_check (formatted format args)
+    word_at words (pos 32) >>= reference >>= text_at x >>= λ format. formatted words format 36
 
 abbrev pub word_of : Value → Word
 word_of (Num n) = Plain n
@@ -277,7 +270,7 @@ module _ (limit : ℕ) (o : Object) where
       all_replaced into j vs >>= with_words_at x p d >>= λ m.
       Found (next m)
   obey x p i op.Lea =
-      spot x p i.src >>= λ s. read x p s >>= λ w. spot x p i.dst >>= λ d. store x p d (address p s) >>= λ m. Found (next m)
+      spot x p i.src >>= λ s. around x p s >>= λ w. spot x p i.dst >>= λ d. store x p d (address p s) >>= λ m. Found (next m)
   obey x p i op.Jmp = target o i.dst >>= λ pc. Found (jumps x p pc)
   obey x p i op.Frame =
       immediate i.src >>= λ n.

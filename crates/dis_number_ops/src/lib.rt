@@ -15,4 +15,5 @@ mod operands;
 mod results;
 
 pub use arithmetic::{calculate, convert, move_number, shift_by};
+pub use numbers::{nth_big, nth_number};
 pub use operands::{given_of, source_of};

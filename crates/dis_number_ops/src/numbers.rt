@@ -1,33 +1,22 @@
 //! Numbers as they lie in words (Dis Virtual Machine Specification, "Data representations").
 
-ghost use Rattle.std.specs.Prelude.{◌≡◌, pos, ◌<◌, ◌^◌, length, slice_index, IfOk, OnOk};
+ghost use Rattle.std.specs.Prelude.{◌≡◌, pos, ◌+◌, ◌<◌, length, slice_index, IfOk, OnOk};
 ghost use Rattle.limbo_values.specs.declared.number.Kind.TheVariants as kind;
 ghost use Rattle.limbo_values.specs.Numbers.{kind_of, value_of};
-ghost use Rattle.dis_meaning.specs.Words as words;
 ghost use Rattle.dis_meaning.specs.Numbers as meaning;
 ghost use Rattle.dis_data_ops.specs.Words.{view_words, GivesFault};
+ghost use Rattle.dis_number_ops.specs.Bigs.{nth_big};
 
-use dis_data_ops::{Fault, Word, int_at, nth, number_in, word_number};
+use dis_data_ops::{Fault, Word, byte_number, int_at, nth, number_in, word_number};
 use limbo_values::{Kind, Number, int};
 
-// The number in the word of this number.
-pub(crate) fn nth_number(words: &[Word], k: usize) -> Result<i32, Fault>
+/// The number in the word of this number.
+pub fn nth_number(words: &[Word], k: usize) -> Result<i32, Fault>
     ensures number { GivesFault (λ n. n) result (meaning.nth_number (view_words words.now) k) }
     ensures within { OnOk result (k < length words.now) }
 {
     let word = nth(words, k)?;
     number_in(word)
-}
-
-/// The number of a byte among those of some words.
-pub(crate) fn byte_number(at: i64) -> Result<usize, Fault>
-    ensures number { GivesFault (λ n. n) result (words.at_least_zero at) }
-    ensures within { IfOk result (λ n. n < 2 ^ 63) }
-{
-    if at < 0 {
-        return Err(Fault::TypeCheck);
-    }
-    Ok(at as usize)
 }
 
 // One of the four bytes of a plain word, the most significant of which is the first.
@@ -76,13 +65,21 @@ fn byte_at(words: &[Word], at: i64) -> Result<u8, Fault>
     Ok(byte_of(word, n % 4))
 }
 
+/// The big in the word of this number and the next.
+pub fn nth_big(words: &[Word], k: usize) -> Result<i64, Fault>
+    ensures number { GivesFault (λ n. n) result (nth_big (view_words words.now) k) }
+    ensures within { OnOk result (k + 1 < length words.now) }
+{
+    let high = nth_number(words, k)?;
+    let low = nth_number(words, k + 1)?;
+    Ok(joined(high, low))
+}
+
 fn big_at(words: &[Word], at: i64) -> Result<i64, Fault>
     ensures { GivesFault (λ n. n) result (meaning.number_at kind.Big (view_words words.now) at) }
 {
     let k = word_number(at)?;
-    let high = nth_number(words, k)?;
-    let low = nth_number(words, k + 1)?;
-    Ok(joined(high, low))
+    nth_big(words, k)
 }
 
 /// The number of a kind at a byte.

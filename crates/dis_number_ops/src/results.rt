@@ -15,9 +15,11 @@ ghost use Rattle.dis_data_ops.specs.Spots.{view_spot};
 ghost use Rattle.dis_data_ops.specs.Storing.{goes_on};
 ghost use Rattle.dis_number_ops.specs.Bytes.{moved, word_with_byte};
 
-use crate::numbers::{byte_number, high_part, low_part, nth_number, with_byte};
+use crate::numbers::{high_part, low_part, nth_number, with_byte};
 use crate::operands::read_number;
-use dis_data_ops::{Fault, Halt, Proc, Spot, Store, Word, finish, finish_all, words_at};
+use dis_data_ops::{
+    Fault, Halt, Proc, Spot, Store, Word, byte_number, finish, finish_all, words_at,
+};
 use limbo_values::{Kind, Number, Raised};
 
 // The byte at which the word of a byte begins, and that word with the byte in it.

@@ -11,8 +11,7 @@ use Rattle.slot_code.specs.Layout.{end_of}
 use Rattle.dis_objects.specs.Frames.{Callee, Calls, Room, made_by, made_from, all_bytes, most_bytes, inst_count, count, room_of, whole}
 use Rattle.dis_objects.specs.Frames.{parameters, parameters_of}
 use Rattle.dis_objects.specs.Objects.{callee_bytes, most_callee, zeros_bytes, print_bytes, most_printed, most_of_all}
-use Rattle.dis_objects.specs.Sites.{SmallFrame}
-use Rattle.dis_objects.specs.Words.{frame_limit}
+use Rattle.dis_objects.specs.Words.{frame_limit, SmallFrame}
 use Rattle.dis_objects.proofs.Layouts.{end_grows}
 
 -- ---- walks

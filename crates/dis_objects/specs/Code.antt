@@ -351,8 +351,8 @@ frame_type f = pos (suc f)
 abbrev pub framed : Context → ℤ → code_inst.Inst
 framed c type = inst op.Frame (operand.Imm type) middle.None (made_word c)
 
--- A call is for what was begun last. A print takes the text of its format from where the data of its `Format` stand, which are in front of
--- its own: the first datum of a print is the text.
+-- A call is for what was begun last. The text of a print's format is the first of its own data, and the number of bytes that its arguments
+-- take is the next.
 abbrev pub calling : Context → (at : ℕ) → (function : ℕ) → Spot → List Callee → Code
 calling c at f into [] = []
 calling c at f into (callee ∷ made) =

@@ -6,7 +6,10 @@ use Rattle.limbo_values.specs.declared.number.Kind.TheVariants.{Byte, Int, Big}
 use Rattle.limbo_values.specs.Numbers.{InRange}
 use Rattle.limbo_typed.specs.declared.operation.Operation.{Operation}
 use Rattle.limbo_typed.specs.declared.operation.Operation.TheVariants as operation
+use Rattle.limbo_typed.specs.declared.print.Hole.{Hole}
+use Rattle.limbo_typed.specs.declared.print.Hole.TheVariants as hole
 use Rattle.limbo_typed.specs.declared.print.Piece.{Piece}
+use Rattle.limbo_typed.specs.declared.print.Piece.TheVariants as piece
 use Rattle.slot_code.specs.Code.{Spot, Variable, Global, Temporary, Argument, Operand, In, Number, Inst, Move, Hand, Alter, Operate, Branch}
 use Rattle.slot_code.specs.Code.{Jump, Skip, Back, Begin, Call, Format, Print, Return, Leave, Function, GlobalVariable, Module}
 use Rattle.dis_objects.specs.Frames.{Callee, Calls, Prints, made_at, printed_kinds, parameters}
@@ -45,6 +48,18 @@ ReadsOwn (operation.Convert Byte Big) x = IsOwn x
 ReadsOwn (operation.Convert Big Byte) x = IsOwn x
 ReadsOwn o x = Unit {0}
 
+-- Holes of a format that each tell a number.
+abbrev pub TellsNumber : Hole → Type 0
+TellsNumber (hole.Decimal k) = Unit {0}
+TellsNumber hole.Character = Unit {0}
+TellsNumber hole.Hexadecimal = Unit {0}
+TellsNumber h = ⊥
+
+abbrev pub AllTellNumbers : List Piece → Type 0
+AllTellNumbers [] = Unit {0}
+AllTellNumbers (piece.Chars s ∷ ps) = AllTellNumbers ps
+AllTellNumbers (piece.Hole h ∷ ps) = TellsNumber h × AllTellNumbers ps
+
 module _ (m : Module) (f : Function) where
   -- A variable of the function or of the module, or a temporary.
   abbrev pub IsRead : Spot → Type 0
@@ -74,7 +89,7 @@ module _ (m : Module) (f : Function) where
     pub within : pc < length f.code
     pub made : made_at f.code pc ≡ cs
 
-  -- A call, with the arguments that it takes, and a print, with as many as its format has holes.
+  -- A call, with the arguments that it takes.
   pub record CallsFunction (cs : List Callee) (k : Kind) (number arguments : ℕ) (into : Spot) : Type 0 where
     pub others : List Callee
     pub last : cs ≡ Calls number ∷ others
@@ -87,10 +102,12 @@ module _ (m : Module) (f : Function) where
     pub written : IsWritten others into
     pub kind : spot_kind into ≡ k
 
+  -- A print takes as many numbers as its format has holes: each hole tells one.
   pub record PrintsFormat (cs : List Callee) (arguments : ℕ) (into : Spot) : Type 0 where
     pub others : List Callee
     pub pieces : List Piece
     pub last : cs ≡ Prints pieces ∷ others
+    pub holes : AllTellNumbers pieces
     pub takes : length (printed_kinds pieces) ≡ arguments
     pub written : IsRead into
     pub kind : spot_kind into ≡ Int
@@ -120,5 +137,7 @@ module _ (m : Module) (f : Function) where
     pub some : 0 < length f.code
     pub each : (pc : ℕ) (i : Inst) → slice_get f.code pc ≡ Some i → ProperInst (made_at f.code pc) pc i
 
-abbrev pub IsProper : Module → Type 0
-IsProper m = (n : ℕ) (f : Function) → slice_get m.functions n ≡ Some f → ProperFunction m f
+-- Its functions are, and its variables begin with numbers of their kinds.
+pub record IsProper (m : Module) : Type 0 where
+  pub functions : (n : ℕ) (f : Function) → slice_get m.functions n ≡ Some f → ProperFunction m f
+  pub variables : (x : ℕ) (g : GlobalVariable) (k : Kind) → slice_get m.globals x ≡ Some g → g.kind ≡ Some k → InRange k g.initial

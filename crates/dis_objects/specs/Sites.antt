@@ -1,16 +1,15 @@
--- What is small where code is made, what is being made ready there, and the tables by which jumps and calls are looked up.
-use Rattle.std.specs.Prelude.{ℕ, ◌+◌, ◌≤◌, ◌≡◌, List, [], ◌∷◌, map, reverse, Some, slice_get}
+-- What is being made ready where code is made, and the tables by which jumps and calls are looked up.
+use Rattle.std.specs.Prelude.{ℕ, ◌+◌, ◌≡◌, List, [], ◌∷◌, map, reverse}
 use Rattle.limbo_values.specs.declared.number.Kind.{Kind}
 use Rattle.limbo_typed.specs.declared.print.Piece.{Piece}
 use Rattle.limbo_typed.specs.declared.print.Piece.TheVariants as piece
-use Rattle.slot_code.specs.Code.{Inst, Function, Module}
+use Rattle.slot_code.specs.Code.{Inst, Function}
 use Rattle.dis_objects.specs.declared.ready.Callee as ready_callee
 use Rattle.dis_objects.specs.declared.ready.Callee.TheVariants as ready
 use Rattle.dis_objects.specs.declared.ready.Making.{Making}
 use Rattle.dis_objects.specs.declared.room.Room as code_room
-use Rattle.dis_objects.specs.Words.{frame_limit, globals_limit}
 use Rattle.dis_objects.specs.Frames.{Callee, Calls, Prints, Room, room_of, hole_kinds, all_bytes}
-use Rattle.dis_objects.specs.Code.{size, sizes, globals_bytes, doubled, hole_text}
+use Rattle.dis_objects.specs.Code.{size, sizes, doubled, hole_text}
 use Rattle.dis_objects.specs.Objects.{entry_size}
 
 -- ---- the code's tables, as the definitions have them
@@ -40,21 +39,6 @@ piece_kinds (piece.Hole h) = hole_kinds h
 abbrev pub piece_text : Piece → List ℕ
 piece_text (piece.Chars cs) = doubled cs
 piece_text (piece.Hole h) = hole_text h
-
--- ---- what is small
-
--- A frame has at most 65,536 bytes.
-abbrev pub SmallFrame : List Function → Function → Type 0
-SmallFrame fs f = (room_of fs f).size ≤ frame_limit
-
-abbrev pub AllSmallFrames : List Function → Type 0
-AllSmallFrames fs = (n : ℕ) (f : Function) → slice_get fs n ≡ Some f → SmallFrame fs f
-
--- All frames of a module have, and its variables take at most four times as many. So does then the frame of each print, since the frame of
--- the function that prints has its arguments too.
-pub record AllSmall (m : Module) : Type 0 where
-  pub frames : AllSmallFrames m.functions
-  pub globals : globals_bytes m.globals ≤ globals_limit
 
 -- ---- places
 

@@ -5,8 +5,8 @@ ghost use Rattle.slot_code.specs.View.{view_spot, view_operand, view_inst, view_
 ghost use Rattle.dis_objects.specs.Frames as frames;
 ghost use Rattle.dis_objects.specs.Code as dis;
 ghost use Rattle.dis_objects.specs.Objects as objects;
-ghost use Rattle.dis_objects.specs.Words.{frame_limit, data_limit};
-ghost use Rattle.dis_objects.specs.Sites.{made_of, view_callee, IsCounted, AllSmallFrames};
+ghost use Rattle.dis_objects.specs.Words.{frame_limit, data_limit, AllSmallFrames};
+ghost use Rattle.dis_objects.specs.Sites.{made_of, view_callee, IsCounted};
 ghost use Rattle.dis_objects.specs.Spelled.{AreSpelled};
 ghost use Rattle.dis_objects.specs.Growing.{Grows, GrowsBy};
 

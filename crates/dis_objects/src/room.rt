@@ -4,8 +4,8 @@ ghost use Rattle.std.specs.Prelude.{◌≡◌, ◌+◌, ◌≤◌, [], max, map,
 ghost use Rattle.slot_code.specs.Machine.{same_kind};
 ghost use Rattle.slot_code.specs.View.{view_spot, view_operand, view_inst, view_function};
 ghost use Rattle.dis_objects.specs.Frames as frames;
-ghost use Rattle.dis_objects.specs.Words.{frame_limit};
-ghost use Rattle.dis_objects.specs.Sites.{view_room, SmallFrame};
+ghost use Rattle.dis_objects.specs.Words.{frame_limit, SmallFrame};
+ghost use Rattle.dis_objects.specs.Sites.{view_room};
 
 use crate::layout::{LINKAGE, end_of, whole};
 use crate::ready::Making;

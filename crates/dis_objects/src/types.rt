@@ -6,8 +6,7 @@ ghost use Rattle.slot_code.specs.View.{view_inst, view_function};
 ghost use Rattle.slot_code.specs.Layout as layout;
 ghost use Rattle.dis_objects.specs.Frames as frames;
 ghost use Rattle.dis_objects.specs.Objects as objects;
-ghost use Rattle.dis_objects.specs.Words.{frame_limit};
-ghost use Rattle.dis_objects.specs.Sites.{SmallFrame, AllSmallFrames};
+ghost use Rattle.dis_objects.specs.Words.{frame_limit, SmallFrame, AllSmallFrames};
 
 use crate::layout::{LINKAGE, end_of, place_behind, place_for, printed_end, whole};
 use crate::room::room_of;

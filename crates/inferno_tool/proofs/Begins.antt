@@ -1,73 +1,68 @@
--- A module with a function of the name `init` begins in the first of that name.
-use Rattle.std.proofs.Common.{◌≡◌, ℕ, zero, suc, ◌+◌, Bool, true, false, List, [], ◌∷◌, map, Some, refl, sym, ap, ◌∙◌, arith, codes}
+-- A module of the part has a function of the name `init`, and begins in the first of that name.
+use Rattle.std.proofs.Common.{◌≡◌, ℕ, suc, ◌+◌, Bool, true, false, List, [], ◌∷◌, map, Some, refl, ap, ◌∙◌, arith, codes, ◌&&◌}
 use Rattle.std.proofs.Common.{if◌then◌else◌}
-use Rattle.std.specs.Prelude.{slice_get}
+use Rattle.std.specs.Prelude.{slice_get, not}
 use Rattle.std.specs.Option.{option_map}
-use Rattle.std.specs.Str.{bytes_eq}
+use Rattle.std.proofs.lemmas.Bool.{false≢true}
 use Rattle.std.proofs.lemmas.Option.{slice_get-map}
 use Rattle.std.proofs.lemmas.Slice.Eq.{bytes_eq-Decides}
-use Rattle.limbo_small.specs.Typed.{Function, Module}
-use Rattle.limbo_small.specs.Proper.{IsProper}
-use Rattle.limbo_meaning.specs.Program.{routine_of}
-use Rattle.limbo_lower.specs.Code.{function_code}
+use Rattle.limbo_typed.specs.Typed.{Function, Module}
+use Rattle.typed_part.specs.Part.{is_part, is_function, is_init, is_initial, is_none, is_word, init_in, all, types_in}
+use Rattle.typed_part.proofs.Tests.{left, right}
+use Rattle.typed_meaning.specs.Program.{routine_of}
+use Rattle.typed_lower.specs.Statements.{function_code}
 use Rattle.dis_file.specs.declared.object.Object.{Object}
 use Rattle.dis_meaning.specs.Opening.{StringsSpell}
-use Rattle.dis_tables.specs.Objects.{find}
+use Rattle.dis_objects.specs.Objects.{find}
 use Rattle.code_sim.specs.Keeps.{object_for}
 use Rattle.limbo_compiler.specs.Limits.{IsWithin}
 use Rattle.inferno_tool.specs.Running.{IsCompiled}
 
--- the module has a function of this name
-pub record HasFunctionNamed (name : List ℕ) (m : Module) : Type 0 where
-  pub number : ℕ
-  pub function : Function
-  pub there : slice_get m.functions number ≡ Some function
-  pub named : function.name ≡ name
-
--- the first function of this name, among functions that are numbered from here
-record First (from : ℕ) (name : List ℕ) (fs : List Function) : Type 0 where
+-- the first function of the name `init`, among functions that are numbered from here
+record First (from : ℕ) (fs : List Function) : Type 0 where
   place : ℕ
   function : Function
   there : slice_get fs place ≡ Some function
-  named : function.name ≡ name
-  found : find from name (map function_code fs) ≡ Some (place + from)
+  named : function.name ≡ codes "init"
+  found : find from (codes "init") (map function_code fs) ≡ Some (place + from)
 
-module _ (name : List ℕ) where
-  first : (from : ℕ) (fs : List Function) (n : ℕ) (f : Function) → slice_get fs n ≡ Some f → f.name ≡ name → First from name fs
-  first from [] n f at is = absurd cc
-  first from (g ∷ fs) n f at is = go (bytes_eq g.name name) refl (λ k at. first (suc from) fs k f at is) n at
-    where
-      go : (b : Bool) → bytes_eq g.name name ≡ b → ((k : ℕ) → slice_get fs k ≡ Some f → First (suc from) name fs) → (n : ℕ) → slice_get (g
-          ∷ fs) n ≡ Some f → First from name (g ∷ fs)
-      go true e later n at = record {
-        place = 0;
-        function = g;
-        there = refl;
-        named = (bytes_eq-Decides g.name name).0 e;
-        found = ap (λ b. if b then Some from else find (suc from) name (map function_code fs)) e ∙ (let near : from ≡ 0 + from = omega
-            arith in ap Some near);
-      }
-      go false e later zero at =
-          let here : g ≡ f = cc in
-          absurd (let bad : false ≡ true = sym e ∙ (bytes_eq-Decides g.name name).1 (ap (λ x. x.name) here ∙ is) in cc)
-      go false e later (suc n) at =
-          let r = later n at in
-          let far : r.place + suc from ≡ suc r.place + from = omega arith in
-          record {
-            place = suc r.place;
-            function = r.function;
-            there = r.there;
-            named = r.named;
-            found = ap (λ b. if b then Some from else find (suc from) name (map function_code fs)) e ∙ r.found ∙ ap Some far;
-          }
+first : (from : ℕ) (fs : List Function) → not (is_none (init_in fs)) ≡ true → First from fs
+first from [] h = absurd (false≢true h)
+first from (f ∷ fs) h = go (is_init f) refl (λ k. first (suc from) fs k) h
+  where
+    go : (b : Bool) → is_init f ≡ b → (not (is_none (init_in fs)) ≡ true → First (suc from) fs)
+        → not (is_none {A = Function} (elim b [ true ↦ Some f | false ↦ init_in fs ])) ≡ true → First from (f ∷ fs)
+    go true e later h = record {
+      place = 0;
+      function = f;
+      there = refl;
+      named = (bytes_eq-Decides f.name (codes "init")).0 e;
+      found = ap (λ (b : Bool). if b then Some from else find (suc from) (codes "init") (map function_code fs)) e
+          ∙ (let near : from ≡ 0 + from = omega arith in ap Some near);
+    }
+    go false e later h =
+        let r = later h in
+        let far : r.place + suc from ≡ suc r.place + from = omega arith in
+        record {
+          place = suc r.place;
+          function = r.function;
+          there = r.there;
+          named = r.named;
+          found = ap (λ (b : Bool). if b then Some from else find (suc from) (codes "init") (map function_code fs)) e ∙ r.found
+              ∙ ap Some far;
+        }
 
-pub compiled : (m : Module) (o : Object) → IsProper m → IsWithin m → o ≡ object_for m → StringsSpell o → HasFunctionNamed (codes "init") m
-    → IsCompiled m o
-compiled m o proper within same spelled has =
-    let r = first (codes "init") 0 m.functions has.number has.function has.there has.named in
+has_init : (m : Module) → is_part m ≡ true → not (is_none (init_in m.functions)) ≡ true
+has_init m part =
+    right (all is_word (types_in m.globals) && all is_initial m.initials) (not (is_none (init_in m.functions)))
+    (left _ (all (is_function m) m.functions) part)
+
+pub compiled : (m : Module) (o : Object) → is_part m ≡ true → IsWithin m → o ≡ object_for m → StringsSpell o → IsCompiled m o
+compiled m o part within same spelled =
+    let r = first 0 m.functions (has_init m part) in
     let near : r.place + 0 ≡ r.place = omega arith in
     record {
-      proper = proper;
+      part = part;
       within = within;
       same = same;
       spelled = spelled;

@@ -1,8 +1,9 @@
 -- What follows of the cause, from where each cause comes.
 use Rattle.std.proofs.Common.{◌≡◌, ◌≤◌, ℕ, List, ◌⊎◌, inl, inr, refl, subst, sym, ap, ◌∙◌, true, false, arith}
+use Rattle.std.proofs.lemmas.Bool.{false≢true}
 use Rattle.std.specs.Prelude.{Option, Some, None}
 use Rattle.inf_ports.specs.Outside.{Told, Has, Lacks, Rose}
-use Rattle.limbo_small.specs.Typed.{Module}
+use Rattle.limbo_typed.specs.Typed.{Module}
 use Rattle.inferno_tool.specs.Built.{IsBuilt}
 use Rattle.inferno_tool.specs.Outcome.{Course, HasProgram, IsAccepted, IsCause, IsEndUnlessMemory, IsRefusal, IsRunEnd, IsSinkFault}
 use Rattle.inferno_tool.specs.Outcome.{IsSourceRefusal, IsUnlessMemory, Tells, TellsProgram}
@@ -11,8 +12,8 @@ use Rattle.inferno_tool.specs.declared.cause.Cause.{Cause}
 use Rattle.inferno_tool.specs.declared.cause.Cause.TheVariants.{Done, Broke, Usage, BadSource, BadObject, Limit, Host, SinkFault, NoMemory}
 use Rattle.inferno_tool.specs.Faults.{IsFault}
 use Rattle.source_names.specs.Included.{AreTold}
-use Rattle.limbo_typed.specs.Typed as typed
-use Rattle.limbo_part.specs.Part.{small_module}
+use Rattle.typed_part.specs.Part.{is_part}
+use Rattle.limbo_tree.specs.Sources.{Source}
 use Rattle.source_modules.specs.Checked.{IsFirst}
 use Rattle.inferno_tool.specs.Outcome.{TellsFirst, TellsOther}
 use Rattle.inferno_tool.specs.declared.cause.SourceFault.{SourceFault}
@@ -299,16 +300,17 @@ told_of : (c : Course) (other : List ℕ) (fault wanted : SourceFault) (file : L
 told_of c other fault wanted file e f =
     inl (ap (λ (z : List ℕ). BadSource z fault) e ∙ ap (λ (z : SourceFault). BadSource file z) f)
 
-module _ (laws : Laws) (c : Course) (x : typed.Module) (t : TellsFirst c.words c.told x) (none : small_module x ≡ None)
+module _ (laws : Laws) (c : Course) (x : Module) (t : TellsFirst c.words c.told x) (beyond : is_part x ≡ false)
     (calm : Rose c.files_before c.files_after → ⊥) where
   not_outside : {A : Type 0} → HasProgram c.words c.told → A
   not_outside a =
       let b = built_here c a t.file t.source t.named t.tells in
       let same = tree_of t.source b.tree t.first.tree b.has t.first.has in
-      let first : IsFirst c.told t.file t.first.tree b.checked = subst (λ z. IsFirst c.told t.file z b.checked) same b.first in
+      let first : IsFirst c.told t.file t.first.tree a.program =
+      subst (λ (z : Source). IsFirst c.told t.file z a.program) same b.first in
       let one =
-      one_first laws c.told (are_told c.told t.file (Some t.source) t.tells) t.file t.first.tree b.checked x first t.first.first in
-      absurd (let bad : Some a.program ≡ None = sym b.is.small ∙ ap small_module one ∙ none in cc)
+      one_first laws c.told (are_told c.told t.file (Some t.source) t.tells) t.file t.first.tree a.program x first t.first.first in
+      absurd (false≢true (sym beyond ∙ ap is_part (sym one) ∙ b.is.part))
 
   pub outside : (cause : Cause) → IsCause c cause → IsUnlessMemory cause (BadSource t.file Unbuilt)
   outside Done is = not_outside is.0
@@ -321,7 +323,7 @@ module _ (laws : Laws) (c : Course) (x : typed.Module) (t : TellsFirst c.words c
       let f = t.first.first in
       let k = checked_fault laws c.told told t.file t.source other fault (fault_here c other fault is t.file t.source t.named t.tells)
       t.first.tree t.first.has f.entries f.implemented x f.is in
-      told_of c other fault Unbuilt t.file k.0 (unbuilt laws c.told told t.file t.first.tree x f fault k.1 none)
+      told_of c other fault Unbuilt t.file k.0 (unbuilt laws c.told told t.file t.first.tree x f fault k.1 beyond)
   outside (BadObject other fault) is = absurd is
   outside (Host path true) is =
       told_not_lacking c.told t.file t.source t.tells
@@ -329,14 +331,14 @@ module _ (laws : Laws) (c : Course) (x : typed.Module) (t : TellsFirst c.words c
   outside (Host path false) is = absurd (calm is.3)
   outside NoMemory is = inr refl
 
-module _ (laws : Laws) (c : Course) (x : typed.Module) (t : TellsOther c.words c.told x)
+module _ (laws : Laws) (c : Course) (x : Module) (t : TellsOther c.words c.told x)
     (calm : Rose c.files_before c.files_after → ⊥) where
   not_first : {A : Type 0} → HasProgram c.words c.told → A
   not_first a =
       let b = built_here c a t.file t.source t.named t.tells in
       let same = tree_of t.source b.tree t.tree b.has t.has in
-      let first : IsFirst c.told t.file t.tree b.checked = subst (λ z. IsFirst c.told t.file z b.checked) same b.first in
-      absurd (not_other laws c.told (are_told c.told t.file (Some t.source) t.tells) t.file t.tree b.checked x first t.other)
+      let first : IsFirst c.told t.file t.tree a.program = subst (λ (z : Source). IsFirst c.told t.file z a.program) same b.first in
+      absurd (not_other laws c.told (are_told c.told t.file (Some t.source) t.tells) t.file t.tree a.program x first t.other)
 
   pub beginless : (cause : Cause) → IsCause c cause → IsUnlessMemory cause (BadSource t.file NoInit)
   beginless Done is = not_first is.0

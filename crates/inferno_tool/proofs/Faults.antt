@@ -1,11 +1,11 @@
 -- A source that is refused is no program.
-use Rattle.std.proofs.Common.{◌≡◌, ℕ, List, inl, inr, None, Some, refl, subst, sym, ap, ◌∙◌}
+use Rattle.std.proofs.Common.{◌≡◌, ℕ, List, inl, inr, false, refl, subst, sym, ap, ◌∙◌}
+use Rattle.std.proofs.lemmas.Bool.{false≢true}
 use Rattle.inf_ports.specs.Outside.{Told}
 use Rattle.limbo_tree.specs.Sources.{Source}
-use Rattle.limbo_typed.specs.Typed as typed
-use Rattle.limbo_small.specs.Typed.{Module}
-use Rattle.limbo_part.specs.Part.{small_module}
-use Rattle.limbo_lower.specs.Sizes as sizes
+use Rattle.limbo_typed.specs.Typed.{Module}
+use Rattle.typed_part.specs.Part.{is_part}
+use Rattle.typed_lower.specs.Sizes as sizes
 use Rattle.limbo_compiler.specs.Limits as limits
 use Rattle.limbo_entries.specs.Entries.{Entry}
 use Rattle.inferno_tool.specs.Built.{HasTree, IsProgram, IsBuilt}
@@ -42,7 +42,7 @@ no_text_of told text CodeTooLarge is = absurd is
 -- the refusal of a checked source is told of it, and is one of its module
 pub checked_fault : Laws → (told : Told) → AreTold told → (path source file : List ℕ) (fault : SourceFault)
     → IsFault told path source file fault
-    → (tree : Source) → HasTree source tree → (es : List Entry) (m : ℕ) (x : typed.Module) → IsChecked told path tree es m x
+    → (tree : Source) → HasTree source tree → (es : List Entry) (m : ℕ) (x : Module) → IsChecked told path tree es m x
     → (file ≡ path) × IsTreeFault told path tree fault
 checked_fault laws told t path source _ fault (of_bytes _ is) tree has es m x c = absurd (not_bytes source fault is tree has)
 checked_fault laws told t path source text fault (of_text other _ _ was included is) tree has es m x c =
@@ -58,37 +58,31 @@ checked_fault laws told t path source _ fault (of_tree other _ was is) tree has 
 
 -- ---- programs
 
-module _ (laws : Laws) (told : Told) (t : AreTold told) (path : List ℕ) (tree : Source) (x : typed.Module)
-    (f : IsFirst told path tree x) where
-  same_small : (y : typed.Module) → IsFirst told path tree y → small_module y ≡ small_module x
-  same_small y g = ap small_module (one_first laws told t path tree y x g f)
+module _ (laws : Laws) (told : Told) (t : AreTold told) (path : List ℕ) (tree : Source) (x : Module) (f : IsFirst told path tree x) where
+  same : (y : Module) → IsFirst told path tree y → y ≡ x
+  same y g = one_first laws told t path tree y x g f
 
-  unprogrammed : (fault : SourceFault) → IsTreeFault told path tree fault → (m : Module) → IsProgram x m → ⊥
-  unprogrammed (Lex fault) is m p = is
-  unprogrammed (Parse fault span) is m p = is
-  unprogrammed (Unchecked number span) is m p = is
-  unprogrammed NoInit is m p = not_other laws told t path tree x is.0 f is.1
-  unprogrammed Unbuilt is m p =
-      absurd (let bad : None ≡ Some m = sym is.2 ∙ same_small is.0 is.1 ∙ p.small in cc)
-  unprogrammed FrameTooLarge is m p =
-      let same : is.2.0 ≡ m = let e : Some is.2.0 ≡ Some m = sym is.2.1 ∙ same_small is.0 is.1 ∙ p.small in cc in
-      p.within.frames (subst sizes.FrameTooLarge same is.2.2)
-  unprogrammed CodeTooLarge is m p =
-      let same : is.2.0 ≡ m = let e : Some is.2.0 ≡ Some m = sym is.2.1 ∙ same_small is.0 is.1 ∙ p.small in cc in
-      p.within.code (subst limits.CodeTooLarge same is.2.2)
+  unprogrammed : (fault : SourceFault) → IsTreeFault told path tree fault → IsProgram x → ⊥
+  unprogrammed (Lex fault) is p = is
+  unprogrammed (Parse fault span) is p = is
+  unprogrammed (Unchecked number span) is p = is
+  unprogrammed NoInit is p = not_other laws told t path tree x is.0 f is.1
+  unprogrammed Unbuilt is p = false≢true (sym is.2 ∙ ap is_part (same is.0 is.1) ∙ p.part)
+  unprogrammed FrameTooLarge is p = p.within.frames (subst sizes.FrameTooLarge (same is.0 is.1) is.3)
+  unprogrammed CodeTooLarge is p = p.within.code (subst limits.CodeTooLarge (same is.0 is.1) is.3)
 
   -- what is outside of the part has no other refusal
-  pub unbuilt : (fault : SourceFault) → IsTreeFault told path tree fault → small_module x ≡ None → fault ≡ Unbuilt
-  unbuilt (Lex fault) is none = absurd is
-  unbuilt (Parse fault span) is none = absurd is
-  unbuilt (Unchecked number span) is none = absurd is
-  unbuilt NoInit is none = absurd (not_other laws told t path tree x is.0 f is.1)
-  unbuilt Unbuilt is none = refl
-  unbuilt FrameTooLarge is none = absurd (let bad : Some is.2.0 ≡ None = sym is.2.1 ∙ same_small is.0 is.1 ∙ none in cc)
-  unbuilt CodeTooLarge is none = absurd (let bad : Some is.2.0 ≡ None = sym is.2.1 ∙ same_small is.0 is.1 ∙ none in cc)
+  pub unbuilt : (fault : SourceFault) → IsTreeFault told path tree fault → is_part x ≡ false → fault ≡ Unbuilt
+  unbuilt (Lex fault) is out = absurd is
+  unbuilt (Parse fault span) is out = absurd is
+  unbuilt (Unchecked number span) is out = absurd is
+  unbuilt NoInit is out = absurd (not_other laws told t path tree x is.0 f is.1)
+  unbuilt Unbuilt is out = refl
+  unbuilt FrameTooLarge is out = absurd (false≢true (sym out ∙ ap is_part (sym (same is.0 is.1)) ∙ is.2))
+  unbuilt CodeTooLarge is out = absurd (false≢true (sym out ∙ ap is_part (sym (same is.0 is.1)) ∙ is.2))
 
 -- a module that isn't a first one has no other refusal
-pub no_init : Laws → (told : Told) → AreTold told → (path : List ℕ) (tree : Source) (x : typed.Module) → IsOther told path tree x
+pub no_init : Laws → (told : Told) → AreTold told → (path : List ℕ) (tree : Source) (x : Module) → IsOther told path tree x
     → (fault : SourceFault) → IsTreeFault told path tree fault → fault ≡ NoInit
 no_init laws told t path tree x o (Lex fault) is = absurd is
 no_init laws told t path tree x o (Parse fault span) is = absurd is
@@ -102,5 +96,5 @@ pub faulty : Laws → (told : Told) → AreTold told → (path source file : Lis
     → (m : Module) → IsBuilt told path source m → ⊥
 faulty laws told t path source file fault is m b =
     let f = b.first in
-    let k = checked_fault laws told t path source file fault is b.tree b.has f.entries f.implemented b.checked f.is in
-    unprogrammed laws told t path b.tree b.checked f fault k.1 m b.is
+    let k = checked_fault laws told t path source file fault is b.tree b.has f.entries f.implemented m f.is in
+    unprogrammed laws told t path b.tree m f fault k.1 b.is

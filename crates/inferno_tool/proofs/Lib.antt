@@ -1,5 +1,4 @@
 mod Begins
-mod Small
 mod Programs
 mod Causes
 mod Dumped

@@ -4,7 +4,7 @@ use Rattle.std.proofs.Common.{◌∙◌, if◌then◌else◌}
 use Rattle.std.specs.Prelude.{IsSome, nat_le, ◌&&◌}
 use Rattle.inf_ports.specs.Outside.{Told, Rose}
 use Rattle.dis_file.specs.declared.object.Object.{Object}
-use Rattle.limbo_small.specs.Typed.{Module}
+use Rattle.limbo_typed.specs.Typed.{Module}
 use Rattle.code_sim.specs.Keeps.{object_for}
 use Rattle.machine_core.specs.declared.event.Event.{Event}
 use Rattle.machine_core.specs.declared.event.Journal.{Journal}
@@ -65,9 +65,9 @@ led limit m o r old new before after c l =
     let reached = there.conversation.reached in
     record {
       leads = there;
-      means = λ d. subst (λ (es : List Event). Means m d.init es there.state) (sym reached.all) (journals_mean m c.proper c.within.frames
+      means = λ d. subst (λ (es : List Event). Means m d.init es there.state) (sym reached.all) (journals_mean m c.part c.within.frames
           d.init d.first d.enters reached.journal reached.cut there.state reached.reaches);
-      own = own_end limit (quanta r.journal.events) there.state r.end (none_fault m c.proper c.within.frames c.init c.first c.enters
+      own = own_end limit (quanta r.journal.events) there.state r.end (none_fault m c.part c.within.frames c.init c.first c.enters
           reached.journal reached.cut there.state reached.reaches) there.conversation.ended;
     }
 

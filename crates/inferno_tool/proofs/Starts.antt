@@ -1,7 +1,7 @@
 -- A machine of a program's object can begin.
 use Rattle.std.proofs.Common.{◌≡◌, Some, None, subst, sym, ◌∙◌}
 use Rattle.dis_file.specs.declared.object.Object.{Object}
-use Rattle.limbo_small.specs.Typed.{Module}
+use Rattle.limbo_typed.specs.Typed.{Module}
 use Rattle.dis_meaning.specs.Opening.{StringsSpell, opened}
 use Rattle.code_sim.specs.Keeps.{object_for}
 use Rattle.code_sim.specs.Begins.{begins_with}
@@ -11,6 +11,6 @@ use Rattle.inferno_tool.specs.Running.{IsCompiled}
 pub opens : (m : Module) (o : Object) → IsCompiled m o → opened o ≡ None → ⊥
 opens m o c none =
     let spelled : StringsSpell (object_for m) = subst StringsSpell c.same c.spelled in
-    let there : opened (object_for m) ≡ Some (begins_with m) = beginning.begins m c.proper c.within.frames spelled in
+    let there : opened (object_for m) ≡ Some (begins_with m) = beginning.begins m c.part c.within.frames spelled in
     let bad : Some (begins_with m) ≡ None = sym there ∙ subst (λ (x : Object). opened x ≡ None) c.same none in
     cc

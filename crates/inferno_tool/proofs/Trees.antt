@@ -1,5 +1,5 @@
 -- A source has one tree at most, and is one typed module.
-use Rattle.std.proofs.Common.{◌≡◌, ℕ, List, Some, false, subst, sym, ◌∙◌, ap}
+use Rattle.std.proofs.Common.{◌≡◌, ℕ, List, false, subst}
 use Rattle.inf_ports.specs.Outside.{Told}
 use Rattle.limbo_lexer.specs.declared.token.Kind.{Kind}
 use Rattle.limbo_lexer.specs.Tokens.{HasTokenList}
@@ -7,9 +7,7 @@ use Rattle.limbo_lexer.proofs.Sources.{one_source}
 use Rattle.limbo_lexer.proofs.Cutting.{one_token_list}
 use Rattle.limbo_tree.specs.Sources.{Source, IsTree}
 use Rattle.limbo_parser.proofs.Trees.{one_tree}
-use Rattle.limbo_typed.specs.Typed as typed
-use Rattle.limbo_small.specs.Typed.{Module}
-use Rattle.limbo_part.specs.Part.{small_module}
+use Rattle.limbo_typed.specs.Typed.{Module}
 use Rattle.source_names.specs.Included.{AreTold}
 use Rattle.limbo_entries.specs.Entries.{Entry}
 use Rattle.limbo_modules.specs.First.{DeclaresInit}
@@ -36,28 +34,24 @@ pub laws : OneChecked → FailsOrChecked → Laws
 laws one none = record { one = one; none = none }
 
 -- a tree is one first module at most
-pub one_first : Laws → (told : Told) → AreTold told → (path : List ℕ) (tree : Source) (x y : typed.Module) → IsFirst told path tree x
+pub one_first : Laws → (told : Told) → AreTold told → (path : List ℕ) (tree : Source) (x y : Module) → IsFirst told path tree x
     → IsFirst told path tree y → x ≡ y
 one_first laws told t path tree x y a b =
     (laws.one told path tree a.entries b.entries a.implemented b.implemented x y t a.is b.is).2
 
 -- and then it is no other
-pub not_other : Laws → (told : Told) → AreTold told → (path : List ℕ) (tree : Source) (x y : typed.Module) → IsFirst told path tree x
+pub not_other : Laws → (told : Told) → AreTold told → (path : List ℕ) (tree : Source) (x y : Module) → IsFirst told path tree x
     → IsOther told path tree y → ⊥
 not_other laws told t path tree x y a b =
     let same = laws.one told path tree a.entries b.entries a.implemented b.implemented x y t a.is b.is in
     b.begins_not
-    (subst (λ (z : typed.Module). DeclaresInit b.entries b.implemented z) same.2
+    (subst (λ (z : Module). DeclaresInit b.entries b.implemented z) same.2
     (subst (λ (z : ℕ). DeclaresInit b.entries z x) same.1
     (subst (λ (z : List Entry). DeclaresInit z a.implemented x) same.0 a.begins)))
-
-same_some : (a b : Module) → Some a ≡ Some b → a ≡ b
-same_some a b e = cc
 
 pub one_module : Laws → (told : Told) → AreTold told → (path source : List ℕ) (m n : Module) → IsBuilt told path source m
     → IsBuilt told path source n → m ≡ n
 one_module laws told t path source m n x y =
     let same = tree_of source x.tree y.tree x.has y.has in
-    let first : IsFirst told path y.tree x.checked = subst (λ (z : Source). IsFirst told path z x.checked) same x.first in
-    let one = one_first laws told t path y.tree x.checked y.checked first y.first in
-    same_some m n (sym x.is.small ∙ ap small_module one ∙ y.is.small)
+    let first : IsFirst told path y.tree m = subst (λ (z : Source). IsFirst told path z m) same x.first in
+    one_first laws told t path y.tree m n first y.first

@@ -1,14 +1,13 @@
--- What a source's bytes are: their tokens, their tree, the typed module that it is with the texts that it includes, and the module over int
--- that this is, where it is in the part of the language that runs.
-use Rattle.std.specs.Prelude.{◌≡◌, ◌≤◌, ℕ, List, Some, false}
+-- What a source's bytes are: their tokens, their tree, the typed module that it is with the texts that it includes, and whether that is a
+-- program of the part of the language that runs.
+use Rattle.std.specs.Prelude.{◌≡◌, ◌≤◌, ℕ, List, true, false}
 use Rattle.inf_ports.specs.Outside.{Told}
 use Rattle.limbo_lexer.specs.declared.token.Kind.{Kind}
 use Rattle.limbo_lexer.specs.Causes.{IsSource}
 use Rattle.limbo_lexer.specs.Tokens.{HasTokenList}
 use Rattle.limbo_tree.specs.Sources.{Source, IsTree, source_nesting}
-use Rattle.limbo_small.specs.Typed.{Module}
-use Rattle.limbo_typed.specs.Typed as typed
-use Rattle.limbo_part.specs.Part.{small_module}
+use Rattle.limbo_typed.specs.Typed.{Module}
+use Rattle.typed_part.specs.Part.{is_part}
 use Rattle.limbo_compiler.specs.Limits.{IsWithin}
 use Rattle.source_modules.specs.Checked.{IsFirst}
 
@@ -28,21 +27,19 @@ pub record HasTree (source : List ℕ) (tree : Source) : Type 0 where
 -- The bytes at this path are a checked source that can be a first module: they have tokens and a tree, names and types hold of it and of
 -- the texts that it includes, as the files tell them, and it declares `init` as a first module has to. It is this typed module. How large
 -- its frames and its code are isn't asked.
-pub record IsFirstSource (told : Told) (path source : List ℕ) (checked : typed.Module) : Type 0 where
+pub record IsFirstSource (told : Told) (path source : List ℕ) (checked : Module) : Type 0 where
   pub tree : Source
   pub has : HasTree source tree
   pub first : IsFirst told path tree checked
 
--- The typed module is a program of the part of the language that runs: it is this module over int, and neither a frame nor the code is too
--- large.
-pub record IsProgram (checked : typed.Module) (m : Module) : Type 0 where
-  pub small : small_module checked ≡ Some m
+-- The typed module is a program: it is in the part of the language that runs, and no frame, nor its variables, nor its code is too large.
+pub record IsProgram (m : Module) : Type 0 where
+  pub part : is_part m ≡ true
   pub within : IsWithin m
 
--- The bytes that stand at this path are a program of the part that runs, which is this module over int.
+-- The bytes that stand at this path are a program, which is this typed module.
 pub record IsBuilt (told : Told) (path source : List ℕ) (m : Module) : Type 0 where
   pub tree : Source
   pub has : HasTree source tree
-  pub checked : typed.Module
-  pub first : IsFirst told path tree checked
-  pub is : IsProgram checked m
+  pub first : IsFirst told path tree m
+  pub is : IsProgram m

@@ -1,6 +1,6 @@
 -- Why a source is refused, by its bytes, tokens and tree, by the texts that it includes, by its names, types and statements, and by the
 -- typed module that it is; the number of each refusal, and where it stands.
-use Rattle.std.specs.Prelude.{◌≡◌, ◌≤◌, ◌<◌, ℕ, List, None, Some, length, false}
+use Rattle.std.specs.Prelude.{◌≡◌, ◌≤◌, ◌<◌, ℕ, List, length, true, false}
 use Rattle.inf_ports.specs.Outside.{Told}
 use Rattle.inf_text.specs.declared.span.Span.{Span}
 use Rattle.limbo_lexer.specs.declared.token.Kind.{Kind}
@@ -12,10 +12,9 @@ use Rattle.limbo_tree.specs.Sources.{Source, IsTree, source_nesting}
 use Rattle.limbo_parser.specs.declared.tree.ParseFault.{ParseFault}
 use Rattle.limbo_parser.specs.declared.tree.ParseFault.TheVariants as parse
 use Rattle.limbo_parser.specs.Refusals as parsing
-use Rattle.limbo_small.specs.Typed.{Module}
-use Rattle.limbo_typed.specs.Typed as typed
-use Rattle.limbo_part.specs.Part.{small_module}
-use Rattle.limbo_lower.specs.Sizes as sizes
+use Rattle.limbo_typed.specs.Typed.{Module}
+use Rattle.typed_part.specs.Part.{is_part}
+use Rattle.typed_lower.specs.Sizes as sizes
 use Rattle.limbo_compiler.specs.Limits as limits
 use Rattle.source_files.specs.Files.{Gives}
 use Rattle.source_files.specs.Texts.{IsUnlexed, IsUnparsed}
@@ -82,15 +81,14 @@ IsLexFault lex.NoMemory = ⊥
 IsLexFault _ = Unit {0}
 
 -- What a refusal of a tree says that is a typed module: it doesn't declare `init` as a first module has to; it does, but is outside of the
--- part that runs; it is in it, but has a frame that is too large, or code that is, and then no such frame.
+-- part that runs; it is in it, but a frame or its variables are too large, or its code is, and then no frame and no variables are.
 abbrev pub IsTreeFault : Told → List ℕ → Source → SourceFault → Type 0
-IsTreeFault told path tree NoInit = (x : typed.Module) × IsOther told path tree x
-IsTreeFault told path tree Unbuilt = (x : typed.Module) × IsFirst told path tree x × (small_module x ≡ None)
+IsTreeFault told path tree NoInit = (x : Module) × IsOther told path tree x
+IsTreeFault told path tree Unbuilt = (x : Module) × IsFirst told path tree x × (is_part x ≡ false)
 IsTreeFault told path tree FrameTooLarge =
-    (x : typed.Module) × IsFirst told path tree x × ((m : Module) × (small_module x ≡ Some m) × sizes.FrameTooLarge m)
+    (x : Module) × IsFirst told path tree x × (is_part x ≡ true) × sizes.FrameTooLarge x
 IsTreeFault told path tree CodeTooLarge =
-    (x : typed.Module) × IsFirst told path tree x
-    × ((m : Module) × (small_module x ≡ Some m) × limits.CodeTooLarge m × (sizes.FrameTooLarge m → ⊥))
+    (x : Module) × IsFirst told path tree x × (is_part x ≡ true) × limits.CodeTooLarge x × (sizes.FrameTooLarge x → ⊥)
 IsTreeFault told path tree _ = ⊥
 
 -- What a refusal of the source's own bytes says of them. One of bytes and tokens says that they have no tokens, and why. One of the

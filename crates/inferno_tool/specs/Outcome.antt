@@ -2,10 +2,9 @@
 use Rattle.std.specs.Prelude.{ℕ, ◌≡◌, ◌≤◌, ◌⊎◌, List, Option, None, Some, Bool, true, false}
 use Rattle.inf_ports.specs.Outside.{Told, Lacks, Rose}
 use Rattle.dis_file.specs.declared.object.Object.{Object}
-use Rattle.limbo_small.specs.Typed.{Module}
+use Rattle.limbo_typed.specs.Typed.{Module}
 use Rattle.machine_core.specs.declared.event.Journal.{Journal}
 use Rattle.limbo_tree.specs.Sources.{Source}
-use Rattle.limbo_typed.specs.Typed as typed
 use Rattle.source_modules.specs.Checked.{IsOther}
 use Rattle.inferno_tool.specs.Built.{HasTree, IsBuilt, IsFirstSource}
 use Rattle.inferno_tool.specs.Reading.{IsRead, IsFaulty, IsWanted}
@@ -26,7 +25,7 @@ pub record Course : Type 0 where
   pub err_before : ℕ
   pub err_after : ℕ
 
--- the words name this file, whose source is a program of the part that runs, which is this module over int
+-- the words name this file, whose source is a program of the part that runs, which is this typed module
 pub record IsAccepted (words : List (List ℕ)) (told : Told) (file : List ℕ) (m : Module) : Type 0 where
   pub named : named_file words ≡ Some file
   pub read : IsRead told file m
@@ -50,7 +49,7 @@ abbrev pub Tells : Told → List ℕ → Option (List ℕ) → Type 0
 Tells None path bytes = ⊥
 Tells (Some files) path bytes = files path ≡ bytes
 
--- the words name a file of which the files tell that its source is a program, with this checked module
+-- the words name a file of which the files tell that its source is a program, which is this typed module
 pub record TellsProgram (words : List (List ℕ)) (told : Told) (m : Module) : Type 0 where
   pub file : List ℕ
   pub named : named_file words ≡ Some file
@@ -59,7 +58,7 @@ pub record TellsProgram (words : List (List ℕ)) (told : Told) (m : Module) : T
   pub built : IsBuilt told file source m
 
 -- the words name a file of which the files tell that its source is checked, and is this first module
-pub record TellsFirst (words : List (List ℕ)) (told : Told) (checked : typed.Module) : Type 0 where
+pub record TellsFirst (words : List (List ℕ)) (told : Told) (checked : Module) : Type 0 where
   pub file : List ℕ
   pub named : named_file words ≡ Some file
   pub source : List ℕ
@@ -67,7 +66,7 @@ pub record TellsFirst (words : List (List ℕ)) (told : Told) (checked : typed.M
   pub first : IsFirstSource told file source checked
 
 -- the same of a module that doesn't declare `init` as a first one has to
-pub record TellsOther (words : List (List ℕ)) (told : Told) (checked : typed.Module) : Type 0 where
+pub record TellsOther (words : List (List ℕ)) (told : Told) (checked : Module) : Type 0 where
   pub file : List ℕ
   pub named : named_file words ≡ Some file
   pub source : List ℕ

@@ -8,7 +8,7 @@ use Rattle.limbo_lexer.specs.declared.fault.LexFault.TheVariants as lex
 use Rattle.limbo_parser.specs.declared.tree.ParseFault.{ParseFault}
 use Rattle.limbo_parser.specs.declared.tree.ParseFault.TheVariants as parse
 use Rattle.limbo_tree.specs.Sources.{Source}
-use Rattle.limbo_small.specs.Typed.{Module}
+use Rattle.limbo_typed.specs.Typed.{Module}
 use Rattle.limbo_compiler.specs.declared.passes.CompileFault.{CompileFault}
 use Rattle.limbo_compiler.specs.declared.passes.CompileFault.TheVariants as compile
 use Rattle.source_files.specs.declared.fault.FilesFault.{FilesFault}
@@ -25,7 +25,7 @@ use Rattle.inferno_tool.specs.declared.cause.SourceFault.TheVariants.{Lex, Parse
 use Rattle.inferno_tool.specs.declared.reading.ReadFault.{ReadFault}
 use Rattle.inferno_tool.specs.declared.reading.ReadFault.TheVariants as read
 
--- the file's bytes are a program of the part that runs, which is this module over int
+-- the file's bytes are a program, which is this typed module
 pub record IsRead (told : Told) (path : List ℕ) (m : Module) : Type 0 where
   pub source : List ℕ
   pub stands : Has told path source

@@ -1,9 +1,9 @@
 -- What a run leaves: its journal, the objects that it was started with, the bytes on the output, and what all of it means.
-use Rattle.std.specs.Prelude.{◌≡◌, ◌≢◌, ℕ, List, [], ◌∷◌, map, codes, Option, None, Some, slice_get}
+use Rattle.std.specs.Prelude.{◌≡◌, ◌≢◌, ℕ, true, List, [], ◌∷◌, map, codes, Option, None, Some, slice_get}
 use Rattle.dis_file.specs.declared.object.Object.{Object}
-use Rattle.limbo_small.specs.Typed.{Function, Module}
-use Rattle.limbo_small.specs.Proper.{IsProper}
-use Rattle.limbo_meaning.specs.Program.{Routine}
+use Rattle.limbo_typed.specs.Typed.{Function, Module}
+use Rattle.typed_part.specs.Part.{is_part}
+use Rattle.typed_meaning.specs.Program.{Routine}
 use Rattle.dis_meaning.specs.Opening.{StringsSpell}
 use Rattle.code_sim.specs.Keeps.{object_for, BeginsWith}
 use Rattle.machine_core.specs.declared.event.Journal.{Journal}
@@ -19,7 +19,6 @@ use Rattle.limbo_compiler.specs.Limits.{IsWithin}
 use Rattle.limbo_compiler.specs.Means.{Means}
 use Rattle.inf_ports.specs.Outside.{Told}
 use Rattle.limbo_tree.specs.Sources.{Source}
-use Rattle.limbo_typed.specs.Typed as typed
 use Rattle.source_modules.specs.Checked.{IsFirst}
 use Rattle.inferno_tool.specs.Built.{IsProgram}
 use Rattle.inferno_tool.specs.declared.cause.Cause.{Cause}
@@ -32,9 +31,9 @@ pub record Beginning (m : Module) (init : ℕ) : Type 0 where
   pub there : slice_get m.functions init ≡ Some function
   pub named : function.name ≡ codes "init"
 
--- The object of a module that the checker gave and that is within the limits, and where its runs begin.
+-- The object of a module that is in the part of the language that runs and within the limits, and where its runs begin.
 pub record IsCompiled (m : Module) (o : Object) : Type 0 where
-  pub proper : IsProper m
+  pub part : is_part m ≡ true
   pub within : IsWithin m
   pub same : o ≡ object_for m
   pub spelled : StringsSpell o
@@ -45,10 +44,9 @@ pub record IsCompiled (m : Module) (o : Object) : Type 0 where
 
 -- The object of the program that a tree at this path is.
 pub record IsObjectOf (told : Told) (path : List ℕ) (tree : Source) (o : Object) : Type 0 where
-  pub checked : typed.Module
-  pub first : IsFirst told path tree checked
   pub program : Module
-  pub is : IsProgram checked program
+  pub first : IsFirst told path tree program
+  pub is : IsProgram program
   pub compiled : IsCompiled program o
 
 -- an end that a run of a program can have

@@ -26,7 +26,7 @@ pub enum SourceFault {
     Unbuilt,
     /// Refusal 45: the module doesn't declare `init` as a first module has to.
     NoInit,
-    /// Refusal 70: a function's frame passes 65,536 bytes.
+    /// Refusal 70: a function's frame, or the variables of the module, pass 65,536 bytes.
     FrameTooLarge,
     /// Refusal 71: the code passes 1,048,576 instructions.
     CodeTooLarge,

@@ -1,12 +1,12 @@
 //! Reads a source: its file, tokens, tree, the texts that it includes, its names, checked module and object.
 
-ghost use Rattle.std.specs.Prelude.{◌≡◌, ◌≤◌, ◌⊎◌, List, ℕ, true, Some, IfOk, IfErr, IfSome};
+ghost use Rattle.std.specs.Prelude.{◌≡◌, ◌≤◌, ◌⊎◌, List, ℕ, true, IfOk, IfErr};
 ghost use Rattle.inf_ports.specs.Outside.{Told};
 ghost use Rattle.limbo_tree.specs.Sources as sources;
 ghost use Rattle.limbo_tree.specs.View.{view_source};
-ghost use Rattle.limbo_small.specs.Typed.{Module};
-ghost use Rattle.limbo_small.specs.View.{view_module};
-ghost use Rattle.limbo_small.specs.Proper.{IsProper};
+ghost use Rattle.limbo_typed.specs.Typed.{Module};
+ghost use Rattle.limbo_typed.specs.View.{view_module};
+ghost use Rattle.typed_part.specs.Part.{is_part};
 ghost use Rattle.source_modules.specs.Given.{Gives};
 ghost use Rattle.inferno_tool.specs.Built.{HasTree};
 ghost use Rattle.inferno_tool.specs.Faults.{IsTreeFault};
@@ -21,11 +21,12 @@ use inf_text::{Span, Text};
 use limbo_compiler::{CompileFault, compile};
 use limbo_lexer::{LexFault, Token, lex};
 use limbo_parser::{ParseFault, parse};
-use limbo_small::TypedModule;
 use limbo_tree::Source;
+use limbo_typed::TypedModule;
 use source_files::{FilesFault, read_included};
 use source_modules::{Checked, ModuleFault, check_source};
 use std::alloc::Global;
+use typed_part::is_part;
 
 /// Why bytes were not read as a program.
 #[derive(Clone, Copy)]
@@ -111,25 +112,25 @@ fn read_tree(alloc: Global, source: &[u8]) -> Result<Source, ReadFault>
     }
 }
 
-/// The module over int of what is told of a typed module.
+/// The program of what is told of a typed module.
 ///
 /// # Errors
 /// The refusal: `NoInit` where it doesn't declare `init` as a first module has to, else `Unbuilt` where it is outside of the part that
 /// runs.
-fn program_of(checked: Checked) -> Result<TypedModule, SourceFault>
-    requires proper { IfSome checked.small (λ m. IsProper (view_module m)) }
-    ensures found { IfOk result (λ m. (checked.begins ≡ true) × (checked.small ≡ Some m)) }
-    ensures proper { IfOk result (λ m. IsProper (view_module m)) }
-    ensures refused { IfErr result (λ f. (told : Told) (path : List ℕ) (tree : sources.Source) → Gives told path tree checked
+fn program_of(checked: &Checked) -> Result<&TypedModule, SourceFault>
+    ensures found { IfOk result (λ m. (checked.now.begins ≡ true) × (m.now ≡ checked.now.module.value)) }
+    ensures part { IfOk result (λ m. is_part (view_module m.now) ≡ true) }
+    ensures refused { IfErr result (λ f. (told : Told) (path : List ℕ) (tree : sources.Source) → Gives told path tree checked.now
         → IsTreeFault told path tree f) }
 {
-    let Checked { begins, small } = checked;
-    if !begins {
+    if !checked.begins {
         return Err(SourceFault::NoInit);
     }
-    match small {
-        Some(module) => Ok(module),
-        None => Err(SourceFault::Unbuilt),
+    let program: &TypedModule = &checked.module;
+    if is_part(program) {
+        Ok(program)
+    } else {
+        Err(SourceFault::Unbuilt)
     }
 }
 
@@ -137,18 +138,17 @@ fn program_of(checked: Checked) -> Result<TypedModule, SourceFault>
 ///
 /// # Errors
 /// The refusal of the module; `NoMemory`.
-fn object_of(alloc: Global, checked: Checked) -> Result<Object, ReadFault>
-    requires proper { IfSome checked.small (λ m. IsProper (view_module m)) }
-    ensures found { IfOk result (λ o. (told : Told) (path : List ℕ) (tree : sources.Source) → Gives told path tree checked
+fn object_of(alloc: Global, checked: &Checked) -> Result<Object, ReadFault>
+    ensures found { IfOk result (λ o. (told : Told) (path : List ℕ) (tree : sources.Source) → Gives told path tree checked.now
         → IsObjectOf told path tree o) }
-    ensures refused { IfErr result (λ f. (told : Told) (path : List ℕ) (tree : sources.Source) → Gives told path tree checked
+    ensures refused { IfErr result (λ f. (told : Told) (path : List ℕ) (tree : sources.Source) → Gives told path tree checked.now
         → IsTreeReadFault told path tree f) }
 {
-    let module = match program_of(checked) {
-        Ok(module) => module,
+    let program = match program_of(checked) {
+        Ok(program) => program,
         Err(fault) => return Err(ReadFault::Refused { fault }),
     };
-    match compile(alloc, &module) {
+    match compile(alloc, program) {
         Ok(object) => Ok(object),
         Err(fault) => Err(uncompiled(fault)),
     }
@@ -229,7 +229,6 @@ fn check_tree<H: HostTree>(
     files: &mut H,
 ) -> Result<Checked, Cause>
     ensures checked { IfOk result (λ c. Gives (H.told files.old) path.now (view_source tree.now) c) }
-    ensures proper { IfOk result (λ c. IfSome c.small (λ m. IsProper (view_module m))) }
     ensures unchecked { IfErr result
         (λ cause. IsUnchecked (H.told files.old) path.now (view_source tree.now) (H.faults files.old) (H.faults files.new) cause) }
     ensures kept { H.told files.new ≡ H.told files.old }
@@ -282,7 +281,7 @@ pub fn read_source<H: HostTree>(alloc: Global, path: &Text, files: &mut H) -> Re
         Ok(checked) => checked,
         Err(cause) => return Err(cause),
     };
-    match object_of(alloc, checked) {
+    match object_of(alloc, &checked) {
         Ok(object) => Ok(object),
         Err(fault) => Err(faulted(path, fault)),
     }

@@ -2,7 +2,7 @@
 
 ghost use Rattle.std.specs.Prelude.{◌≡◌, ◌≤◌, ◌↔◌, IfOk, IsTrue, map};
 ghost use Rattle.inf_ports.specs.Outside.{Rose};
-ghost use Rattle.limbo_small.specs.Typed.{Module};
+ghost use Rattle.limbo_typed.specs.Typed.{Module};
 ghost use Rattle.machine_core.specs.Journal.{State};
 ghost use Rattle.machine_core.specs.Ends.{breaches};
 ghost use Rattle.machine_core.specs.Kept.{view_broken};

@@ -288,6 +288,16 @@ fn rows(rt: HostRuntime) -> Result<(), Fail> {
     Ok(())
 }
 
+/// These lines, each ended by `;`.
+fn lines_of(alloc: Global, told: &str) -> Result<String, Fail> {
+    let mut lines = String::new(alloc);
+    for line in told.split_terminator(';') {
+        lines.push_str(line)?;
+        lines.push('\n')?;
+    }
+    Ok(lines)
+}
+
 /// The words of a command over a program without an end, in `hello.b`, with its status and what is told, lines ended by `;`.
 const WORDS: &str = "\
 go hello.b -q 3|6|inferno: limit 3;
@@ -320,11 +330,7 @@ fn words(rt: HostRuntime) -> Result<(), Fail> {
         for word in given.split(' ') {
             words.push(text(alloc, word)?)?;
         }
-        let mut wanted = String::new(alloc);
-        for line in told.split_terminator(';') {
-            wanted.push_str(line)?;
-            wanted.push('\n')?;
-        }
+        let wanted = lines_of(alloc, told)?;
         let mut files = tree(alloc, source.as_bytes(), None)?;
         let mut out = MemSink::new(alloc, 100, Vec::new(alloc))?;
         let mut err = MemSink::new(alloc, 100, Vec::new(alloc))?;
@@ -336,47 +342,53 @@ fn words(rt: HostRuntime) -> Result<(), Fail> {
     Ok(())
 }
 
-/// What programs print and how they end: behind the head stand these functions, then `init` with these statements.
+/// Programs: what stands behind the head, then the statements of `init`, what is printed, and the lines about the end, with `@` between
+/// these. A line that is printed or told ends by `;`.
+const PROGRAMS: &str =
+    r#"f(n: int): int { if (n < 2) { return 1; } m := n - 1; return n * f(m); }@x := f(10); sys->print("%d\n", x);@3628800;@
+g(): int { return g(); }@sys->print("so far\n"); g(); sys->print("never\n");@so far;@inferno: process 1 broken: stack overflow;
+@sys->print("%d%%\n", 5 - 7);@-2%;@
+@x := 2147483647; sys->print("%d %d %d\n", x + 1, x * x, 0 - x - 2);@-2147483648 1 2147483647;@
+@i := 0; while (i < 3) { if (i == 1) sys->print("one\n"); else sys->print("%d\n", i); i = i + 1; }@0;one;2;@
+@sys->print("%d %d %d %d\n", 16r80000000 / -1, 1 << 33, byte 255 + byte 1, -7 / 2);@-2147483648 2 0 -3;@
+@i := 16r80000000; j := -1; k := 33; b := byte 255; sys->print("%d %d %d %d\n", i / j, 1 << k, b + byte 1, 7 * j / 2);@-2147483648 2 0 -3;@
+@b := byte 254; b += byte 3; sys->print("%d %d %d\n", b, ~b, int b - 2);@1 254 -1;@
+@x := big 1 << 40; sys->print("%bd %bd %d\n", big 1 << 40, x, int (x + big 7));@1099511627776 1099511627776 7;@
+@sys->print("%x %x\n", -1, 16r263A);@ffffffff 263a;@
+@sys->print("%c%c\n", 16r263A, 'x');@☺x;@
+f(x: int): int { return 1 / x; }@sys->print("%d\n", f(1)); f(0); sys->print("never\n");@1;@inferno: process 1 broken: zero divide;
+f(): int { return 1 / 0; }@sys->print("so far\n"); f();@so far;@inferno: process 1 broken: zero divide;
+@o: for (i := 0; ; i++) for (j := 0; ; j++) { if (j > i) continue o; if (i == 3) break o; sys->print("%d%d\n", i, j); }@00;10;11;20;21;22;@
+@n := 0; for (;;) { n++; if (n > 4) break; } sys->print("%d\n", n);@5;@
+n: int; f(x: int): int { n++; return x; }@z := 0; a := z && f(1); b := !z || f(1); sys->print("%d %d %d\n", a, b, n);@0 1 0;@
+n: int; f(x: int): int { n++; return x; }@z := 0; a := !z && f(3); b := z || f(0); sys->print("%d %d %d\n", a, b, n);@1 0 2;@
+@i := 5; i = i++ + ++i; sys->print("%d\n", i);@12;@
+n: int; up() { n++; } down() { n -= 2; }@up(); up(); up(); down(); sys->print("%d\n", n);@1;@
+m: int = 3 * 4; g: big = big 5; f() { m++; g *= big 2; }@f(); sys->print("%d %bd\n", m, g);@13 10;@
+@n := 0; do n++; while (0); sys->print("%d\n", n); do { n += 5; } while (n < 11); sys->print("%d\n", n);@1;11;@
+x: int; f(): int { x = 100; return 1; }@x = 5; x += f(); sys->print("%d\n", x);@6;@
+f(n: big): big { if (n < big 2) return big 1; return n * f(n - big 1); }@sys->print("%bd\n", f(big 20));@2432902008176640000;@
+@n := sys->print("abc\n"); sys->print("%d\n", n);@abc;4;@
+"#;
+
+/// What programs print and how they end.
 #[test]
 fn programs(rt: HostRuntime) -> Result<(), Fail> {
     let alloc = rt.alloc();
-    let rows = [
-        (
-            "f(n: int): int { if (n < 2) { return 1; } m := n - 1; return n * f(m); }",
-            "x := f(10); sys->print(\"%d\\n\", x);",
-            0,
-            "3628800\n",
-            "",
-        ),
-        (
-            "g(): int { return g(); }",
-            "sys->print(\"so far\\n\"); g(); sys->print(\"never\\n\");",
-            1,
-            "so far\n",
-            "inferno: process 1 broken: stack overflow\n",
-        ),
-        ("", "sys->print(\"%d%%\\n\", 5 - 7);", 0, "-2%\n", ""),
-        (
-            "",
-            "x := 2147483647; sys->print(\"%d %d %d\\n\", x + 1, x * x, 0 - x - 2);",
-            0,
-            "-2147483648 1 2147483647\n",
-            "",
-        ),
-        (
-            "",
-            "i := 0; while (i < 3) { if (i == 1) sys->print(\"one\\n\"); else sys->print(\"%d\\n\", i); i = i + 1; }",
-            0,
-            "0\none\n2\n",
-            "",
-        ),
-    ];
-    for (functions, statements, status, out, err) in rows {
+    for row in PROGRAMS.lines() {
+        let (functions, rest) = row.split_once('@').ok_or("a row without functions")?;
+        let (statements, rest) = rest.split_once('@').ok_or("a row without statements")?;
+        let (printed, told) = rest.split_once('@').ok_or("a row without an end")?;
         let source = format!(in alloc; "{HEAD}{functions}\n{INIT}{statements} }}")?;
-        let (ended, printed, lines) = command(alloc, source.as_bytes())?;
-        assert_eq!(rt; ended.status, status);
-        assert_eq!(rt; printed.as_slice(), out.as_bytes());
-        assert_eq!(rt; lines.as_slice(), err.as_bytes());
+        let (ended, out, err) = command(alloc, source.as_bytes())?;
+        let status = if told.is_empty() { 0 } else { 1 };
+        assert_eq!(rt; ended.status, status, "{row}");
+        assert_eq!(rt;
+            out.as_slice(),
+            lines_of(alloc, printed)?.as_bytes(),
+            "{row}"
+        );
+        assert_eq!(rt; err.as_slice(), lines_of(alloc, told)?.as_bytes(), "{row}");
     }
     Ok(())
 }
@@ -460,7 +472,7 @@ fn refusals(rt: HostRuntime) -> Result<(), Fail> {
 /// What is told of sources that include texts, and behind a `|` the source's sixth line; behind each `@` stand the name of an
 /// included text, a blank, and the text.
 const INCLUDES: &str = "\
-hello.b:1:1: fault 25|include \"k.m\"; n: con len s + k; v: string;@k.m k: con 1 << 3; s: con \"a\" + \"b\";
+hello.b:1:1: fault 25|include \"k.m\"; n: con len s + k; v := s;@k.m k: con 1 << 3; s: con \"a\" + \"b\";
 hello.b:6:1: fault 40|include \"none.m\";
 d/k.m:1:1: fault 40|include \"d/k.m\";@d/k.m include \"k.n\";@k.n k: con 1;
 hello.b:6:16: fault 41|include \"k.m\"; k: int;@k.m k: con 1;
@@ -607,8 +619,8 @@ fn one_byte_at_a_time(rt: HostRuntime) -> Result<(), Fail> {
     Ok(())
 }
 
-/// The events of the program that greets: three instructions that begin the module and four of the print, the console's
-/// Rwrite of 13 bytes, and two that return.
+/// The events of the program that greets: three instructions that begin the module and six of the print, the console's
+/// Rwrite of 13 bytes, one that gives away what the print answers, and two that return.
 #[test]
 fn journal_of_hello(rt: HostRuntime) -> Result<(), Fail> {
     let alloc = rt.alloc();
@@ -624,12 +636,12 @@ fn journal_of_hello(rt: HostRuntime) -> Result<(), Fail> {
     };
     let reply = Vec::from_slice(alloc, &[11, 0, 0, 0, 119, 0, 0, 13, 0, 0, 0])?;
     let wanted = [
-        Event::Quantum { pid: 1, count: 7 },
+        Event::Quantum { pid: 1, count: 9 },
         Event::Reply {
             link: 1,
             frame: Seq::from_vec(reply),
         },
-        Event::Quantum { pid: 1, count: 2 },
+        Event::Quantum { pid: 1, count: 3 },
     ];
     assert!(rt; events == wanted.as_slice());
     assert_eq!(rt; objects.len(), 1);

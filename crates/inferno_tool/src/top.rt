@@ -1,8 +1,7 @@
-ghost use Rattle.std.specs.Prelude.{◌≡◌, ◌≤◌, ◌⊎◌, ℕ, List, Option, true, None, Some, IsSome, IfOk, IfErr};
+ghost use Rattle.std.specs.Prelude.{◌≡◌, ◌≤◌, ◌⊎◌, ℕ, List, Option, true, false, None, Some, IsSome, IfOk, IfErr};
 ghost use Rattle.inf_ports.specs.Outside.{Rose};
-ghost use Rattle.limbo_small.specs.Typed.{Module};
-ghost use Rattle.limbo_typed.specs.Typed as typed;
-ghost use Rattle.limbo_part.specs.Part.{small_module};
+ghost use Rattle.limbo_typed.specs.Typed.{Module};
+ghost use Rattle.typed_part.specs.Part.{is_part};
 ghost use Rattle.inferno_tool.specs.declared.cause.SourceFault.TheVariants as SourceFault;
 ghost use Rattle.inferno_tool.specs.Built.{IsBuilt};
 ghost use Rattle.dis_file.specs.declared.object.Object.{Object as AnyObject};
@@ -227,10 +226,10 @@ pub fn inferno<H: HostTree, K: Sink, E: Sink>(
 
     // A checked source is refused as 45 exactly where its module doesn't declare `init` as a first module has to, and else as 25 where the
     // module is outside of the part that runs, however large its frames and its code are.
-    ensures beginless { (x : typed.Module) (t : TellsOther words.now (H.told files.old) x)
+    ensures beginless { (m : Module) (t : TellsOther words.now (H.told files.old) m)
         → (Rose (H.faults files.old) (H.faults files.new) → ⊥)
         → IsUnlessMemory result.cause (Cause.BadSource t.file SourceFault.NoInit) }
-    ensures outside { (x : typed.Module) (t : TellsFirst words.now (H.told files.old) x) → small_module x ≡ None
+    ensures outside { (m : Module) (t : TellsFirst words.now (H.told files.old) m) → is_part m ≡ false
         → (Rose (H.faults files.old) (H.faults files.new) → ⊥)
         → IsUnlessMemory result.cause (Cause.BadSource t.file SourceFault.Unbuilt) }
 

@@ -8,10 +8,10 @@ use Rattle.process_model.specs.Law.{makers, repeated, begins_code}
 use Rattle.process_model.specs.Law as law
 use Rattle.process_model.specs.Plain.{no_names}
 use Rattle.dis_file.specs.declared.object.Object.{Object}
-use Rattle.limbo_small.specs.Typed.{Module}
-use Rattle.limbo_small.specs.Proper.{IsProper}
-use Rattle.limbo_meaning.specs.Program.{Routine}
-use Rattle.limbo_lower.specs.Sizes.{FrameTooLarge}
+use Rattle.limbo_typed.specs.Typed.{Module}
+use Rattle.typed_meaning.specs.Program.{Routine}
+use Rattle.typed_lower.specs.Sizes.{FrameTooLarge}
+use Rattle.typed_part.specs.Part.{is_part}
 use Rattle.inf_text.specs.Options.{◌>>=◌}
 use Rattle.dis_meaning.specs.Opening.{Opened, opened}
 use Rattle.machine_core.specs.declared.event.Event.{Event}
@@ -101,7 +101,7 @@ cut_has es (Some count) = fine_joined es ∙ ap (λ l. law.instructions es ++ l)
     fine_joined : (es : List (model.Event Rmsg)) → law.instructions (fine es ++ singles 0 count) ≡ law.instructions es ++ law.instructions (singles {A = Rmsg} 0 count)
     fine_joined es = model_joined (fine es) (singles 0 count) ∙ ap (λ l. l ++ law.instructions (singles {A = Rmsg} 0 count)) (fine_has es)
 
-module _ (m : Module) (proper : IsProper m) (small : FrameTooLarge m → ⊥) (init : ℕ) (first : Routine) (begins_so : BeginsWith m init first) (journal : List Event) (cut : Option ℕ) (t : State) where
+module _ (m : Module) (part : is_part m ≡ true) (small : FrameTooLarge m → ⊥) (init : ℕ) (first : Routine) (begins_so : BeginsWith m init first) (journal : List Event) (cut : Option ℕ) (t : State) where
   abbrev objects : List Object
   objects = object_for m ∷ []
 
@@ -110,11 +110,11 @@ module _ (m : Module) (proper : IsProper m) (small : FrameTooLarge m → ⊥) (i
       cut_short objects cut s ≡ Some t → Means m init (journal ++ cut_events cut) t
   means_from o s opens replays told more =
       let es = translated objects (begins o) journal in
-      let same : o ≡ begins_with m = (let both : Some o ≡ Some (begins_with m) = sym opens ∙ beginning.begins m proper small (begun_spelled (object_for m) o opens) in cc) in
+      let same : o ≡ begins_with m = (let both : Some o ≡ Some (begins_with m) = sym opens ∙ beginning.begins m part small (begun_spelled (object_for m) o opens) in cc) in
       let all : model.replay (machine_rules objects) no_names 1 (begins_code o.world o.first) (fine es ++ cut_fine cut) ≡ Some t =
       on (machine_rules objects) no_names 1 (fine es) (cut_fine cut) (begins_code o.world o.first) s t (replay_fine (machine_rules objects) no_names longest es (begins_code o.world o.first) s told) (cut_replays objects cut s t more) in
       let from : model.replay (machine_rules objects) no_names 1 (begins_code (begins_with m).world (begins_with m).first) (fine es ++ cut_fine cut) ≡ Some t = subst (λ (o : Opened). model.replay (machine_rules objects) no_names 1 (begins_code o.world o.first) (fine es ++ cut_fine cut) ≡ Some t) same all in
-      let run = journals m proper init first begins_so 1 (fine es ++ cut_fine cut) t from in
+      let run = journals m part init first begins_so 1 (fine es ++ cut_fine cut) t from in
       record {
         turns = run.turns;
         config = run.config;
@@ -137,4 +137,4 @@ module _ (m : Module) (proper : IsProper m) (small : FrameTooLarge m → ⊥) (i
       by_start (Some o) k e = by_replay o (replay objects (begins o) journal) k refl e
 
 pub journals_mean : JournalsMean
-journals_mean m proper small init first begins_so journal cut t h = means m proper small init first begins_so journal cut t h
+journals_mean m part small init first begins_so journal cut t h = means m part small init first begins_so journal cut t h

@@ -5,16 +5,17 @@ use Rattle.process_model.specs.Process.{Branch, Ends, Entry, Requested, Replied,
 use Rattle.process_model.specs.Source.{Hears, goes_on, asks_again, is_over, Steps, goes, waits, meets, polls, passes, spawns, asks, ends, Run, still, next, Turn, Matched, begun, turn, down, reply}
 use Rattle.system_model.specs.Values.{Value}
 use Rattle.system_model.specs.Prints.{Request}
-use Rattle.system_model.specs.World.{World}
 use Rattle.system_model.specs.Ending.{Ending, Ended, Broken, Faulted}
 use Rattle.system_model.specs.Trace.{Trace}
 use Rattle.system_model.specs.Limits.{frames_limit}
-use Rattle.limbo_meaning.specs.Program.{Routine, routines_of}
-use Rattle.limbo_meaning.specs.Process.{Process}
-use Rattle.limbo_meaning.specs.Step.{step, answer}
-use Rattle.limbo_meaning.specs.Rules.{rules, naming}
-use Rattle.limbo_meaning.specs.Runs.{Meaning, MeaningRun}
-use Rattle.limbo_meaning.proofs.Breaks.{ends_only_so}
+use Rattle.process_model.specs.Plain.{no_names}
+use Rattle.typed_meaning.specs.World.{World}
+use Rattle.typed_meaning.specs.Program.{Routine, routines_of}
+use Rattle.typed_meaning.specs.Process.{Process}
+use Rattle.typed_meaning.specs.Step.{step}
+use Rattle.typed_meaning.specs.Rules.{rules}
+use Rattle.typed_meaning.specs.Runs.{Meaning, MeaningRun}
+use Rattle.typed_meaning.proofs.Breaks.{ends_only_so}
 use Rattle.machine_core.specs.Journal.{Fault, fault_in, fault_of, or_else}
 use Rattle.limbo_compiler.specs.Means.{NoneFault}
 use Rattle.limbo_compiler.proofs.Means.{journals_mean}
@@ -49,13 +50,13 @@ module _ (limit : ℕ) (routines : List Routine) where
   stepped_sound i w v p (Broken text) e = refl
   stepped_sound i w v p (Faulted number pc) e = absurd (ends_only_so.faulted limit routines w v p number pc e)
 
-  heard_sound : (c : Meaning) (i : ℕ) (a : Rmsg) (e : Meaning) → Hears (rules limit routines) naming c i a e → Sound c.trace → Sound e.trace
+  heard_sound : (c : Meaning) (i : ℕ) (a : Rmsg) (e : Meaning) → Hears (rules limit routines) no_names c i a e → Sound c.trace → Sound e.trace
   heard_sound c i a e (goes_on p w p' at does) h = both_sound (c.trace ++ Replied i a ∷ []) [] (both_sound c.trace (Replied i a ∷ []) h refl) refl
   heard_sound c i a e (asks_again p w m p' at does) h =
       both_sound (c.trace ++ Replied i a ∷ Requested i m ∷ []) [] (both_sound c.trace (Replied i a ∷ Requested i m ∷ []) h refl) refl
   heard_sound c i a e (is_over p w how at does) h = absurd (ends_only_so.at_reply a c.world w p how does)
 
-  step_sound : (c e : Meaning) (i : ℕ) → Steps (rules limit routines) naming c i e → Sound c.trace → Sound e.trace
+  step_sound : (c e : Meaning) (i : ℕ) → Steps (rules limit routines) no_names c i e → Sound c.trace → Sound e.trace
   step_sound c e i0 (goes i p w p' at does) h = both_sound c.trace [] h refl
   step_sound c e i0 (waits i p w bs p' at does) h = both_sound c.trace [] h refl
   step_sound c e i0 (meets i p bs k a j l b q at branch fit) h =
@@ -68,18 +69,18 @@ module _ (limit : ℕ) (routines : List Routine) where
   step_sound c e i0 (ends i p w how at does) h =
       both_sound (c.trace ++ Over i how ∷ []) [] (both_sound c.trace (Over i how ∷ []) h (stepped_sound i c.world w p how does)) refl
 
-  run_sound : (c : Meaning) (i : ℕ) (e : Meaning) (n : ℕ) → Run (rules limit routines) naming i c n e → Sound c.trace → Sound e.trace
+  run_sound : (c : Meaning) (i : ℕ) (e : Meaning) (n : ℕ) → Run (rules limit routines) no_names i c n e → Sound c.trace → Sound e.trace
   run_sound c i e n still h = h
   run_sound c i e n (next {d = d} run last) h = step_sound d e i last (run_sound c i d _ run h)
 
-  matched_sound : (c e : Meaning) (turns : List Turn) → Matched (rules limit routines) naming c turns e → Sound c.trace → Sound e.trace
+  matched_sound : (c e : Meaning) (turns : List Turn) → Matched (rules limit routines) no_names c turns e → Sound c.trace → Sound e.trace
   matched_sound c e turns begun h = h
   matched_sound c e turns (turn {d = d} i n before run) h = run_sound d i e n run (matched_sound c d _ before h)
   matched_sound c e turns (down {d = d} l w before lost) h = absurd cc
   matched_sound c e turns (reply {d = d} i a before heard) h = heard_sound d i a e heard (matched_sound c d _ before h)
 
 pub none_fault : NoneFault
-none_fault m proper small init first begins_so journal cut t h =
-    let is = journals_mean m proper small init first begins_so journal cut t h in
+none_fault m part small init first begins_so journal cut t h =
+    let is = journals_mean m part small init first begins_so journal cut t h in
     let run = is.run in
     subst Sound is.told (matched_sound frames_limit (routines_of m) _ is.config is.turns run.run refl)

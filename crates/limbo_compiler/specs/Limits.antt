@@ -1,9 +1,9 @@
 -- How large a module may be.
 use Rattle.std.specs.Prelude.{◌<◌, length}
-use Rattle.limbo_small.specs.Typed.{Module}
-use Rattle.limbo_lower.specs.Code.{module_code}
-use Rattle.limbo_lower.specs.Sizes.{FrameTooLarge}
-use Rattle.dis_tables.specs.Objects.{all_code, most_instructions}
+use Rattle.limbo_typed.specs.Typed.{Module}
+use Rattle.typed_lower.specs.Statements.{module_code}
+use Rattle.typed_lower.specs.Sizes.{FrameTooLarge}
+use Rattle.dis_objects.specs.Objects.{all_code, most_instructions}
 
 -- The object's code would have more than 1,048,576 instructions.
 abbrev pub CodeTooLarge : Module → Type 0

@@ -1,15 +1,15 @@
 -- What a run of a module's object owes to the module's meaning.
-use Rattle.std.specs.Prelude.{ℕ, ◌≡◌, List, [], ◌∷◌, ◌++◌, Option, Some, None}
+use Rattle.std.specs.Prelude.{ℕ, ◌≡◌, true, List, [], ◌∷◌, ◌++◌, Option, Some, None}
 use Rattle.process_model.specs.Source.{Turn}
 use Rattle.process_model.specs.Law.{Paced, makers, repeated}
-use Rattle.limbo_small.specs.Typed.{Module}
-use Rattle.limbo_small.specs.Proper.{IsProper}
-use Rattle.limbo_meaning.specs.Program.{Routine}
-use Rattle.limbo_meaning.specs.Runs.{Meaning, MeaningRun}
+use Rattle.limbo_typed.specs.Typed.{Module}
+use Rattle.typed_meaning.specs.Program.{Routine}
+use Rattle.typed_meaning.specs.Runs.{Meaning, MeaningRun}
 use Rattle.machine_core.specs.declared.event.Event.{Event}
 use Rattle.machine_core.specs.declared.event.Event.TheVariants as event
 use Rattle.machine_core.specs.Journal.{State, fault_in, place_of, state_of, cut_events}
-use Rattle.limbo_lower.specs.Sizes.{FrameTooLarge}
+use Rattle.typed_lower.specs.Sizes.{FrameTooLarge}
+use Rattle.typed_part.specs.Part.{is_part}
 use Rattle.code_sim.specs.Keeps.{object_for, BeginsWith}
 
 -- The instructions of an event and of a journal, by the places of their processes.
@@ -27,7 +27,7 @@ instructions [] = []
 instructions (e ∷ es) = instructions_of e ++ instructions es
 
 -- There is a run of the module, from its function of this number, beside the journal: its turns are the journal's instructions, in
--- their order, each with the steps of the meaning that it stands for; of any 14 turns in a row of one process at least one has a step;
+-- their order, each with the steps of the meaning that it stands for; of any 56 turns in a row of one process at least one has a step;
 -- and what was told of it, the requests, the replies, what passed, what went and how each process ended, is what was told of the
 -- machine.
 pub record Means (m : Module) (init : ℕ) (events : List Event) (t : State) : Type 0 where
@@ -35,19 +35,19 @@ pub record Means (m : Module) (init : ℕ) (events : List Event) (t : State) : T
   pub config : Meaning
   pub run : MeaningRun m init turns config
   pub makers : makers turns ≡ instructions events
-  pub paced : Paced 14 (λ j. 0) turns
+  pub paced : Paced 56 (λ j. 0) turns
   pub told : config.trace ≡ t.trace
 
 -- So it is of each journal of a machine of the object, also where memory ran out within its last quantum.
 abbrev pub JournalsMean : Type 0
 JournalsMean =
-    (m : Module) → IsProper m → (FrameTooLarge m → ⊥) → (init : ℕ) (first : Routine) → BeginsWith m init first →
+    (m : Module) → is_part m ≡ true → (FrameTooLarge m → ⊥) → (init : ℕ) (first : Routine) → BeginsWith m init first →
     (journal : List Event) (cut : Option ℕ) (t : State) → state_of (object_for m ∷ []) journal cut ≡ Some t →
     Means m init (journal ++ cut_events cut) t
 
 -- No journal of a machine of the object tells of a wrong instruction.
 abbrev pub NoneFault : Type 0
 NoneFault =
-    (m : Module) → IsProper m → (FrameTooLarge m → ⊥) → (init : ℕ) (first : Routine) → BeginsWith m init first →
+    (m : Module) → is_part m ≡ true → (FrameTooLarge m → ⊥) → (init : ℕ) (first : Routine) → BeginsWith m init first →
     (journal : List Event) (cut : Option ℕ) (t : State) → state_of (object_for m ∷ []) journal cut ≡ Some t →
     fault_in t.trace ≡ None

@@ -2,8 +2,8 @@
 //!
 //! `compile` makes the object of a module, or says which limit the module passes (`specs/Limits`). `specs/Means` says what a run owes
 //! to the module's meaning, whatever its quanta and replies were and wherever it ended: there is a run of the module of which the same
-//! was told, at the pace. The law `journals_mean` has it for each journal of a machine, the object's replay being machine_core's; by the law
-//! `none_fault` no such journal tells of a wrong instruction.
+//! was told, at the pace. The law `journals_mean` has it for each journal of a machine, the object's replay being machine_core's; by
+//! the law `none_fault` no such journal tells of a wrong instruction.
 #![tactic(auto)]
 
 mod laws;

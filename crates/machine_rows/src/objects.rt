@@ -33,13 +33,13 @@ fn types(alloc: Global) -> Result<Seq<TypeDesc>, AllocError> {
     Ok(Seq::from_vec(types))
 }
 
-// The strings `$Sys` at 0 and `hi!` at 8.
-fn items(alloc: Global) -> Result<Seq<Item>, AllocError> {
+// The strings `$Sys` at 0 and this one at 8.
+pub(crate) fn items(alloc: Global, text: &[u8]) -> Result<Seq<Item>, AllocError> {
     let mut items = Vec::new(alloc);
-    for (offset, count, content) in [(0, 4, b"$Sys".as_slice()), (8, 3, b"hi!".as_slice())] {
+    for (offset, content) in [(0, b"$Sys".as_slice()), (8, text)] {
         items.push(Item {
             kind: 3,
-            count,
+            count: u32::try_from(content.len()).unwrap_or(0),
             offset,
             content: seq(alloc, content)?,
         })?;
@@ -64,7 +64,7 @@ pub(crate) fn object(alloc: Global, code: &[Inst]) -> Result<Object, Fail> {
         entry_type: 1,
         insts: Seq::from_vec(Vec::from_slice(alloc, code)?),
         types: types(alloc)?,
-        items: items(alloc)?,
+        items: items(alloc, b"hi!")?,
         module: Text::new(alloc),
         links: Seq::new(alloc),
         imports: imports(alloc)?,

@@ -8,7 +8,7 @@ use Rattle.limbo_typed.specs.declared.print.Piece.{Piece as Written}
 use Rattle.slot_code.specs.Code as code
 use Rattle.slot_code.specs.Code.{Spot, Temporary, Argument, In, Inst, Hand, Begin, Format, Function, Module}
 use Rattle.dis_objects.specs.Frames.{Callee, Calls, Prints, printed_kinds}
-use Rattle.dis_objects.specs.Proper.{IsArgument}
+use Rattle.dis_objects.specs.Proper.{IsArgument, AllTellNumbers}
 use Rattle.typed_lower.specs.Terms.{Part, first_put, all_put, made_ready, answered}
 use Rattle.part_code.proofs.Level.{No, Piece, Plain, both_plain, none, single}
 use Rattle.part_code.proofs.Operands.{hand, ProperValue, ProperPart}
@@ -107,15 +107,15 @@ module _ (m : Module) (f : Function) where
 
   -- ---- prints
 
-  pub prints : (pieces : List Written) (n : ℕ) (ps : List Part) → length (printed_kinds pieces) ≡ n → ProperParts (printed_kinds pieces) ps
+  pub prints : (pieces : List Written) (n : ℕ) (ps : List Part) → AllTellNumbers pieces → length (printed_kinds pieces) ≡ n → ProperParts (printed_kinds pieces) ps
       → ProperValue m f kind.Int (λ d s. made_ready (Format pieces) ps d ++ answered n d s)
-  prints pieces n ps l h cs d s w e =
+  prints pieces n ps t l h cs d s w e =
       let i = code.Print n (Temporary kind.Int d) in
       let j = Hand s (In (Temporary kind.Int d)) in
       both_plain m f cs (Prints pieces ∷ cs) cs (made_ready (Format pieces) ps d) (i ∷ j ∷ [])
       (making cs (Prints pieces) (Format pieces) (printed_kinds pieces) ps d (single m f No cs (Format pieces) (λ pc x y. x)) h
-      (given_first (Prints pieces ∷ cs) (printed_kinds pieces) (λ q k t. t)))
+      (given_first (Prints pieces ∷ cs) (printed_kinds pieces) (λ q k z. z)))
       (both_plain m f (Prints pieces ∷ cs) cs cs (i ∷ []) (j ∷ [])
       (single m f No (Prints pieces ∷ cs) i
-      (λ pc x y. (record { others = cs; pieces = pieces; last = refl; takes = l; written = tt; kind = refl }, x)))
+      (λ pc x y. (record { others = cs; pieces = pieces; last = refl; holes = t; takes = l; written = tt; kind = refl }, x)))
       (hand m f cs s (In (Temporary kind.Int d)) w (tt, sym e)))

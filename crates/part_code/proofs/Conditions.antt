@@ -153,8 +153,8 @@ module _ (m : Module) (f : Function) where
   pub new_changed : (o : Operation) (k : Kind) (to : Spot) (ps : List Part) → ProperValue m f k (applied o ps) → IsRead m f to
       → spot_kind to ≡ k → ProperValue m f k (changed given.New o k to ps)
   new_changed o k to ps h r t cs d s w e =
-      both_plain m f cs cs cs (applied o ps (suc d) (Temporary k d)) (Move to (In (Temporary k d)) ∷ Hand s (In (Temporary k d)) ∷ [])
-      (h cs (suc d) (Temporary k d) tt refl) (stored_handed cs k d to s r t w e)
+      both_plain m f cs cs cs (applied o ps d (Temporary k d)) (Move to (In (Temporary k d)) ∷ Hand s (In (Temporary k d)) ∷ [])
+      (h cs d (Temporary k d) tt refl) (stored_handed cs k d to s r t w e)
 
   pub old_changed : (o : Operation) (k : Kind) (to : Spot) (ps : List Part) → IsOfOne o → k ≡ operand_kind o → k ≡ kind_given o
       → IsRead m f to → spot_kind to ≡ k → ProperValue m f k (changed given.Old o k to ps)

@@ -31,7 +31,7 @@ use Rattle.slot_code.specs.Code as code
 use Rattle.slot_code.specs.Code.{Spot, Temporary, Operand, Inst, Begin, Format, Function, Module, GlobalVariable}
 use Rattle.dis_objects.specs.Frames.{Callee, Calls, parameters_of, hole_kinds, printed_kinds}
 use Rattle.dis_objects.specs.Code.{spot_kind}
-use Rattle.dis_objects.specs.Proper.{IsRead, IsTaken}
+use Rattle.dis_objects.specs.Proper.{IsRead, IsTaken, TellsNumber, AllTellNumbers}
 use Rattle.typed_lower.specs.Kinds.{spot_at, leaf, kind_in, kind_given}
 use Rattle.typed_lower.specs.Terms.{part_of, parts_of, applied, compared, connected, truth_of, from_leaf, assigned_first, changed}
 use Rattle.typed_lower.specs.Terms.{made_ready}
@@ -284,16 +284,28 @@ module _ (m : Module) (f : Function) where
       (a.2, printed_parts ps es (right _ _ h) p.1) in
       subst (λ ks. ProperParts m f (ks ++ printed_kinds ps) (parts_of (printed_of (typed.MoreExprs (Of t n) es)))) (sym a.1) r
 
+  hole_tells : (h : Hole) (t : Ty) → some_is (λ k. is_of k t) (part.hole_kind h) ≡ true → TellsNumber h
+  hole_tells (hole.Decimal k) t e = tt
+  hole_tells hole.Character t e = tt
+  hole_tells hole.Hexadecimal t e = tt
+  hole_tells _ t e = absurd (false≢true e)
+
+  all_tell : (ps : List Written) (ts : List Ty) → part.are_printed ps ts ≡ true → AllTellNumbers ps
+  all_tell [] ts h = tt
+  all_tell (piece.Chars s ∷ ps) ts h = all_tell ps ts h
+  all_tell (piece.Hole x ∷ ps) [] h = absurd (false≢true h)
+  all_tell (piece.Hole x ∷ ps) (t ∷ ts) h = (hole_tells x t (left _ (part.are_printed ps ts) h), all_tell ps ts (right _ _ h))
+
   print_term : (w : Printed) (file : typed.Optional) (ps : List Written) (ts : Terms)
-      → (part.is_print w && part.is_absent file) ≡ true → ProperParts m f (printed_kinds ps) (parts_of ts)
+      → (part.is_print w && part.is_absent file) ≡ true → AllTellNumbers ps → ProperParts m f (printed_kinds ps) (parts_of ts)
       → ProperTerm kind.Int (printing w file ps ts)
-  print_term printed.Print typed.Absent ps ts h p =
+  print_term printed.Print typed.Absent ps ts h n p =
       valued kind.Int (Print ps ts) refl refl
       (plain_part m f kind.Int (Print ps ts) (λ d s. made_ready (Format ps) (parts_of ts) d ++ answered (count ts) d s) refl
       (λ x e. absurd (none-some x e))
-      (prints m f ps (count ts) (parts_of ts) (many_parts (printed_kinds ps) ts p) p))
-  print_term printed.Print (typed.Present e) ps ts h p = absurd (false≢true h)
-  print_term _ file ps ts h p = absurd (false≢true h)
+      (prints m f ps (count ts) (parts_of ts) n (many_parts (printed_kinds ps) ts p) p))
+  print_term printed.Print (typed.Present e) ps ts h n p = absurd (false≢true h)
+  print_term _ file ps ts h n p = absurd (false≢true h)
 
   -- ---- expressions
 
@@ -352,6 +364,7 @@ module _ (m : Module) (f : Function) where
         let k : kind_of t ≡ kind.Int = (has_kind kind.Int t (right _ _ h)).kind in
         term_as kind.Int (kind_of t) (printing v file ps (printed_of es)) (sym k)
         (print_term v file ps (printed_of es) (left _ _ (left _ _ (left _ _ (left _ _ h))))
+        (all_tell ps (types_of es) (right _ _ (left _ _ h)))
         (printed_parts ps es (right _ _ (left _ _ h)) (exprs_proper i w es (right _ _ (left _ _ (left _ _ h))))))
     node_proper i w t _ h = absurd (false≢true h)
 

@@ -7,7 +7,11 @@ use Rattle.std.proofs.lemmas.List.{length-append}
 use Rattle.limbo_typed.specs.declared.module.Initial.{Initial}
 use Rattle.limbo_typed.specs.Typed as typed
 use Rattle.system_model.specs.Values.{Value, Num}
-use Rattle.typed_meaning.specs.Values.{fitted}
+use Rattle.limbo_types.specs.Types.{Ty, Byte, Int, Big}
+use Rattle.limbo_values.specs.declared.number.Kind.{Kind}
+use Rattle.limbo_values.specs.Numbers.{InRange, wrapped}
+use Rattle.limbo_values.proofs.Ranges.{always}
+use Rattle.typed_meaning.specs.Values.{kind_of, fitted}
 use Rattle.typed_meaning.specs.Program.{initial_of, initials_from}
 use Rattle.slot_code.specs.Code.{Inst, Leave, Function, Module, GlobalVariable}
 use Rattle.dis_objects.specs.Frames.{Callee, made_by, made_from}
@@ -81,6 +85,27 @@ global_there n (u ∷ vs) is zero v e =
     (global_code u y, refl, global_kind u y ∙ ap (λ (w : typed.Var). number_kind w.ty) (same_Some u v e))
 global_there n (u ∷ vs) is (suc x) v e = global_there (suc n) vs is x v e
 
+-- The kind of a number's type.
+kind_is : (t : Ty) (k : Kind) → number_kind t ≡ Some k → kind_of t ≡ k
+kind_is Byte k e = cc
+kind_is Int k e = cc
+kind_is Big k e = cc
+kind_is _ k e = absurd cc
+
+initial_fits : (v : typed.Var) (x : Value) (k : Kind) → number_kind v.ty ≡ Some k → InRange k (global_code v (fitted v.ty x)).initial
+initial_fits v (Num z) k e = subst (λ j. InRange j (wrapped (kind_of v.ty) z)) (kind_is v.ty k e) (always (kind_of v.ty) z)
+
+-- Each begins with a number of its kind.
+initials_fit : (vs : List typed.Var) (n : ℕ) (is : List Initial) (x : ℕ) (g : GlobalVariable) (k : Kind)
+    → slice_get (globals_code vs (initials_from n vs is)) x ≡ Some g → g.kind ≡ Some k → InRange k g.initial
+initials_fit [] n is x g k e kind = absurd (none-some g e)
+initials_fit (v ∷ vs) n is zero g k e kind =
+    let y = fitted v.ty (initial_of n is) in
+    let same = same_Some (global_code v y) g e in
+    subst (λ (h : GlobalVariable). InRange k h.initial) same
+    (initial_fits v (initial_of n is) k (sym (global_kind v y) ∙ ap (λ (h : GlobalVariable). h.kind) same ∙ kind))
+initials_fit (v ∷ vs) n is (suc x) g k e kind = initials_fit vs (suc n) is x g k e kind
+
 -- ---- functions
 
 module _ (m : typed.Module) (h : part.is_part m ≡ true) where
@@ -117,4 +142,7 @@ module _ (m : typed.Module) (h : part.is_part m ≡ true) where
       subst (ProperFunction (module_code m)) same (function_proper n f there)
 
 pub part_is_proper : PartIsProper
-part_is_proper m h n f e = coded_proper m h n f e (slice_get m.functions n) refl
+part_is_proper m h = record {
+  functions = λ n f e. coded_proper m h n f e (slice_get m.functions n) refl;
+  variables = λ x g k e kind. initials_fit m.globals 0 m.initials x g k e kind;
+}

@@ -6,4 +6,12 @@ mod Calls
 mod Callees
 mod Expressions
 mod Statements
-mod Functions
+pub mod Functions
+mod Held
+mod Fitting
+mod Making
+mod Counted
+mod Bounds
+mod Weighing
+pub mod Rooms
+mod Examples

@@ -129,24 +129,24 @@ kept_tail : (a : List Inst) (k : Kind) (d : ℕ) (to s : Spot) (base : List Inst
     ≡ (a ++ Move to (In (Temporary k d)) ∷ Hand s (In (Temporary k d)) ∷ []) ++ base
 kept_tail a k d to s base = sym (append_assoc a (Move to (In (Temporary k d)) ∷ Hand s (In (Temporary k d)) ∷ []) base)
 
-pub update_code : (o : Operation) (p : Place) (u v t : Term) (k : Kind) (n d : ℕ) (to s : Spot) (mid base : List Inst) → u ≡ v
-    → t ≡ update o p v → k ≡ kind_at p → n ≡ suc d → to ≡ spot_of p
+pub update_code : (o : Operation) (p : Place) (u v t : Term) (k : Kind) (d : ℕ) (to s : Spot) (mid base : List Inst) → u ≡ v
+    → t ≡ update o p v → k ≡ kind_at p → to ≡ spot_of p
     → mid ≡ Move to (In (Temporary k d)) ∷ Hand s (In (Temporary k d)) ∷ base
-    → two (ready_at n (Read p) (standing (takes_long o) (Read p) u)) (ready_at (suc n) u (taken (takes_long o) u))
+    → two (ready_at d (Read p) (standing (takes_long o) (Read p) u)) (ready_at (suc d) u (taken (takes_long o) u))
     (λ x y. Operate o (Temporary k d) x y) ++ mid ≡ code_of d t s ++ base
-update_code o p u v t k n d to s mid base eu et ek en eo em =
-    rw (em, et, en, eo, ek, eu)
-    (two_applied o (suc d) (Temporary (kind_at p) d) (Read p) v (Read p) v (MoreTerms (Read p) (MoreTerms v NoTerms)) _ refl refl refl
-    ∙ kept_tail (applied o (parts_of (MoreTerms (Read p) (MoreTerms v NoTerms))) (suc d) (Temporary (kind_at p) d)) (kind_at p) d
+update_code o p u v t k d to s mid base eu et ek eo em =
+    rw (em, et, eo, ek, eu)
+    (two_applied o d (Temporary (kind_at p) d) (Read p) v (Read p) v (MoreTerms (Read p) (MoreTerms v NoTerms)) _ refl refl refl
+    ∙ kept_tail (applied o (parts_of (MoreTerms (Read p) (MoreTerms v NoTerms))) d (Temporary (kind_at p) d)) (kind_at p) d
     (spot_of p) s base)
 
-pub step_code : (o : Operation) (p : Place) (t : Term) (k : Kind) (n d : ℕ) (to s : Spot) (mid base : List Inst) → t ≡ step o given.New p
-    → k ≡ kind_at p → n ≡ suc d → to ≡ spot_of p → mid ≡ Move to (In (Temporary k d)) ∷ Hand s (In (Temporary k d)) ∷ base
-    → one (ready_at n (Read p) (taken (takes_long o) (Read p))) (λ x. Alter o (Temporary k d) x) ++ mid ≡ code_of d t s ++ base
-step_code o p t k n d to s mid base et ek en eo em =
-    rw (em, et, en, eo, ek)
-    (one_applied o (suc d) (Temporary (kind_at p) d) (Read p) (Read p) (MoreTerms (Read p) NoTerms) _ refl refl
-    ∙ kept_tail (applied o (parts_of (MoreTerms (Read p) NoTerms)) (suc d) (Temporary (kind_at p) d)) (kind_at p) d (spot_of p) s base)
+pub step_code : (o : Operation) (p : Place) (t : Term) (k : Kind) (d : ℕ) (to s : Spot) (mid base : List Inst) → t ≡ step o given.New p
+    → k ≡ kind_at p → to ≡ spot_of p → mid ≡ Move to (In (Temporary k d)) ∷ Hand s (In (Temporary k d)) ∷ base
+    → one (ready_at d (Read p) (taken (takes_long o) (Read p))) (λ x. Alter o (Temporary k d) x) ++ mid ≡ code_of d t s ++ base
+step_code o p t k d to s mid base et ek eo em =
+    rw (em, et, eo, ek)
+    (one_applied o d (Temporary (kind_at p) d) (Read p) (Read p) (MoreTerms (Read p) NoTerms) _ refl refl
+    ∙ kept_tail (applied o (parts_of (MoreTerms (Read p) NoTerms)) d (Temporary (kind_at p) d)) (kind_at p) d (spot_of p) s base)
 
 pub call_code : (ty : Ty) (f n : ℕ) (ts : Terms) (t : Term) (k : Kind) (d : ℕ) (s : Spot) (mid base : List Inst) → t ≡ tree.Call ty f ts
     → k ≡ kind_of ty → n ≡ count ts → mid ≡ slot.Call k f n s ∷ base

@@ -181,11 +181,11 @@ changed_few : (g : Given) (o : Operation) (k : Kind) (to : Spot) (ts : Terms) �
     → suc (length (changed g o k to (parts_of ts) d s)) ≤ 4 * suc (sizes ts)
 changed_few given.Old o k to ts h d s = omega arith
 changed_few given.New o k to ts h d s =
-    let a = applied o (parts_of ts) (suc d) (Temporary k d) in
+    let a = applied o (parts_of ts) d (Temporary k d) in
     omega (
       arith,
       length-append a (code.Move to (In (Temporary k d)) ∷ Hand s (In (Temporary k d)) ∷ []),
-      applied_few o ts h (suc d) (Temporary k d),
+      applied_few o ts h d (Temporary k d),
     )
 
 truth_few : (branches : Bool → ℕ → ℕ → List Inst) (n : ℕ) → ((w : Bool) (d m : ℕ) → length (branches w d m) ≤ 4 * n) → (d : ℕ) (s : Spot)

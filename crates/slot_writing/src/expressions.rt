@@ -377,7 +377,7 @@ pub(crate) fn emit_value(
             let kept = Spot::Temporary { kind, number: d };
             put_kept(code, variable.spot(), kept, into)?;
             let left = Term::Read(variable);
-            emit_operated(alloc, code, operation, left, term_of(value), d + 1, kept)
+            emit_operated(alloc, code, operation, left, term_of(value), d, kept)
         }
         Term::Step {
             operation,
@@ -389,7 +389,7 @@ pub(crate) fn emit_value(
                 let kind = variable.kind();
                 let kept = Spot::Temporary { kind, number: d };
                 put_kept(code, variable.spot(), kept, into)?;
-                emit_altered(alloc, code, operation, Term::Read(variable), d + 1, kept)
+                emit_altered(alloc, code, operation, Term::Read(variable), d, kept)
             }
         },
         Term::Call { ty, function, args } => {

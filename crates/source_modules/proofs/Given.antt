@@ -6,6 +6,7 @@ use Rattle.limbo_top.specs.Tops.{Placed}
 use Rattle.limbo_entries.specs.Entries.{Entry}
 use Rattle.limbo_declare.specs.Declares.{Declares}
 use Rattle.limbo_typed.specs.Typed.{Module}
+use Rattle.limbo_typed.specs.View.{view_module}
 use Rattle.source_names.specs.Declares.{HasRow}
 use Rattle.source_modules.specs.Checked.{IsChecked}
 use Rattle.source_modules.specs.Failing.{Fails, FailsBy, by_types}
@@ -30,8 +31,9 @@ module _ (told : Told) (path : List ℕ) (tree : Source) (name : List ℕ) (row 
 
   pub gives : (c : code_checked.Checked) → GivesModule name row es m c → Gives told path tree c
   gives c g =
-      let is : IsChecked told path tree es m g.checked = record { name = name; row = row; has = has; declares = declares; is = g.is } in
-      record { checked = g.checked; sort = sort_of g.checked is c.begins g.begins; small = g.small }
+      let x = view_module c.module.value in
+      let is : IsChecked told path tree es m x = record { name = name; row = row; has = has; declares = declares; is = g.is } in
+      record { sort = sort_of x is c.begins g.begins }
 
   pub fails_by : (f : ModuleFault) → FailsNamed name row es m f → FailsBy told path tree f
   fails_by NoMemory h = tt

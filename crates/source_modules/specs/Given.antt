@@ -1,12 +1,11 @@
 -- What the code gives of a checked source.
-use Rattle.std.specs.Prelude.{◌≡◌, ℕ, List, Bool, true, false, Some, option_map}
+use Rattle.std.specs.Prelude.{◌≡◌, ℕ, List, Bool, true, false, Some}
 use Rattle.inf_ports.specs.Outside.{Told}
 use Rattle.limbo_tree.specs.Sources.{Source}
 use Rattle.limbo_top.specs.Tops.{Placed}
 use Rattle.limbo_entries.specs.Entries.{Entry}
 use Rattle.limbo_typed.specs.Typed as typed
-use Rattle.limbo_small.specs.View.{view_module}
-use Rattle.limbo_part.specs.Part.{small_module}
+use Rattle.limbo_typed.specs.View.{view_module}
 use Rattle.limbo_stating.specs.Reasons.{Reason, number_of}
 use Rattle.limbo_modules.specs.First.{DeclaresInit}
 use Rattle.limbo_modules.specs.Modules.{IsModule}
@@ -28,18 +27,14 @@ abbrev pub IsSort : Told → List ℕ → Source → typed.Module → (begins : 
 IsSort told path tree checked true = IsFirst told path tree checked
 IsSort told path tree checked false = IsOther told path tree checked
 
--- What is given of the typed module that a tree is: whether it begins, and the module over int that it is, if it is in the part that runs.
+-- What is given of the typed module that a tree is: whether it begins, and the module itself.
 pub record Gives (told : Told) (path : List ℕ) (tree : Source) (c : code_checked.Checked) : Type 0 where
-  pub checked : typed.Module
-  pub sort : IsSort told path tree checked c.begins
-  pub small : option_map view_module c.small ≡ small_module checked
+  pub sort : IsSort told path tree (view_module c.module.value) c.begins
 
 -- The same, by the declarations of the tree.
 pub record GivesModule (name : List ℕ) (row : List Placed) (es : List Entry) (m : ℕ) (c : code_checked.Checked) : Type 0 where
-  pub checked : typed.Module
-  pub is : IsModule name row es m checked
-  pub begins : Begins es m checked c.begins
-  pub small : option_map view_module c.small ≡ small_module checked
+  pub is : IsModule name row es m (view_module c.module.value)
+  pub begins : Begins es m (view_module c.module.value) c.begins
 
 -- The number of a reason for which there is none, or want of memory.
 abbrev pub FailsNamed : (name : List ℕ) → List Placed → List Entry → (m : ℕ) → ModuleFault → Type 0

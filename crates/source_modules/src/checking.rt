@@ -1,6 +1,6 @@
 //! The typed module of a source.
 
-ghost use Rattle.std.specs.Prelude.{◌≡◌, ℕ, List, IfOk, IfErr, IfSome, option_map};
+ghost use Rattle.std.specs.Prelude.{◌≡◌, ℕ, List, IfOk, IfErr};
 ghost use Rattle.inf_ports.specs.Outside.{Told};
 ghost use Rattle.limbo_tree.specs.View.{view_source};
 ghost use Rattle.limbo_top.specs.View.{placed};
@@ -9,9 +9,6 @@ ghost use Rattle.limbo_constant_values.specs.Valuing.{AreValues};
 ghost use Rattle.limbo_declare.specs.Declares.{Declares};
 ghost use Rattle.limbo_typed.specs.Typed as typed;
 ghost use Rattle.limbo_typed.specs.View as typed_view;
-ghost use Rattle.limbo_small.specs.View as small_view;
-ghost use Rattle.limbo_small.specs.Proper.{IsProper};
-ghost use Rattle.limbo_part.specs.Part as part;
 ghost use Rattle.limbo_modules.specs.Modules.{IsModule};
 ghost use Rattle.limbo_modules.specs.Failing.{FailsModule};
 ghost use Rattle.source_names.specs.View.{AreRead};
@@ -23,8 +20,6 @@ use crate::fault::{ModuleFault, of_module, of_names};
 use inf_text::Text;
 use limbo_includes::Included;
 use limbo_modules::{check_module, declares_init};
-use limbo_part::small_module;
-use limbo_small::TypedModule as SmallModule;
 use limbo_tree::Source;
 use limbo_typed::TypedModule;
 use source_names::{Named, names_of};
@@ -35,29 +30,25 @@ use std::alloc::{AllocError, Global};
 pub struct Checked {
     /// Whether it declares `init` as a program's first module has to.
     pub begins: bool,
-    /// The module over int that it is, where it is in the part of the language that runs.
-    pub small: Option<SmallModule>,
+    /// The typed module itself.
+    pub module: Box<TypedModule>,
 }
 
 // What is told of a typed module.
-fn given(alloc: Global, named: &Named<'_>, checked: &TypedModule) -> Result<Checked, AllocError>
+fn given(alloc: Global, named: &Named<'_>, checked: TypedModule) -> Result<Checked, AllocError>
     ensures begins { IfOk result (λ c. Begins (entries_of named.now.declarations.table.entries.items)
-        named.now.declarations.implemented (typed_view.view_module checked.now) c.begins) }
-    ensures small { IfOk result (λ c. option_map small_view.view_module c.small
-        ≡ part.small_module (typed_view.view_module checked.now)) }
-    ensures proper { IfOk result (λ c. IfSome c.small (λ m. IsProper (small_view.view_module m))) }
+        named.now.declarations.implemented (typed_view.view_module checked) c.begins) }
+    ensures same { IfOk result (λ c. c.module.value ≡ checked) }
 {
     let declarations = &named.declarations;
+    let module = Box::new(alloc, checked)?;
     let begins = declares_init(
         alloc,
         &declarations.table,
         declarations.implemented,
-        checked,
+        &module,
     )?;
-    Ok(Checked {
-        begins,
-        small: small_module(alloc, checked)?,
-    })
+    Ok(Checked { begins, module })
 }
 
 // What is told of the typed module of a source with these names.
@@ -68,13 +59,12 @@ fn check_named(alloc: Global, named: &Named<'_>) -> Result<Checked, ModuleFault>
         named.now.declarations.values.items }
     ensures checked { IfOk result (GivesModule named.now.name.now (placed named.now.row.items)
         (entries_of named.now.declarations.table.entries.items) named.now.declarations.implemented) }
-    ensures proper { IfOk result (λ c. IfSome c.small (λ m. IsProper (small_view.view_module m))) }
     ensures fails { IfErr result (FailsNamed named.now.name.now (placed named.now.row.items)
         (entries_of named.now.declarations.table.entries.items) named.now.declarations.implemented) }
 {
     match check_module(alloc, named.name, &named.row, &named.declarations) {
         Err(fault) => Err(of_module(fault)),
-        Ok(checked) => match given(alloc, named, &checked) {
+        Ok(checked) => match given(alloc, named, checked) {
             Ok(told) => Ok(told),
             Err(_) => Err(ModuleFault::NoMemory),
         },
@@ -95,7 +85,6 @@ pub fn check_source(
 ) -> Result<Checked, ModuleFault>
     ensures checked { IfOk result (λ c. (told : Told) → AreRead told path.now source.now texts.now
         → Gives told path.now (view_source source.now) c) }
-    ensures proper { IfOk result (λ c. IfSome c.small (λ m. IsProper (small_view.view_module m))) }
     ensures fails { IfErr result (λ e. (told : Told) → AreRead told path.now source.now texts.now
         → FailsBy told path.now (view_source source.now) e) }
 {

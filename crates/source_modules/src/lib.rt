@@ -2,8 +2,8 @@
 //!
 //! `specs/Checked.antt` says which typed module a source is, with the texts that it includes: names and types hold of all of them.
 //! `specs/Failing.antt` says why it is none, under which number. `check_source` gives of a source and the texts that were read for it
-//! whether its module can be a program's first one, and the module over int that it is, where it is in the part of the language that runs.
-//! `laws` says that there is one typed module at most, and none where a refusal holds.
+//! its typed module, and whether that can be a program's first one. `laws` says that there is one typed module at most, and none where a
+//! refusal holds.
 //!
 //! Read `fault`, `checking`, `laws`.
 #![tactic(auto)]

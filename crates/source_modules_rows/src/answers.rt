@@ -10,6 +10,7 @@ use source_files::read_included;
 use source_modules::{ModuleFault, check_source};
 use std::alloc::{AllocError, Global};
 use std::mem::forget;
+use typed_part::is_part;
 
 // What is told of a source with the texts that it includes.
 fn checked(
@@ -22,13 +23,15 @@ fn checked(
         Err(ModuleFault::NoMemory) => Err(AllocError),
         Err(ModuleFault::Refused { number, .. }) => format!(in alloc; "{number}"),
         Ok(checked) => {
-            if !checked.begins {
-                format!(in alloc; "45")
-            } else if checked.small.is_none() {
-                format!(in alloc; "25")
+            let told = if !checked.begins {
+                "45"
+            } else if is_part(&checked.module) {
+                "ok"
             } else {
-                format!(in alloc; "ok")
-            }
+                "25"
+            };
+            forget(checked);
+            format!(in alloc; "{told}")
         }
     }
 }

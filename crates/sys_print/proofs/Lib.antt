@@ -1,3 +1,4 @@
 pub mod Tags
 pub mod Sizes
 pub mod Pieces
+pub mod Digits

@@ -1,7 +1,6 @@
 -- Which tags are taken, and the search for a free one.
-use Rattle.std.proofs.Common.{◌≡◌, ℕ, zero, suc, ◌+◌, ◌-◌, ◌<◌, ◌≤◌, Bool, true, false, if◌then◌else◌, List, [], ◌∷◌, length, Some, ◌⊎◌, inl, inr, refl, sym, ap, ◌∙◌, subst, arith, add-one, replicate, drop, get_or}
+use Rattle.std.proofs.Common.{◌≡◌, ℕ, zero, suc, ◌+◌, ◌-◌, ◌<◌, ◌≤◌, Bool, true, false, if◌then◌else◌, List, [], ◌∷◌, length, Some, refl, sym, ap, ◌∙◌, subst, arith, add-one, replicate, drop, get_or}
 use Rattle.std.specs.Prelude.{slice_get, slice_set, ◌==◌, ◌||◌}
-use Rattle.std.proofs.lemmas.Bool.{cases_eq}
 use Rattle.system_model.specs.World.{is_among, least_from}
 use Rattle.sys_print.specs.Marks.{AreMarks}
 

@@ -1,4 +1,5 @@
 pub mod Values
+pub mod Verbs
 pub mod World
 pub mod Prints
 pub mod Ending

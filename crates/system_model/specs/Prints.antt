@@ -1,24 +1,11 @@
 -- What `sys->print` asks of the outside, and what the replies to it come to (Inferno manual, sys-print(2), sys-read(2)).
 use Rattle.std.specs.Prelude.{ℕ, zero, suc, pos, negsuc, ◌+◌, List, [], ◌∷◌, ◌++◌, length, take, drop, encode_utf8_all, nat_lt, if◌then◌else◌}
-use Rattle.std.specs.Fmt.{signed_decimal}
 use Rattle.styx_msg.specs.Styx.{spelling, t_row}
 use Rattle.styx_msg.specs.declared.message.Tmsg.TheVariants as t
 use Rattle.styx_msg.specs.declared.message.Rmsg.{Rmsg}
 use Rattle.styx_msg.specs.declared.message.Rmsg.TheVariants as r
-use Rattle.limbo_small.specs.Typed.{Piece, Chars, Decimal}
-use Rattle.system_model.specs.Values.{Value, Num, int_of}
+use Rattle.system_model.specs.Values.{Value, int_of}
 use Rattle.system_model.specs.World.{World, free_tag, begin_wait, end_wait, wrote}
-
--- An int as a text: its decimal digits, behind a sign where it is below 0.
-abbrev pub decimal_text : Value → List ℕ
-decimal_text (Num z) = signed_decimal z
-
--- The text that a format makes of its arguments, each `%d` taking the next.
-abbrev pub text_of : List Piece → List Value → List ℕ
-text_of [] vs = []
-text_of (Chars cs ∷ ps) vs = cs ++ text_of ps vs
-text_of (Decimal ∷ ps) [] = text_of ps []
-text_of (Decimal ∷ ps) (v ∷ vs) = decimal_text v ++ text_of ps vs
 
 -- A request: the link that it goes over, and the bytes of its message.
 pub record Request : Type 0 where

@@ -3,6 +3,6 @@
 //! programs, three-address code and the machine are defined over them, so what a source does to the outside is what its machine
 //! does.
 //!
-//! `specs/` in the order of reading: `Values` (values and operators), `World` (open files, links and their tags), `Prints`
-//! (requests and replies), `Ending` (how a process ends), `Trace` (what is told), `Limits`.
+//! `specs/` in the order of reading: `Values`, `World` (open files, links and their tags), `Prints` (requests and replies), `Verbs` (how
+//! numbers are told by the verbs of a format), `Ending` (how a process ends), `Trace` (what is told), `Limits`.
 #![tactic(auto)]

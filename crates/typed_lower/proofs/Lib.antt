@@ -1,7 +1,7 @@
 mod Examples
 mod Contexts
 mod Places
-mod Follows
+pub mod Follows
 mod Operands
 mod Parts
 mod Values
@@ -18,4 +18,4 @@ mod Simulation
 mod Modules
 mod Pauses
 mod Quiet
-mod Keeps
+pub mod Keeps

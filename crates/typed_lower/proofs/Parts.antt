@@ -146,14 +146,14 @@ module _ (routines : List Routine) (functions : List Function) (codes : List Ins
   abbrev pub with_temporary : Frame → Kind → ℕ → Value → Frame
   with_temporary g k n v = record g { temporaries = put g.temporaries k n v }
 
-  pub temporary_after : (written : ℕ → Bool) (d pc : ℕ) (k : Kind) (v : Value) (g g' : Frame) → After written (suc d) pc g g'
+  pub temporary_after : (written : ℕ → Bool) (d pc : ℕ) (k : Kind) (v : Value) (g g' : Frame) → After written d pc g g'
       → After written d pc g (with_temporary g' k d v)
   temporary_after written d pc k v g g' a = record {
     place = a.place;
     function = a.function;
     instance = a.instance;
     made = a.made;
-    low = λ j n l. put_below g'.temporaries k d v j n l ∙ a.low j n (omega (arith, l));
+    low = λ j n l. put_below g'.temporaries k d v j n l ∙ a.low j n l;
     kept = a.kept;
   }
 
@@ -164,11 +164,13 @@ module _ (routines : List Routine) (functions : List Function) (codes : List Ins
       → ((w : World) → value_of w g' (In (Temporary k d)) ≡ v) → Goes g' (within (Evaluated v))) → Goes g (within t)
   kept_goes t goes k d within g c has on_it =
       goes (suc d) (Temporary k d) within g c has (λ g' a w v.
-      let g1 = with_temporary g' k d v in (
+      let g1 = with_temporary g' k d v in
+      let end = g.pc + length ((part_of t).value (suc d) (Temporary k d)) in
+      let a1 = after_weaker (Written t) (Written t) d (suc d) end g g' (λ x e. e) (omega arith) a in (
         0,
         stands.arrives 0 w g' (Temporary k d) v (within (Evaluated v)) (within (Evaluated v)) (λ n below. here)
             (stands.going g1 (within (Evaluated v))
-            (on_it g1 v (temporary_after (Written t) d _ k v g g' a) (λ w1. put_same g'.temporaries k d v))),
+            (on_it g1 v (temporary_after (Written t) d end k v g g' a1) (λ w1. put_same g'.temporaries k d v))),
       ))
 
   stays_here : (written : ℕ → Bool) (d : ℕ) (g : Frame) → After written d (g.pc + 0) g g

@@ -348,8 +348,8 @@ new_value : (o : Operation) (p : Place) (ps : List Part) (calls : Bool) → Valu
 new_value o p ps calls v d s n h =
     let k = kind_at p in
     calm_more n 1 3 _ (omega arith)
-    (calm_both n 3 1 (applied o ps (suc d) (Temporary k d)) (Move (spot_of p) (In (Temporary k d)) ∷ Hand s (In (Temporary k d)) ∷ [])
-    (v (suc d) (Temporary k d) n h) (stored_calm (spot_of p) s (In (Temporary k d))))
+    (calm_both n 3 1 (applied o ps d (Temporary k d)) (Move (spot_of p) (In (Temporary k d)) ∷ Hand s (In (Temporary k d)) ∷ [])
+    (v d (Temporary k d) n h) (stored_calm (spot_of p) s (In (Temporary k d))))
 
 old_value : (o : Operation) (p : Place) (ps : List Part) (calls : Bool) → Values calls (changed given.Old o (kind_at p) (spot_of p) ps)
 old_value o p ps calls d s n h =

@@ -256,7 +256,7 @@ module _ (routines : List Routine) (functions : List Function) (codes : List Ins
       → Context routines within → ((x : ℕ) → written x ≡ false → is_at (Local x) p ≡ false)
       → HasAt codes pc (Move (spot_of p) (In (Temporary k d)) ∷ Hand s (In (Temporary k d)) ∷ [])
       → Delivers routines functions codes s within written d (suc (suc pc)) g
-      → Becomes (λ vs v. Put p (stored_at p v) v) (Temporary k d) within written (suc d) pc g
+      → Becomes (λ vs v. Put p (stored_at p v) v) (Temporary k d) within written d pc g
   new_ending p k d pc s within written g cx few has arrives g' a w vs v =
       let g1 = with_temporary routines functions codes g' k d v in
       let a1 : After written d pc g g1 = temporary_after routines functions codes written d pc k v g g' a in
@@ -273,13 +273,13 @@ module _ (routines : List Routine) (functions : List Function) (codes : List Ins
   pub new_one_goes : (o : Operation) (p : Place) (a : Term) → V a → V (Change o given.New p (MoreTerms a NoTerms))
   new_one_goes o p a goes d s within g cx has arrives =
       let k = kind_at p in
-      let A = applied o (part_of a ∷ []) (suc d) (Temporary k d) in
+      let A = applied o (part_of a ∷ []) d (Temporary k d) in
       let B = Move (spot_of p) (In (Temporary k d)) ∷ Hand s (In (Temporary k d)) ∷ [] in
       let W = Written routines functions codes (Change o given.New p (MoreTerms a NoTerms)) in
       let few : (x : ℕ) → W x ≡ false → (is_at (Local x) p ≡ false) × ((writes (Local x) a || false) ≡ false) =
       λ x e. either_false (is_at (Local x) p) (writes (Local x) a || false) e in
       applied_one (Change o given.New p) o (λ vs v. Put p (stored_at p v) v) a (changing routines functions codes o given.New p) goes W
-      (λ x e. (either_false (writes (Local x) a) false (few x e).1).0) (suc d) (Temporary k d) within g cx
+      (λ x e. (either_false (writes (Local x) a) false (few x e).1).0) d (Temporary k d) within g cx
       (has_front codes g.pc A B has)
       (new_ending p k d (g.pc + length A) s within W g cx (λ x e. (few x e).0) (has_back codes g.pc A B has)
       (subst (λ q. Delivers routines functions codes s within W d q g) (omega (arith, length-append A B)) arrives))
@@ -288,14 +288,14 @@ module _ (routines : List Routine) (functions : List Function) (codes : List Ins
       → V (Change o given.New p (MoreTerms a (MoreTerms b NoTerms)))
   new_two_goes o p a b fresh goes_a goes_b d s within g cx has arrives =
       let k = kind_at p in
-      let A = applied o (part_of a ∷ part_of b ∷ []) (suc d) (Temporary k d) in
+      let A = applied o (part_of a ∷ part_of b ∷ []) d (Temporary k d) in
       let B = Move (spot_of p) (In (Temporary k d)) ∷ Hand s (In (Temporary k d)) ∷ [] in
       let W = Written routines functions codes (Change o given.New p (MoreTerms a (MoreTerms b NoTerms))) in
       let few : (x : ℕ) → W x ≡ false
       → (is_at (Local x) p ≡ false) × ((writes (Local x) a || (writes (Local x) b || false)) ≡ false) =
       λ x e. either_false (is_at (Local x) p) (writes (Local x) a || (writes (Local x) b || false)) e in
       applied_two (Change o given.New p) o (λ vs v. Put p (stored_at p v) v) a b (changing routines functions codes o given.New p) fresh
-      goes_a goes_b W (λ x e. two_few (writes (Local x) a) (writes (Local x) b) (few x e).1) (suc d) (Temporary k d) within g cx
+      goes_a goes_b W (λ x e. two_few (writes (Local x) a) (writes (Local x) b) (few x e).1) d (Temporary k d) within g cx
       (has_front codes g.pc A B has)
       (new_ending p k d (g.pc + length A) s within W g cx (λ x e. (few x e).0) (has_back codes g.pc A B has)
       (subst (λ q. Delivers routines functions codes s within W d q g) (omega (arith, length-append A B)) arrives))
@@ -317,7 +317,7 @@ module _ (routines : List Routine) (functions : List Function) (codes : List Ins
       let g1 = with_temporary routines functions codes (moved g (suc g.pc)) k d X in
       let a1 : After W d (suc g.pc) g g1 =
       temporary_after routines functions codes W d (suc g.pc) k X g (moved g (suc g.pc))
-      (one_more W (suc d) g.pc (suc g.pc) g g (after_itself W (suc d) g) refl) in
+      (one_more W d g.pc (suc g.pc) g g (after_itself W d g) refl) in
       let Y = value_of w g1 T in (
         0,
         stands.arrives 0 w (moved g (suc g.pc)) (Temporary k d) X (within (whole (MoreTerms (Evaluated X) NoTerms)))

@@ -129,12 +129,13 @@ abbrev pub assigned_first : Part → Spot → ℕ → Spot → List Inst
 assigned_first p to d s =
     p.value (suc d) (Temporary p.kind d) ++ Move to (In (Temporary p.kind d)) ∷ Hand s (In (Temporary p.kind d)) ∷ []
 
--- So does that of an assignment with an operator, and of `++` and `--`: the value that the place had, or the one that it has then.
+-- So does that of an assignment with an operator, and of `++` and `--`: the value that the place had, or the one that it has then. The
+-- operation reads its operands before it writes, so what it gives may stand where one of them stood.
 abbrev pub changed : Given → Operation → Kind → Spot → List Part → ℕ → Spot → List Inst
 changed given.Old o k to ps d s =
     Move (Temporary k d) (In to) ∷ Alter o to (In (Temporary k d)) ∷ Hand s (In (Temporary k d)) ∷ []
 changed given.New o k to ps d s =
-    applied o ps (suc d) (Temporary k d) ++ Move to (In (Temporary k d)) ∷ Hand s (In (Temporary k d)) ∷ []
+    applied o ps d (Temporary k d) ++ Move to (In (Temporary k d)) ∷ Hand s (In (Temporary k d)) ∷ []
 
 -- A call is made ready in front of its first argument; but where that makes a call itself, it comes before. The arguments are put where the
 -- call takes them, in their order.

@@ -21,12 +21,14 @@ use Rattle.limbo_typed.specs.declared.stmt.Constant.TheVariants as constant
 use Rattle.limbo_typed.specs.Typed.{Expr, Of, Number, Read, Apply, Lazy, Assign, Update, Step, Call, Print, NoExprs, MoreExprs, Absent}
 use Rattle.limbo_typed.specs.Typed.{At, Local, Global, ToPlace, Stmt, Stmts, NoStmts, MoreStmts, Eval, If, Do, For, Break}
 use Rattle.limbo_typed.specs.Typed.{Continue, Return, Var, Function, Module, Place}
+use Rattle.system_model.specs.Values.{Num, zero_value}
 use Rattle.system_model.specs.Prints.{Request}
 use Rattle.system_model.specs.Ending.{Ending, Ended, Broken}
 use Rattle.typed_meaning.specs.Trees.{Done}
 use Rattle.typed_meaning.specs.Program.{Routine, routines_of}
 use Rattle.typed_meaning.specs.Process.{Process, Does}
 use Rattle.typed_meaning.specs.Step.{step, answer}
+use Rattle.typed_meaning.specs.Breaks.{Applied, applied_by}
 use Rattle.typed_meaning.specs.Runs.{first_world, first_process}
 
 -- ---- shorter words for trees
@@ -212,6 +214,20 @@ lazily = made_of 0 [] (function [] Nothing 1
 breaks_at_last : Breaks 100 lazily (codes "1") (codes "zero divide")
 unfolding lazily int_wrap digits lib.Utf8.encode
 breaks_at_last = refl
+
+-- The operation that it was to do next, if any, when it broke.
+abbrev broke_at : ℕ → List Routine → Option Applied → Does → Option Applied
+broke_at zero rs a d = None
+broke_at (suc n) rs a (Went w p) = broke_at n rs (applied_by w p) (step 10000 rs w p)
+broke_at (suc n) rs a (Asks w m p) = broke_at n rs None (answer (r.Write (length (written m))) w p)
+broke_at (suc n) rs a (Ends w (Broken text)) = a
+broke_at (suc n) rs a d = None
+
+breaks_dividing :
+    broke_at 100 (routines_of lazily) None (Went (first_world lazily) (opening (slice_get (routines_of lazily) 0)))
+    ≡ Some (record { operation = operation.Arithmetic operator.Divide kind.Int; operands = Num (pos 1) ∷ zero_value ∷ [] })
+unfolding lazily int_wrap digits lib.Utf8.encode
+breaks_dividing = refl
 
 -- ---- i := 0; for (;;) { if (i == 1) break; do { i++; break; } while (1); } sys->print("%d", i);  a break leaves the loop around it, and
 -- none

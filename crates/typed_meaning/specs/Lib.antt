@@ -9,3 +9,7 @@ pub mod Step
 pub mod Rules
 pub mod Runs
 pub mod Replays
+pub mod Heights
+pub mod Requests
+pub mod Breaks
+pub mod Endings

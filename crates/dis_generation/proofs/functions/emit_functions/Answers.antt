@@ -4,7 +4,8 @@ use Rattle.slot_code.specs.View.{view_inst, view_function, view_module}
 use Rattle.dis_objects.specs.Frames.{room_of}
 use Rattle.dis_objects.specs.Code.{sizes, data_bytes}
 use Rattle.dis_objects.specs.Objects.{functions_code, function_data, functions_data}
-use Rattle.dis_objects.specs.Sites.{view_room, SmallFrame, places_from}
+use Rattle.dis_objects.specs.Words.{SmallFrame}
+use Rattle.dis_objects.specs.Sites.{view_room, places_from}
 use Rattle.dis_objects.proofs.Seen.{seen}
 use Rattle.dis_generation.proofs.Ready.{ready_stands, ready_length, ready_entry, ready_end, ready_near}
 use Rattle.dis_generation.proofs.Steps.{functions_more, functions_data_more}

@@ -28,7 +28,7 @@ returns-in-Ok-object_of-clause-read g c =
     let gives = subst (λ (z : Told). Gives z path tree c.in-Ok.checked) c.read_first.ensures.kept c.in-Ok.ensures.checked in
     let made = c.in-Ok-object_of.ensures.found told path tree gives in
     let built : IsBuilt told path at.source made.program =
-    record { tree = tree; has = at.has; checked = made.checked; first = made.first; is = made.is } in
+    record { tree = tree; has = at.has; first = made.first; is = made.is } in
     (made.program, record { source = at.source; stands = at.stands; built = built }, made.compiled)
 
 pub returns-clause-unread : goal.returns-clause-unread

@@ -123,8 +123,8 @@ emit_value-returns-in_ok-put_kept-in-Store t c =
 pub emit_value-returns-in_ok-put_kept-in-Update : goal.emit_value-returns-in_ok-put_kept-in-Update
 emit_value-returns-in_ok-put_kept-in-Update t c =
     let same = update_code c.in-Update.operation (view_variable c.in-Update.variable) (view_term c.term_of-in-Update.result) _
-    (view_term c.args.term) c.kind-kind.result (c.args.d + 1) c.args.d (view_spot c.spot-in-Update.result) (view_spot c.args.into) _
-    (written c.args.code.now.items) c.term_of-in-Update.ensures (ap view_term c.in-Update.is) c.kind-kind.ensures (add-one c.args.d)
+    (view_term c.args.term) c.kind-kind.result c.args.d (view_spot c.spot-in-Update.result) (view_spot c.args.into) _
+    (written c.args.code.now.items) c.term_of-in-Update.ensures (ap view_term c.in-Update.is) c.kind-kind.ensures
     c.spot-in-Update.ensures (c.in_ok-put_kept-in-Update.ensures {u = tt}) in
     rw (← same) c.emit_operated.ensures
 

@@ -1,4 +1,4 @@
-use Rattle.std.proofs.Common.{◌≡◌, ◌+◌, drop, get_or, sym, subst, arith}
+use Rattle.std.proofs.Common.{◌+◌, drop, get_or, sym, subst, arith}
 use Rattle.sys_print.proofs.Tags.{Marking, marks_one, all_marked, next_tag, no_more}
 use Rattle.sys_print.proofs.outside.marks_of.Goals as goal
 

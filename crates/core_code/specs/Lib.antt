@@ -1,6 +1,0 @@
-pub mod Code
-pub mod View
-pub mod Machine
-pub mod Step
-pub mod Rules
-pub mod Proper

@@ -1,0 +1,6 @@
+//! The object of three-address code follows it.
+#![tactic(auto)]
+
+mod laws;
+
+pub use laws::object_follows;

@@ -1,4 +1,0 @@
-pub mod Seen
-pub mod Words
-pub mod Maps
-pub mod Spelled

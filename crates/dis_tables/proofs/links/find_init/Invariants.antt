@@ -1,8 +1,0 @@
-use Rattle.std.proofs.Common.{◌≡◌, drop, map, codes}
-use Rattle.core_code.specs.View.{view_function}
-use Rattle.dis_tables.specs.Objects.{find}
-use Rattle.dis_tables.proofs.links.find_init.Given as goal
-
--- It is found among those that are left.
-abbrev pub invariant-loop-number : goal.invariant-loop-number
-invariant-loop-number l = find l.number (codes "init") (map view_function (drop l.number l.functions)) ≡ find 0 (codes "init") (map view_function l.functions)

@@ -1,4 +1,0 @@
-pub mod Sizes
-pub mod Code
-pub mod Stands
-pub mod Keeps

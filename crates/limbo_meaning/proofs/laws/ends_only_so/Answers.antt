@@ -1,5 +1,0 @@
-use Rattle.limbo_meaning.proofs.Breaks.{ends_only_so}
-use Rattle.limbo_meaning.proofs.laws.ends_only_so.Goals as goal
-
-pub returns : goal.returns
-returns c = ends_only_so

@@ -1,5 +1,0 @@
-use Rattle.limbo_meaning.proofs.Frames.{heights}
-use Rattle.limbo_meaning.proofs.laws.heights.Goals as goal
-
-pub returns : goal.returns
-returns c = heights

@@ -1,5 +1,0 @@
-use Rattle.limbo_meaning.proofs.Frames.{never_higher}
-use Rattle.limbo_meaning.proofs.laws.never_higher.Goals as goal
-
-pub returns : goal.returns
-returns c = never_higher

@@ -1,5 +1,0 @@
-use Rattle.limbo_meaning.proofs.Replays.{replays_are_runs}
-use Rattle.limbo_meaning.proofs.laws.replays_are_runs.Goals as goal
-
-pub returns : goal.returns
-returns c = replays_are_runs

@@ -1,0 +1,5 @@
+pub mod Results
+pub mod Alike
+pub mod Sound
+pub mod Operands
+pub mod Going
