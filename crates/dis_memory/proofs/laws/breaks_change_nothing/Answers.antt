@@ -1,0 +1,5 @@
+use Rattle.dis_memory.proofs.Fair as proved
+use Rattle.dis_memory.proofs.laws.breaks_change_nothing.Goals as goal
+
+pub returns : goal.returns
+returns c = proved.breaks_change_nothing
