@@ -50,7 +50,7 @@ all_least (v ∷ vs) (w ∷ ws) from =
 -- ---- the frames
 
 -- Which of two is the larger.
-at_most : (a b : ℕ) → (a ≤ b) ⊎ (b < a)
+pub at_most : (a b : ℕ) → (a ≤ b) ⊎ (b < a)
 at_most zero b = inl (omega arith)
 at_most (suc a) zero = inr (omega arith)
 at_most (suc a) (suc b) = go (at_most a b)

@@ -1,5 +1,5 @@
 -- The command that the words ask for, as it is carried out.
-use Rattle.std.specs.Prelude.{ℕ, Bool, false, if◌then◌else◌, List, Option, None, Some}
+use Rattle.std.specs.Prelude.{ℕ, Bool, true, false, if◌then◌else◌, List, Option, None, Some}
 use Rattle.inf_text.specs.Options.{◌>>=◌}
 use Rattle.inferno_words.specs.Commands.{command_in}
 use Rattle.inferno_words.specs.declared.command.Command.{Command}
@@ -40,3 +40,14 @@ run_stats _ = false
 abbrev pub listed_file : Option Command → Option (List ℕ)
 listed_file (Some (Dump file)) = Some file
 listed_file _ = None
+
+-- the file that is to be compiled, and the one that its object is to be written to, where it's `limbo`
+abbrev pub object_files : Option Command → Option (List ℕ × List ℕ)
+object_files (Some (Limbo file out)) = Some (file, out)
+object_files _ = None
+
+-- whether nothing is to be listed or written: it's `go`, or no command
+abbrev pub is_go_or_none : Option Command → Bool
+is_go_or_none (Some (Limbo file out)) = false
+is_go_or_none (Some (Dump file)) = false
+is_go_or_none _ = true

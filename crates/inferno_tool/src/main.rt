@@ -1,35 +1,20 @@
 //! The command `inferno`: it compiles Limbo to Dis objects and runs them, and lists objects.
 //!
-//! One public call, `inferno` in `top`, does all that the program does, over words, a tree of files and two sinks; its
-//! contract cites `specs/Running.antt` (what a run is, and what it means), `specs/Outcome.antt` (where each cause comes),
-//! `specs/Dumping.antt` (what a dump leaves), `specs/Closing.antt` (the status and the closing lines), `specs/Built.antt` (which
-//! programs are built) and `specs/Faults.antt` (why a source is refused). What the words ask for is said in `inferno_command`, and what
-//! a run took in `inferno_stats`. `main` hands it the real files and streams.
+//! `main` hands the real files and streams to the one public call that does all of it, `inferno` of `inferno_top`.
 #![tactic(auto)]
 
 ghost use Rattle.std.specs.Prelude.{◌≡◌, ◌≢◌, ◌⊎◌, ◌↔◌, IfOk, IfErr, IsOkAnd, IsErrAnd, IsErrOf, map, drop, string_bytes, encode_utf8_all};
 ghost use Rattle.std.specs.IoError.{error_kind};
 ghost use Rattle.std.specs.Vec.Iter.{into_iter_items};
 
-mod cause;
-mod closing;
-mod dumping;
-mod reading;
-mod running;
-#[cfg(test)]
-mod tests;
-mod top;
-
-use cause::Cause;
-use closing::close;
 use inf_ports::{StdSink, StdTree};
 use inf_text::Text;
+use inferno_top::{Cause, close, inferno};
 use std::alloc::{AllocError, Global};
 use std::env::Args;
 use std::io::ErrorKind;
 use std::process::ExitCode;
 use std::{env, io};
-use top::inferno;
 
 /// Why the runtime gave no words: want of memory, or a word that isn't UTF-8, so no text.
 fn refusal(error: &io::Error) -> Cause

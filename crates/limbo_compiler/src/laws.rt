@@ -1,5 +1,6 @@
-//! What holds of the runs of every object that the compiler makes.
+//! What holds of every object that the compiler makes, and of its runs.
 
+ghost use Rattle.limbo_compiler.specs.Limits.{ObjectsValid};
 ghost use Rattle.limbo_compiler.specs.Means.{JournalsMean, NoneFault};
 
 /// Wherever a machine's journal leads, there is a run of the module of which the same was told.
@@ -10,4 +11,9 @@ pub fn journals_mean()
 /// No journal of a machine of a module's object tells of a wrong instruction.
 pub fn none_fault()
     ensures { NoneFault }
+{}
+
+/// The object of a module that isn't too large is a valid object file: some bytes spell it.
+pub fn objects_valid()
+    ensures { ObjectsValid }
 {}

@@ -1,6 +1,7 @@
 //! The compiler from checked modules of Limbo to objects, both its passes, and what a run of its objects means.
 //!
-//! `compile` makes the object of a module, or says which limit the module passes (`specs/Limits`). `specs/Means` says what a run owes
+//! `compile` makes the object of a module, or says which limit the module passes (`specs/Limits`); by the law `objects_valid` the object is
+//! a valid object file. `specs/Means` says what a run owes
 //! to the module's meaning, whatever its quanta and replies were and wherever it ended: there is a run of the module of which the same
 //! was told, at the pace. The law `journals_mean` has it for each journal of a machine, the object's replay being machine_core's; by
 //! the law `none_fault` no such journal tells of a wrong instruction.
@@ -9,5 +10,5 @@
 mod laws;
 mod passes;
 
-pub use laws::{journals_mean, none_fault};
+pub use laws::{journals_mean, none_fault, objects_valid};
 pub use passes::{CompileFault, compile};

@@ -2,6 +2,7 @@ ghost use Rattle.std.specs.Prelude.{◌≡◌, true, IfOk};
 ghost use Rattle.limbo_typed.specs.View.{view_module};
 ghost use Rattle.typed_lower.specs.Sizes.{FrameTooLarge};
 ghost use Rattle.typed_part.specs.Part.{is_part};
+ghost use Rattle.dis_format.specs.Objects.{IsValid};
 ghost use Rattle.dis_meaning.specs.Opening.{StringsSpell};
 ghost use Rattle.code_sim.specs.Keeps.{object_for};
 ghost use Rattle.limbo_compiler.specs.Limits.{CodeTooLarge, IsWithin};
@@ -23,7 +24,7 @@ pub enum CompileFault {
     CodeTooLarge,
 }
 
-/// The object of a checked module that is in the part of the language that runs.
+/// The object of a checked module that is in the part of the language that the compiler takes. Some bytes spell it.
 ///
 /// # Errors
 /// `FrameTooLarge` exactly where a frame is; else `CodeTooLarge` exactly where the code is; `NoMemory`.
@@ -31,6 +32,7 @@ pub fn compile(alloc: Global, module: &TypedModule) -> Result<Object, CompileFau
     requires part { is_part (view_module «module».now) ≡ true }
     ensures object { IfOk result (λ o. o ≡ object_for (view_module «module».now)) }
     ensures spelled { IfOk result StringsSpell }
+    ensures valid { IfOk result IsValid }
     ensures within { IfOk result (λ _. IsWithin (view_module «module».now)) }
     ensures frames { result ≡ Err CompileFault.FrameTooLarge → FrameTooLarge (view_module «module».now) }
     ensures code { result ≡ Err CompileFault.CodeTooLarge

@@ -7,3 +7,4 @@ pub mod Steps
 pub mod Apart
 pub mod Alone
 pub mod Examples
+pub mod Either

@@ -1,5 +1,5 @@
 -- What holds of texts, signatures and clashes.
-use Rattle.std.specs.Prelude.{◌≡◌, ◌≢◌, ℕ, true, List}
+use Rattle.std.specs.Prelude.{◌≡◌, ◌≢◌, ◌⊎◌, ℕ, true, List}
 use Rattle.limbo_types.specs.Types.{FnTy}
 use Rattle.limbo_types.specs.View.{tys_of}
 use Rattle.limbo_types.specs.Same.{same, all_same}
@@ -7,7 +7,7 @@ use Rattle.limbo_layout.specs.Adts.{Def}
 use Rattle.link_sign.specs.TypeText.{IsText}
 use Rattle.link_sign.specs.Computed.{text_of}
 use Rattle.link_sign.specs.Signature.{fold, IsSignature}
-use Rattle.link_sign.specs.Clashes.{IsFirstClash}
+use Rattle.link_sign.specs.Clashes.{AreApart, IsFirstClash}
 use Rattle.link_sign.specs.declared.builtin.TheConstants.{PRINT, FPRINT, SPRINT}
 
 -- A function's type has one text at most.
@@ -42,3 +42,11 @@ NoneIsPrint =
 abbrev pub OneClash : Type 0
 OneClash =
     (texts : List (List ℕ)) (f g s t : List ℕ) → IsFirstClash texts f s → IsFirstClash texts g t → (f ≡ g) × (s ≡ t)
+
+-- Texts clash or are apart, and never both.
+abbrev pub ClashOrApart : Type 0
+ClashOrApart =
+    (texts : List (List ℕ)) → ((first : List ℕ) × (second : List ℕ) × IsFirstClash texts first second) ⊎ AreApart texts
+
+abbrev pub NotBoth : Type 0
+NotBoth = (texts : List (List ℕ)) (first second : List ℕ) → IsFirstClash texts first second → AreApart texts → ⊥

@@ -1,6 +1,6 @@
 //! What holds of texts, signatures and clashes.
 
-ghost use Rattle.link_sign.specs.Laws.{OneText, EachHasText, SameTypesOneText, OneSignature, NoneIsPrint, OneClash};
+ghost use Rattle.link_sign.specs.Laws.{OneText, EachHasText, SameTypesOneText, OneSignature, NoneIsPrint, OneClash, ClashOrApart, NotBoth};
 
 /// A function's type has one text at most.
 pub fn one_text()
@@ -30,4 +30,10 @@ pub fn none_is_print()
 /// Texts that clash have one first clash.
 pub fn one_clash()
     ensures { OneClash }
+{}
+
+/// Texts clash or are told apart, and never both.
+pub fn clash_or_apart()
+    ensures either { ClashOrApart }
+    ensures not_both { NotBoth }
 {}

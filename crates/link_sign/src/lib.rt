@@ -5,7 +5,7 @@
 //! where an adt is written out where it is met for the first time and is a number behind that. The signature of a function is its
 //! text's MD5 digest, folded to 32 bits (`specs/Signature.antt`). `clash` looks whether signatures tell the functions of some
 //! modules apart (`specs/Clashes.antt`). `specs/Computed.antt` has the text as a function that computes, and `laws` what holds: a
-//! function has one text, `equal` types have the same text, and no function has the text of a built-in print. The code keeps what
+//! function has one text, `equal` types have the same text, no function has the text of a built-in print, and texts clash or are apart. The code keeps what
 //! is still to be written in a list, so no chain of adts is too long for it. The linker and the code generator will stand on it.
 //!
 //! Read `text`, `signing`, `clashing`, `laws`; `draft`, `spread` and `opened` are how a text is written.
@@ -25,7 +25,8 @@ pub use builtin::{FPRINT, PRINT, SPRINT};
 pub use clashing::clash;
 pub use found::Clash;
 pub use laws::{
-    each_has_text, equal_types_one_text, none_is_print, one_clash, one_signature, one_text,
+    clash_or_apart, each_has_text, equal_types_one_text, none_is_print, one_clash, one_signature,
+    one_text,
 };
 pub use signing::{fold_text, sign};
 pub use text::sign_text;

@@ -1,9 +1,12 @@
 -- How many temporaries and bytes of arguments the code of expressions of the part needs.
-use Rattle.std.proofs.Common.{◌≡◌, ℕ, zero, suc, ◌+◌, ◌-◌, ◌*◌, ◌≤◌, Bool, true, ◌&&◌, List, [], ◌∷◌, ◌++◌, length, Option, Some, None}
+use Rattle.std.proofs.Common.{◌≡◌, ℕ, zero, suc, ◌+◌, ◌-◌, ◌*◌, ◌≤◌, Bool, true, false, ◌&&◌, List, [], ◌∷◌, ◌++◌, length, Option, Some, None}
 use Rattle.std.proofs.Common.{refl, sym, ap, ◌∙◌, subst, arith}
-use Rattle.std.specs.Prelude.{slice_get, take}
+use Rattle.std.specs.Prelude.{slice_get, take, nat_eq, if◌then◌else◌}
 use Rattle.std.proofs.lemmas.Bool.{false≢true}
 use Rattle.std.proofs.lemmas.Option.{none-some, same_Some}
+use Rattle.std.proofs.lemmas.Bool.{leb-true}
+use Rattle.std.proofs.lemmas.List.{length-append}
+use Rattle.limbo_values.specs.Texts.{longest}
 use Rattle.limbo_types.specs.Types.{Ty, Byte}
 use Rattle.limbo_values.specs.declared.number.Kind.{Kind}
 use Rattle.limbo_values.specs.declared.number.Kind.TheVariants as kind
@@ -14,6 +17,9 @@ use Rattle.limbo_typed.specs.declared.operation.Given.TheVariants as given
 use Rattle.limbo_typed.specs.declared.print.Printed.{Printed}
 use Rattle.limbo_typed.specs.declared.print.Printed.TheVariants as printed
 use Rattle.limbo_typed.specs.declared.print.Piece.{Piece as Written}
+use Rattle.limbo_typed.specs.declared.print.Piece.TheVariants as piece
+use Rattle.limbo_typed.specs.declared.print.Hole.{Hole}
+use Rattle.limbo_typed.specs.declared.print.Hole.TheVariants as hole
 use Rattle.limbo_typed.specs.Typed as typed
 use Rattle.limbo_typed.specs.Typed.{Of, At}
 use Rattle.limbo_typed.specs.Sound.{types_of, type_at}
@@ -24,6 +30,7 @@ use Rattle.typed_meaning.specs.Trees.{Term, Terms, Literal, Read, Apply, Lazy, S
 use Rattle.typed_meaning.specs.Program.{term_of, terms_of, node_of, at_place, place_to, printing, as_printed, printed_of}
 use Rattle.slot_code.specs.Code as code
 use Rattle.slot_code.specs.Code.{Spot, Temporary, Operand, In, Inst, Begin, Format, Function, Module}
+use Rattle.dis_objects.specs.Code.{doubled, hole_text, format_text}
 use Rattle.dis_objects.specs.Frames as frames
 use Rattle.dis_objects.specs.Frames.{Callee, Calls, Prints, parameters, parameters_of, printed_kinds, argument_bytes, all_bytes, spot_count}
 use Rattle.typed_lower.specs.Kinds.{spot_at, leaf, kind_in, kind_given}
@@ -72,6 +79,42 @@ taken_most (suc n) (k ∷ ks) = let h = taken_most n ks in omega (arith, h)
 pub fixed_place : (t : Ty) (n : tree.PlaceNode) (k : Kind) → spot_count k (spot_at t n) ≤ 0
 fixed_place t (tree.Local x) k = omega arith
 fixed_place t (tree.Global x) k = omega arith
+
+-- ---- texts of formats
+
+-- A character, written once or twice, and the others.
+one_long : (b : Bool) (c n : ℕ) (ds : List ℕ) → length ds ≡ n → length (if b then 37 ∷ 37 ∷ ds else c ∷ ds) ≡ (if b then 2 else 1) + n
+one_long true c n ds e = omega (arith, e)
+one_long false c n ds e = omega (arith, e)
+
+doubled_long : (cs : List ℕ) → length (doubled cs) ≡ test.written_size cs
+doubled_long [] = refl
+doubled_long (c ∷ cs) = one_long (nat_eq c 37) c (test.written_size cs) (doubled cs) (doubled_long cs)
+
+hole_long : (h : Hole) → length (hole_text h) ≡ test.hole_size h
+hole_long (hole.Decimal kind.Big) = refl
+hole_long (hole.Decimal kind.Int) = refl
+hole_long (hole.Decimal kind.Byte) = refl
+hole_long hole.Character = refl
+hole_long hole.Hexadecimal = refl
+hole_long hole.Chars = refl
+hole_long hole.Error = refl
+
+format_long : (ps : List Written) → length (format_text ps) ≡ test.format_size ps
+format_long [] = refl
+format_long (piece.Chars cs ∷ ps) =
+    let r = format_long ps in
+    let d = doubled_long cs in
+    let a = length-append (doubled cs) (format_text ps) in
+    omega (arith, r, d, a)
+format_long (piece.Hole h ∷ ps) =
+    let r = format_long ps in
+    let d = hole_long h in
+    let a = length-append (hole_text h) (format_text ps) in
+    omega (arith, r, d, a)
+
+format_few : (ps : List Written) → test.is_format ps ≡ true → length (format_text ps) ≤ longest
+format_few ps h = let l = format_long ps in let m = leb-true (test.format_size ps) longest h in omega (arith, l, m)
 
 module _ (fs : List Function) where
   fits_as : (w v : ℕ) (p : Part) → w ≡ v → Fits fs w p → Fits fs v p
@@ -255,9 +298,9 @@ module _ (m : Module) (f : Function) (i : Inside) (know : Knows m f i) where
 
   print_part : (w : Printed) (file : typed.Optional) (ps : List Written) (es : typed.Exprs)
       → (test.is_print w && test.is_absent file) ≡ true
-      → test.are_printed ps (types_of es) ≡ true → test.are_exprs i es ≡ true → AllFits m.functions es
+      → test.are_printed ps (types_of es) ≡ true → test.are_exprs i es ≡ true → test.is_format ps ≡ true → AllFits m.functions es
       → FitsTerm m.functions (suc (suc (suc (exprs_places es)))) (printing w file ps (printed_of es))
-  print_part printed.Print typed.Absent ps es h r x a =
+  print_part printed.Print typed.Absent ps es h r x good a =
       let fs = m.functions in
       let ts = printed_of es in
       let n = count ts in
@@ -272,9 +315,9 @@ module _ (m : Module) (f : Function) (i : Inside) (know : Knows m f i) where
       (λ y q. absurd (none-some y q))
       (print_fits fs ps n w b (parts_of ts) (printed_below fs es a b (omega (arith, many, e))) (omega (arith, many, e))
       (omega (arith, many, e))
-      (print_bytes fs ps n l)))
-  print_part printed.Print (typed.Present e) ps es h r x a = absurd (false≢true h)
-  print_part _ file ps es h r x a = absurd (false≢true h)
+      (print_bytes fs ps n l) (format_few ps good)))
+  print_part printed.Print (typed.Present e) ps es h r x good a = absurd (false≢true h)
+  print_part _ file ps es h r x good a = absurd (false≢true h)
 
   assign_fits : (p : typed.Pattern) (u t : Ty) (a : Term) (w : ℕ) → test.assigns i p u t ≡ true → Fits m.functions w (part_of a)
       → FitsTerm m.functions (suc (suc w)) (at_place (place_to p) (λ q. Store q a))
@@ -311,7 +354,8 @@ module _ (m : Module) (f : Function) (i : Inside) (know : Knows m f i) where
     node_fits t (typed.Call g es) h = call_part m.functions g t es (exprs_fit es (left _ _ h)) (call_known g t es (right _ _ h))
     node_fits t (typed.Print v x file ps es) h =
         let a = right _ _ (left _ _ (left _ _ h)) in
-        print_part v file ps es (left _ _ (left _ _ (left _ _ (left _ _ h)))) (right _ _ (left _ _ h)) a (exprs_fit es a)
+        print_part v file ps es (left _ _ (left _ _ (left _ _ (left _ _ h)))) (right _ _ (left _ _ h)) a (right _ _ (right _ _ h))
+        (exprs_fit es a)
     node_fits t _ h = absurd (false≢true h)
 
     exprs_fit : (es : typed.Exprs) → test.are_exprs i es ≡ true → AllFits m.functions es

@@ -1,6 +1,7 @@
 -- Operations, conditions, connectives and assignments.
 use Rattle.std.proofs.Common.{◌≡◌, ℕ, suc, pos, ◌+◌, Bool, true, false, List, [], ◌∷◌, ◌++◌, length, Option, Some, None, refl, sym, ◌∙◌}
 use Rattle.std.proofs.Common.{subst, arith}
+use Rattle.std.proofs.lemmas.Bool.{false≢true}
 use Rattle.std.proofs.lemmas.Option.{none-some}
 use Rattle.limbo_values.specs.declared.number.Kind.{Kind}
 use Rattle.limbo_values.specs.declared.number.Kind.TheVariants as kind
@@ -13,15 +14,24 @@ use Rattle.typed_meaning.specs.Trees.{Term}
 use Rattle.slot_code.specs.Code.{Spot, Temporary, Operand, In, Number, Inst, Move, Hand, Alter, Operate, Skip, Function, Module}
 use Rattle.dis_objects.specs.Frames.{Callee}
 use Rattle.dis_objects.specs.Code.{spot_kind, operand_kind, right_kind}
-use Rattle.dis_objects.specs.Proper.{IsRead, IsWritten, IsOfOne, IsOfTwo}
+use Rattle.dis_objects.specs.Proper.{IsRead, IsWritten, IsOfOne, IsOfTwo, IsOwn}
 use Rattle.typed_lower.specs.Kinds.{kind_in, kind_given, leaf}
-use Rattle.typed_lower.specs.Terms.{Part, ready, ready_before, ready_of, kept, takes_long, seen_by}
+use Rattle.typed_lower.specs.declared.taking.Taking.TheVariants.{Own, Short}
+use Rattle.typed_lower.specs.Terms.{Part, ready, ready_before, ready_of, kept, takes_long, left_taking, right_taking, seen_by}
 use Rattle.typed_lower.specs.Terms.{branch, tested, compared, connected, truth_of, applied, assigned_first, changed, from_leaf, part, plain}
 use Rattle.part_code.proofs.Level.{No, Piece, Plain, both, both_plain, none, single, at_front, goes_behind, goes_at}
 use Rattle.part_code.proofs.Alike.{zero_in, one_in, given_same}
-use Rattle.part_code.proofs.Operands.{reads_own, own_taken, own_before, written, taken_as, move, hand, then_one, Passing, ProperValue}
+use Rattle.part_code.proofs.Operands.{reads_own, left_own, own_taken, own_before, written, taken_as, move, hand, then_one, Passing, ProperValue}
 use Rattle.part_code.proofs.Operands.{ProperBranches, ProperLeaf, ProperPart, seen, ProperReady, is_kept, is_ready, part_ready, is_before}
 use Rattle.part_code.proofs.Operands.{of_one, of_two, branching, testing}
+
+-- The right operand of one that takes long, which is a comparison.
+right_reads : (o : Operation) → IsOfTwo o → (q : Part) (d : ℕ) → takes_long o ≡ true
+    → IsOwn (ready (suc d) (seen_by (right_taking o) q)).operand
+right_reads (operation.Compare x k) i q d e = own_taken Short q.leaf (suc d) q.kind q.value tt
+right_reads (operation.Arithmetic x k) i q d e = absurd (false≢true e)
+right_reads (operation.Shift x k) i q d e = absurd (false≢true e)
+right_reads o i q d e = absurd i
 
 module _ (m : Module) (f : Function) where
   -- ---- operations
@@ -29,9 +39,9 @@ module _ (m : Module) (f : Function) where
   pub one_applied : (o : Operation) (p : Part) → IsOfOne o → ProperPart m f (operand_kind o) p
       → ProperValue m f (kind_given o) (applied o (p ∷ []))
   one_applied o p i h cs d s w e =
-      let q = seen_by o p in
+      let q = seen_by (left_taking o) p in
       let x = ready d q in
-      let r : ProperReady m f (operand_kind o) x = part_ready m f d (operand_kind o) q (seen m f o (operand_kind o) p h) in
+      let r : ProperReady m f (operand_kind o) x = part_ready m f d (operand_kind o) q (seen m f (left_taking o) (operand_kind o) p h) in
       of_one m f No cs cs (operand_kind o) x (λ y. Alter o s y) r
       (single m f No cs (Alter o s x.operand)
       (λ pc g a. (
@@ -39,20 +49,20 @@ module _ (m : Module) (f : Function) where
         w,
         e ∙ given_same o,
         r.taken,
-        reads_own o x.operand (λ b. own_taken (takes_long o) p.leaf d p.kind p.value b),
+        reads_own o x.operand (λ b. own_taken (left_taking o) p.leaf d p.kind p.value (left_own o b)),
         g,
       )))
 
   pub two_applied : (o : Operation) (p q : Part) → IsOfTwo o → ProperPart m f (operand_kind o) p → ProperPart m f (right_kind o) q
       → ProperValue m f (kind_given o) (applied o (p ∷ q ∷ []))
   two_applied o p q i h g cs d s w e =
-      let a = seen_by o p in
-      let b = seen_by o q in
+      let a = seen_by (left_taking o) p in
+      let b = seen_by (right_taking o) q in
       let x = ready_before d a b in
       let y = ready (suc d) b in
-      let sa = seen m f o (operand_kind o) p h in
+      let sa = seen m f (left_taking o) (operand_kind o) p h in
       let rx : ProperReady m f (operand_kind o) x = is_before m f d (operand_kind o) a a.leaf b.changes sa sa.leaf in
-      let ry : ProperReady m f (right_kind o) y = part_ready m f (suc d) (right_kind o) b (seen m f o (right_kind o) q g) in
+      let ry : ProperReady m f (right_kind o) y = part_ready m f (suc d) (right_kind o) b (seen m f (right_taking o) (right_kind o) q g) in
       of_two m f No cs cs (operand_kind o) (right_kind o) x y (λ u v. Operate o s u v) rx ry
       (single m f No cs (Operate o s x.operand y.operand)
       (λ pc n k. (
@@ -61,8 +71,8 @@ module _ (m : Module) (f : Function) where
         e ∙ given_same o,
         rx.taken,
         ry.taken,
-        reads_own o x.operand (λ t. own_before (takes_long o) p.leaf d a b.changes t),
-        reads_own o y.operand (λ t. own_taken (takes_long o) q.leaf (suc d) q.kind q.value t),
+        reads_own o x.operand (λ t. own_before (left_taking o) p.leaf d a b.changes (left_own o t)),
+        reads_own o y.operand (λ t. right_reads o i q d t),
         n,
       )))
 
@@ -81,10 +91,13 @@ module _ (m : Module) (f : Function) where
   pub two_compared : (o : Operation) (p q : Part) (k : Kind) (value : ℕ → Spot → List Inst) → ProperPart m f (operand_kind o) p
       → ProperPart m f (right_kind o) q → ProperValue m f k value → ProperBranches m f (compared o (p ∷ q ∷ []) k value)
   two_compared (operation.Compare x j) p q k value a b h = λ cs w d n.
-      let u = ready_before d p q in
-      let v = ready (suc d) q in
-      let ru : ProperReady m f j u = is_before m f d j p p.leaf q.changes a a.leaf in
-      let rv : ProperReady m f j v = part_ready m f (suc d) j q b in
+      let e = seen_by Own p in
+      let g = seen_by Short q in
+      let ea = seen m f Own j p a in
+      let u = ready_before d e g in
+      let v = ready (suc d) g in
+      let ru : ProperReady m f j u = is_before m f d j e e.leaf g.changes ea ea.leaf in
+      let rv : ProperReady m f j v = part_ready m f (suc d) j g (seen m f Short j q b) in
       of_two m f (Passing m f cs n) cs cs j j u v (λ y z. branch w j x y z n) ru rv
       (branching m f cs w j x u.operand v.operand n ru.taken rv.taken)
   two_compared _ p q k value a b h = kept_tested k value h

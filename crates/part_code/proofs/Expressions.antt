@@ -361,7 +361,7 @@ module _ (m : Module) (f : Function) where
         (λ n z. term_as (kind_of u) (kind_of t) _ y (step_term o g u n z (of_one o u u (right _ _ (left _ _ h)))))
     node_proper i w t (typed.Call g es) h = call_term i g es t w (right _ _ h) (exprs_proper i w es (left _ _ h))
     node_proper i w t (typed.Print v x file ps es) h =
-        let k : kind_of t ≡ kind.Int = (has_kind kind.Int t (right _ _ h)).kind in
+        let k : kind_of t ≡ kind.Int = (has_kind kind.Int t (left _ _ (right _ _ h))).kind in
         term_as kind.Int (kind_of t) (printing v file ps (printed_of es)) (sym k)
         (print_term v file ps (printed_of es) (left _ _ (left _ _ (left _ _ (left _ _ h))))
         (all_tell ps (types_of es) (right _ _ (left _ _ h)))

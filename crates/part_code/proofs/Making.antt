@@ -10,6 +10,8 @@ use Rattle.slot_code.specs.Code.{Spot, Temporary, Argument, In, Inst, Hand, Begi
 use Rattle.slot_code.specs.Layout.{end_of}
 use Rattle.dis_objects.specs.Frames.{Callee, Calls, Prints, printed_kinds, parameters, argument_bytes, all_bytes, spot_count}
 use Rattle.typed_lower.specs.Terms.{Part, first_put, all_put, made_ready, answered}
+use Rattle.limbo_values.specs.Texts.{longest}
+use Rattle.dis_objects.specs.Code.{format_text}
 use Rattle.part_code.proofs.Held.{Held, held_both, held_none, held_one}
 use Rattle.part_code.proofs.Fitting.{Fits, FitsValue, handed, temporary_count}
 
@@ -89,15 +91,15 @@ module _ (fs : List Function) where
       let here : all_bytes fs cs ≤ L = omega (arith, a) in
       let there : all_bytes fs (Calls g ∷ cs) ≤ L = omega (arith, in_all, s) in
       held_both fs T L cs (Calls g ∷ cs) cs (made_ready (Begin g) ps d) (code.Call k g n z ∷ [])
-      (made_held T L cs (Calls g) (Begin g) d b ps (held_one fs T L cs (Begin g) (λ j. omega arith) here there) h
+      (made_held T L cs (Calls g) (Begin g) d b ps (held_one fs T L cs (Begin g) tt (λ j. omega arith) here there) h
       (λ q. omega (arith, l, e, s, y, q)) s
       in_all)
-      (held_one fs T L (Calls g ∷ cs) (code.Call k g n z) t there here)
+      (held_one fs T L (Calls g ∷ cs) (code.Call k g n z) tt t there here)
 
   pub print_fits : (pieces : List Written) (n w b : ℕ) (ps : List Part) → AllBelow b ps → 1 ≤ b → b + n ≤ suc (suc w)
-      → argument_bytes fs (Prints pieces) ≤ 8 * n + 4
+      → argument_bytes fs (Prints pieces) ≤ 8 * n + 4 → length (format_text pieces) ≤ longest
       → FitsValue fs (suc (suc (suc w))) (λ d s. made_ready (Format pieces) ps d ++ answered n d s)
-  print_fits pieces n w b ps h s e m cs d z T L l t a =
+  print_fits pieces n w b ps h s e m good cs d z T L l t a =
       let in_all : all_bytes fs (Prints pieces ∷ cs) + 8 * b ≤ L + 8 = omega (arith, a, e, m) in
       let here : all_bytes fs cs ≤ L = omega (arith, a) in
       let there : all_bytes fs (Prints pieces ∷ cs) ≤ L = omega (arith, in_all, s) in
@@ -105,7 +107,7 @@ module _ (fs : List Function) where
       let j = Hand z (In (Temporary kind.Int d)) in
       let q : (k : Kind) → spot_count k (Temporary kind.Int d) ≤ T = λ k. temporary_count k kind.Int d T (omega (arith, l)) in
       held_both fs T L cs (Prints pieces ∷ cs) cs (made_ready (Format pieces) ps d) (i ∷ j ∷ [])
-      (made_held T L cs (Prints pieces) (Format pieces) d b ps (held_one fs T L cs (Format pieces) (λ k. omega arith) here there) h
+      (made_held T L cs (Prints pieces) (Format pieces) d b ps (held_one fs T L cs (Format pieces) good (λ k. omega arith) here there) h
       (λ q. omega (arith, l, e, s)) s in_all)
-      (held_both fs T L (Prints pieces ∷ cs) cs cs (i ∷ []) (j ∷ []) (held_one fs T L (Prints pieces ∷ cs) i q there here)
+      (held_both fs T L (Prints pieces ∷ cs) cs cs (i ∷ []) (j ∷ []) (held_one fs T L (Prints pieces ∷ cs) i tt q there here)
       (handed fs T L cs z (In (Temporary kind.Int d)) t q here))

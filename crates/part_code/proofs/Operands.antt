@@ -1,7 +1,6 @@
 -- Parts of expressions whose code is proper, and operands.
-use Rattle.std.proofs.Common.{◌≡◌, ℕ, suc, pos, ◌+◌, Bool, true, false, List, [], ◌∷◌, ◌++◌, Option, Some, None, refl, subst}
+use Rattle.std.proofs.Common.{◌≡◌, ℕ, suc, pos, ◌+◌, Bool, true, false, List, [], ◌∷◌, ◌++◌, Option, Some, None, refl, subst, sym, ℤ}
 use Rattle.std.specs.Prelude.{if◌then◌else◌}
-use Rattle.std.proofs.lemmas.Bool.{false≢true}
 use Rattle.std.proofs.lemmas.Option.{none-some}
 use Rattle.limbo_values.specs.declared.number.Kind.{Kind}
 use Rattle.limbo_values.specs.declared.number.Kind.TheVariants as kind
@@ -14,7 +13,10 @@ use Rattle.slot_code.specs.Code.{Module}
 use Rattle.dis_objects.specs.Frames.{Callee}
 use Rattle.dis_objects.specs.Code.{spot_kind}
 use Rattle.dis_objects.specs.Proper.{IsRead, IsWritten, IsTaken, GoesOn, IsOwn, ReadsOwn}
-use Rattle.typed_lower.specs.Terms.{Ready, Part, ready, ready_of, kept, unless_changed, own, taken_by, takes_long, seen_by, one, two}
+use Rattle.typed_lower.specs.declared.taking.Taking.{Taking}
+use Rattle.typed_lower.specs.declared.taking.Taking.TheVariants.{Any, Own, Short}
+use Rattle.typed_lower.specs.Terms.{Ready, Part, ready, ready_of, kept, unless_changed, own, is_short, short, taken_by, takes_long}
+use Rattle.typed_lower.specs.Terms.{long_taking, left_taking, seen_by, one, two}
 use Rattle.typed_lower.specs.Terms.{branch, opposite, tested}
 use Rattle.part_code.proofs.Level.{No, Piece, Plain, both, both_plain, none, single}
 use Rattle.part_code.proofs.Alike.{zero_in}
@@ -46,10 +48,34 @@ own_operand (Some (In (Argument j x))) d k value = tt
 own_operand (Some (Number z)) d k value = tt
 own_operand None d k value = tt
 
-pub own_taken : (b : Bool) (l : Option Operand) (d : ℕ) (k : Kind) (value : ℕ → Spot → List Inst) → b ≡ true
-    → IsOwn (ready_of d k (taken_by b l) value).operand
-own_taken true l d k value e = own_operand l d k value
-own_taken false l d k value e = absurd (false≢true e)
+short_number : (b : Bool) (z : ℤ) (d : ℕ) (k : Kind) (value : ℕ → Spot → List Inst)
+    → IsOwn (ready_of d k (if b then Some (Number z) else None) value).operand
+short_number true z d k value = tt
+short_number false z d k value = tt
+
+short_operand : (l : Option Operand) (d : ℕ) (k : Kind) (value : ℕ → Spot → List Inst) → IsOwn (ready_of d k (short l) value).operand
+short_operand (Some (In (Global j x))) d k value = tt
+short_operand (Some (In (Variable j x))) d k value = tt
+short_operand (Some (In (Temporary j x))) d k value = tt
+short_operand (Some (In (Argument j x))) d k value = tt
+short_operand (Some (Number z)) d k value = short_number (is_short z) z d k value
+short_operand None d k value = tt
+
+-- What is taken so is the function's own.
+abbrev pub TakesOwn : Taking → Type 0
+TakesOwn Any = ⊥
+TakesOwn y = Unit {0}
+
+pub left_own : (o : Operation) → takes_long o ≡ true → TakesOwn (left_taking o)
+left_own (operation.Arithmetic x k) e = tt
+left_own (operation.Shift x k) e = tt
+left_own o e = subst (λ (b : Bool). TakesOwn (long_taking b)) (sym e) tt
+
+pub own_taken : (y : Taking) (l : Option Operand) (d : ℕ) (k : Kind) (value : ℕ → Spot → List Inst) → TakesOwn y
+    → IsOwn (ready_of d k (taken_by y l) value).operand
+own_taken Any l d k value e = absurd e
+own_taken Own l d k value e = own_operand l d k value
+own_taken Short l d k value e = short_operand l d k value
 
 own_choice : (b : Bool) (d : ℕ) (p : Part) (x : Operand) → IsOwn x
     → IsOwn (if b then kept d p.kind p.value else record { before = []; operand = x }).operand
@@ -64,10 +90,24 @@ own_unless (Some (In (Argument j x))) d p changes = own_choice (changes (In (Arg
 own_unless (Some (Number z)) d p changes = own_choice (changes (Number z)) d p (Number z) tt
 own_unless None d p changes = tt
 
-pub own_before : (b : Bool) (l : Option Operand) (d : ℕ) (p : Part) (changes : Operand → Bool) → b ≡ true
-    → IsOwn (unless_changed d p (taken_by b l) changes).operand
-own_before true l d p changes e = own_unless l d p changes
-own_before false l d p changes e = absurd (false≢true e)
+number_unless : (b : Bool) (z : ℤ) (d : ℕ) (p : Part) (changes : Operand → Bool)
+    → IsOwn (unless_changed d p (if b then Some (Number z) else None) changes).operand
+number_unless true z d p changes = own_choice (changes (Number z)) d p (Number z) tt
+number_unless false z d p changes = tt
+
+short_unless : (l : Option Operand) (d : ℕ) (p : Part) (changes : Operand → Bool) → IsOwn (unless_changed d p (short l) changes).operand
+short_unless (Some (In (Global j x))) d p changes = tt
+short_unless (Some (In (Variable j x))) d p changes = own_choice (changes (In (Variable j x))) d p (In (Variable j x)) tt
+short_unless (Some (In (Temporary j x))) d p changes = own_choice (changes (In (Temporary j x))) d p (In (Temporary j x)) tt
+short_unless (Some (In (Argument j x))) d p changes = own_choice (changes (In (Argument j x))) d p (In (Argument j x)) tt
+short_unless (Some (Number z)) d p changes = number_unless (is_short z) z d p changes
+short_unless None d p changes = tt
+
+pub own_before : (y : Taking) (l : Option Operand) (d : ℕ) (p : Part) (changes : Operand → Bool) → TakesOwn y
+    → IsOwn (unless_changed d p (taken_by y l) changes).operand
+own_before Any l d p changes e = absurd e
+own_before Own l d p changes e = own_unless l d p changes
+own_before Short l d p changes e = short_unless l d p changes
 
 own_some : (l : Option Operand) (x : Operand) → own l ≡ Some x → l ≡ Some x
 own_some (Some (In (Global j y))) x e = absurd (none-some x e)
@@ -77,9 +117,22 @@ own_some (Some (In (Argument j y))) x e = e
 own_some (Some (Number z)) x e = e
 own_some None x e = e
 
-taken_some : (b : Bool) (l : Option Operand) (x : Operand) → taken_by b l ≡ Some x → l ≡ Some x
-taken_some true l x e = own_some l x e
-taken_some false l x e = e
+number_some : (b : Bool) (z : ℤ) (x : Operand) → (if b then Some (Number z) else None) ≡ Some x → Some (Number z) ≡ Some x
+number_some true z x e = e
+number_some false z x e = absurd (none-some x e)
+
+short_some : (l : Option Operand) (x : Operand) → short l ≡ Some x → l ≡ Some x
+short_some (Some (In (Global j y))) x e = absurd (none-some x e)
+short_some (Some (In (Variable j y))) x e = e
+short_some (Some (In (Temporary j y))) x e = e
+short_some (Some (In (Argument j y))) x e = e
+short_some (Some (Number z)) x e = number_some (is_short z) z x e
+short_some None x e = e
+
+taken_some : (y : Taking) (l : Option Operand) (x : Operand) → taken_by y l ≡ Some x → l ≡ Some x
+taken_some Any l x e = e
+taken_some Own l x e = own_some l x e
+taken_some Short l x e = short_some l x e
 
 module _ (m : Module) (f : Function) where
   -- ---- places
@@ -126,10 +179,10 @@ module _ (m : Module) (f : Function) where
   pub part_as : (j k : Kind) (p : Part) → j ≡ k → ProperPart j p → ProperPart k p
   part_as j k p e h = subst (λ i. ProperPart i p) e h
 
-  pub seen : (o : Operation) (k : Kind) (p : Part) → ProperPart k p → ProperPart k (seen_by o p)
-  seen o k p h = record {
+  pub seen : (y : Taking) (k : Kind) (p : Part) → ProperPart k p → ProperPart k (seen_by y p)
+  seen y k p h = record {
     kind = h.kind;
-    leaf = λ x e. h.leaf x (taken_some (takes_long o) p.leaf x e);
+    leaf = λ x e. h.leaf x (taken_some y p.leaf x e);
     value = h.value;
     branches = h.branches;
   }

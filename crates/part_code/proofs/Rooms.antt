@@ -26,7 +26,7 @@ use Rattle.typed_part.specs.Part as part
 use Rattle.typed_part.specs.Part.{Inside}
 use Rattle.typed_part.proofs.Tests.{left, right, one_holds}
 use Rattle.part_code.proofs.Counted.{expr_places, optional_places, stmt_places, stmts_places}
-use Rattle.part_code.specs.Laws.{FramesFit}
+use Rattle.part_code.specs.Laws.{FramesFit, InstructionsHeld, ArgumentsFew}
 use Rattle.typed_lower.specs.Sizes.{frame_size, stmts_size}
 use Rattle.part_code.proofs.Weighing.{stmts_weighed}
 use Rattle.part_code.proofs.Held.{Held, held_both, held_none, held_one}
@@ -50,13 +50,13 @@ module _ (m : Module) (f : Function) (i : Inside) (know : Knows m f i) (T L : �
   both a b x y = held_both m.functions T L [] [] [] a b x y
 
   jumps : (n : ℕ) → Has (Jump n ∷ [])
-  jumps n = held_one m.functions T L [] (Jump n) (λ k. omega arith) (omega arith) (omega arith)
+  jumps n = held_one m.functions T L [] (Jump n) tt (λ k. omega arith) (omega arith) (omega arith)
 
   goes_back : (n : ℕ) → Has (Back n ∷ [])
-  goes_back n = held_one m.functions T L [] (Back n) (λ k. omega arith) (omega arith) (omega arith)
+  goes_back n = held_one m.functions T L [] (Back n) tt (λ k. omega arith) (omega arith) (omega arith)
 
   leaves : Has (Leave ∷ [])
-  leaves = held_one m.functions T L [] Leave (λ k. omega arith) (omega arith) (omega arith)
+  leaves = held_one m.functions T L [] Leave tt (λ k. omega arith) (omega arith) (omega arith)
 
   moving : (ps : List Place) (x : Operand) → ((k : Kind) → operand_count k x ≤ T) → Has (moves ps x)
   moving [] x h = nothing
@@ -119,7 +119,7 @@ module _ (m : Module) (f : Function) (i : Inside) (know : Knows m f i) (T L : �
       ready_prepared m.functions T L [] 0 (expr_places e) q.kind q.leaf q.value p.leaf p.value p.some (omega (arith, l)) (omega
       (arith, l, enough))
       in
-      one_held m.functions T L [] [] x Return r (held_one m.functions T L [] (Return x.operand) r.operand (omega arith) (omega arith))
+      one_held m.functions T L [] [] x Return r (held_one m.functions T L [] (Return x.operand) tt r.operand (omega arith) (omega arith))
 
   choosing : (t : Term) (a o : List Inst) → ((n : ℕ) → Has (branches false 0 t n)) → Has a → Has o → Has (either t a o)
   choosing t a [] b x y = both (branches false 0 t (length a)) a (b (length a)) x
@@ -202,16 +202,21 @@ room_most : (j e bigs ints bytes arguments r : ℕ) → bigs ≤ j → ints ≤ 
 room_most zero e bigs ints bytes arguments r a b c d w = omega (arith, a, b, c, d, w)
 room_most (suc j) e bigs ints bytes arguments r a b c d w = omega (arith, a, b, c, d, w)
 
+-- What the code of a function needs.
+body_held : (m : typed.Module) → part.is_part m ≡ true → (f : typed.Function) → part.are_stmts (part.inside m f) 0 f.body ≡ true
+    → Held (functions_code m) (stmts_places f.body) (8 * stmts_places f.body - 8) [] [] (function_code f).code
+body_held m h f its =
+    let j = stmts_places f.body in
+    body_has (module_code m) (function_code f) (part.inside m f) (known m h f) j (8 * j - 8) (omega arith)
+    (map (λ v. v.ty) f.variables) f.body its (omega arith)
+
 frame_fits : (m : typed.Module) → part.is_part m ≡ true → (f : typed.Function) → part.are_stmts (part.inside m f) 0 f.body ≡ true
     → (room_of (functions_code m) (function_code f)).size ≤ frame_size f
 frame_fits m h f its =
     let fs = functions_code m in
     let g = function_code f in
     let j = stmts_places f.body in
-    let x : Held fs j (8 * j - 8) [] [] g.code =
-    body_has (module_code m) g (part.inside m f) (known m h f) j (8 * j - 8) (omega arith) (map (λ v. v.ty) f.variables) f.body its
-    (omega arith)
-    in
+    let x : Held fs j (8 * j - 8) [] [] g.code = body_held m h f its in
     subst (λ k.
     (room_from (whole k) (count kind.Big g.code) (count kind.Int g.code) (count kind.Byte g.code) (most_bytes fs [] g.code)).size
     ≤ frame_size f) (sym (end_behind 0 g.variables))
@@ -221,3 +226,15 @@ frame_fits m h f its =
 
 pub frames_fit : FramesFit
 frames_fit m h n f e = frame_fits m h f (right _ _ (each_function m h n f e))
+
+pub instructions_held : InstructionsHeld
+instructions_held m h n f e = (body_held m h f (right _ _ (each_function m h n f e))).held
+
+few_most : (j b r v : ℕ) → b ≤ 8 * j - 8 → 24 * j ≤ r + 8 → 3 * b ≤ 40 + v + r
+few_most j b r v x y = omega (arith, x, y)
+
+pub arguments_few : ArgumentsFew
+arguments_few m h n f e =
+    let its = right _ _ (each_function m h n f e) in
+    few_most (stmts_places f.body) (most_bytes (functions_code m) [] (function_code f).code) (stmts_size f.body)
+    (end_of 0 (function_code f).variables) (body_held m h f its).bytes (stmts_weighed (part.inside m f) 0 f.body its)

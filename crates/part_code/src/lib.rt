@@ -1,5 +1,6 @@
 //! The first pass of the compiler and the second joined: the code of a module in the part of the language that runs is proper code, as the
-//! second pass asks for it, and the frames of its functions have no more bytes than `frame_size` counts.
+//! second pass asks for it, the frames of its functions have no more bytes than `frame_size` counts, and the machine can hold each of its
+//! instructions.
 //!
 //! In `proofs/`, in the order of reading: `Level` has code at its place and how pieces of it are joined, `Alike` what the tests of the part
 //! say of kinds, `Operands`, `Conditions` and `Calls` the forms of expressions, `Callees` what a call finds, `Expressions` all of them,
@@ -10,4 +11,4 @@
 
 mod laws;
 
-pub use laws::{frames_fit, part_is_proper};
+pub use laws::{frames_fit, part_is_held, part_is_proper};

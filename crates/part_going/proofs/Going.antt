@@ -138,7 +138,7 @@ module _ (i : Inside) where
         (λ q s. (of.0 ∙ same, (kind_of (type_at p) ∷ [], of.1, (s, tt), same)))
     node_has t (typed.Call f es) h = call_has f es t (right _ _ h) (exprs_have es (left _ _ h))
     node_has t (typed.Print w m file ps es) h =
-        let int : kind.Int ≡ kind_of t = sym (of_kind kind.Int t (right _ _ h)) in
+        let int : kind.Int ≡ kind_of t = sym (of_kind kind.Int t (left _ _ (right _ _ h))) in
         print_has w file ps (printed_of es) (kind_of t) (left _ _ (left _ _ (left _ _ (left _ _ h))))
         (int, printed_have es (right _ _ (left _ _ (left _ _ h))))
     node_has t _ h = absurd (false≢true h)

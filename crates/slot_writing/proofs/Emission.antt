@@ -16,7 +16,9 @@ use Rattle.typed_meaning.specs.Trees as tree
 use Rattle.slot_code.specs.Code.{Spot, Operand, Inst, Temporary, Argument, In, Number, Move, Hand, Skip, Alter, Operate, Begin, Format}
 use Rattle.slot_code.specs.Code as slot
 use Rattle.typed_lower.specs.Kinds.{kind_in, kind_at, spot_of, leaf, makes_call}
-use Rattle.typed_lower.specs.Terms.{Ready, part_of, parts_of, code_of, branches, one, two, takes_long, branch, connected, applied}
+use Rattle.typed_lower.specs.Terms.{Ready, part_of, parts_of, code_of, branches, one, two, left_taking, right_taking, branch, connected}
+use Rattle.typed_lower.specs.Terms.{applied}
+use Rattle.typed_lower.specs.declared.taking.Taking.TheVariants.{Own, Short}
 use Rattle.typed_lower.specs.Terms.{first_put, all_put, made_ready, answered, count}
 use Rattle.slot_writing.specs.Operands.{ready_at, taken, standing}
 use Rattle.slot_writing.specs.Conditions.{IsTested, decides, passed}
@@ -55,10 +57,10 @@ lazy_branches c l r u v t w d n base el er et = rw (el, er, et) refl
 
 pub compared_code : (c : Comparison) (k : Kind) (l r u v t : Term) (w : Bool) (d n : ℕ) (a b : Operand) (mid base : List Inst)
     → l ≡ u → r ≡ v → t ≡ Apply (operation.Compare c k) (MoreTerms u (MoreTerms v NoTerms)) → mid ≡ branch w k c a b n ∷ base
-    → a ≡ (ready_at d l (standing false l r)).operand → b ≡ (ready_at (suc d) r (taken false r)).operand
-    → (ready_at d l (standing false l r)).before ++ (ready_at (suc d) r (taken false r)).before ++ mid ≡ branches w d t n ++ base
+    → a ≡ (ready_at d l (standing Own l r)).operand → b ≡ (ready_at (suc d) r (taken Short r)).operand
+    → (ready_at d l (standing Own l r)).before ++ (ready_at (suc d) r (taken Short r)).before ++ mid ≡ branches w d t n ++ base
 compared_code c k l r u v t w d n a b mid base el er et em ea eb =
-    rw (em, ea, eb) (two_before (ready_at d l (standing false l r)) (ready_at (suc d) r (taken false r)) (λ x y. branch w k c x y n) base
+    rw (em, ea, eb) (two_before (ready_at d l (standing Own l r)) (ready_at (suc d) r (taken Short r)) (λ x y. branch w k c x y n) base
     ∙ ap (λ xs. xs ++ base) (compared_two c k w d n l r t
     (et ∙ ap (λ x. Apply (operation.Compare c k) (MoreTerms x (MoreTerms v NoTerms))) (sym el)
     ∙ ap (λ x. Apply (operation.Compare c k) (MoreTerms l (MoreTerms x NoTerms))) (sym er))))
@@ -99,12 +101,12 @@ made_code t ts us begin d mid base eu em =
 -- ---- values
 
 pub one_applied : (o : Operation) (d : ℕ) (s : Spot) (t u : Term) (ts : Terms) (base : List Inst) → t ≡ u → ts ≡ MoreTerms u NoTerms
-    → one (ready_at d t (taken (takes_long o) t)) (λ x. Alter o s x) ++ base ≡ applied o (parts_of ts) d s ++ base
+    → one (ready_at d t (taken (left_taking o) t)) (λ x. Alter o s x) ++ base ≡ applied o (parts_of ts) d s ++ base
 one_applied o d s t u ts base et es = ap (λ xs. xs ++ base) (applied_one o d s t ts (es ∙ ap (λ x. MoreTerms x NoTerms) (sym et)))
 
 pub two_applied : (o : Operation) (d : ℕ) (s : Spot) (t u v w : Term) (ts : Terms) (base : List Inst) → t ≡ v → u ≡ w
     → ts ≡ MoreTerms v (MoreTerms w NoTerms)
-    → two (ready_at d t (standing (takes_long o) t u)) (ready_at (suc d) u (taken (takes_long o) u)) (λ x y. Operate o s x y) ++ base
+    → two (ready_at d t (standing (left_taking o) t u)) (ready_at (suc d) u (taken (right_taking o) u)) (λ x y. Operate o s x y) ++ base
     ≡ applied o (parts_of ts) d s ++ base
 two_applied o d s t u v w ts base et eu es =
     ap (λ xs. xs ++ base) (applied_two o d s t u ts
@@ -132,7 +134,7 @@ kept_tail a k d to s base = sym (append_assoc a (Move to (In (Temporary k d)) �
 pub update_code : (o : Operation) (p : Place) (u v t : Term) (k : Kind) (d : ℕ) (to s : Spot) (mid base : List Inst) → u ≡ v
     → t ≡ update o p v → k ≡ kind_at p → to ≡ spot_of p
     → mid ≡ Move to (In (Temporary k d)) ∷ Hand s (In (Temporary k d)) ∷ base
-    → two (ready_at d (Read p) (standing (takes_long o) (Read p) u)) (ready_at (suc d) u (taken (takes_long o) u))
+    → two (ready_at d (Read p) (standing (left_taking o) (Read p) u)) (ready_at (suc d) u (taken (right_taking o) u))
     (λ x y. Operate o (Temporary k d) x y) ++ mid ≡ code_of d t s ++ base
 update_code o p u v t k d to s mid base eu et ek eo em =
     rw (em, et, eo, ek, eu)
@@ -142,7 +144,7 @@ update_code o p u v t k d to s mid base eu et ek eo em =
 
 pub step_code : (o : Operation) (p : Place) (t : Term) (k : Kind) (d : ℕ) (to s : Spot) (mid base : List Inst) → t ≡ step o given.New p
     → k ≡ kind_at p → to ≡ spot_of p → mid ≡ Move to (In (Temporary k d)) ∷ Hand s (In (Temporary k d)) ∷ base
-    → one (ready_at d (Read p) (taken (takes_long o) (Read p))) (λ x. Alter o (Temporary k d) x) ++ mid ≡ code_of d t s ++ base
+    → one (ready_at d (Read p) (taken (left_taking o) (Read p))) (λ x. Alter o (Temporary k d) x) ++ mid ≡ code_of d t s ++ base
 step_code o p t k d to s mid base et ek eo em =
     rw (em, et, eo, ek)
     (one_applied o d (Temporary (kind_at p) d) (Read p) (Read p) (MoreTerms (Read p) NoTerms) _ refl refl

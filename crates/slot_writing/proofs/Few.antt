@@ -27,7 +27,9 @@ use Rattle.typed_lower.specs.Terms.{Part, Ready, part_of, parts_of, kept, ready,
 use Rattle.typed_lower.specs.Terms.{applied, tested}
 use Rattle.typed_lower.specs.Terms.{compared, connected, branch, truth_of, assigned_first, changed, first_put, all_put, made_ready}
 use Rattle.typed_lower.specs.Terms.{answered}
-use Rattle.typed_lower.specs.Terms.{from_leaf, plain, count, seen_by}
+use Rattle.typed_lower.specs.declared.taking.Taking.{Taking}
+use Rattle.typed_lower.specs.declared.taking.Taking.TheVariants.{Own, Short}
+use Rattle.typed_lower.specs.Terms.{from_leaf, plain, count, seen_by, left_taking, right_taking}
 use Rattle.typed_lower.specs.Sizes.{expr_nodes, inner_nodes, exprs_nodes}
 
 -- ---- terms
@@ -82,21 +84,21 @@ two_long x y last =
     omega (arith, length-append (x.before ++ y.before) (last x.operand y.operand ∷ []), length-append x.before y.before)
 
 -- an operation may see less of a leaf
-seen_few : (o : Operation) (p : Part) (n : ℕ) → Few p n → Few (seen_by o p) n
-seen_few o p n f = record { value = f.value; branches = f.branches }
+seen_few : (y : Taking) (p : Part) (n : ℕ) → Few p n → Few (seen_by y p) n
+seen_few y p n f = record { value = f.value; branches = f.branches }
 
 pub applied_few : (o : Operation) (ts : Terms) → AllFew ts → (d : ℕ) (s : Spot) → length (applied o (parts_of ts) d s) ≤ 4 * sizes ts
 applied_few o NoTerms h d s = omega arith
 applied_few o (MoreTerms t NoTerms) h d s =
-    let p = seen_by o (part_of t) in
+    let p = seen_by (left_taking o) (part_of t) in
     omega (arith, one_long (ready d p) (λ x. code.Alter o s x), ready_few d p.kind p.leaf p.value (size t) h.0.value)
 applied_few o (MoreTerms t (MoreTerms u NoTerms)) h d s =
-    let p = seen_by o (part_of t) in
-    let q = seen_by o (part_of u) in
+    let p = seen_by (left_taking o) (part_of t) in
+    let q = seen_by (right_taking o) (part_of u) in
     omega (
       arith,
       two_long (ready_before d p q) (ready (suc d) q) (λ x y. code.Operate o s x y),
-      before_few d p q (size t) (seen_few o (part_of t) (size t) h.0),
+      before_few d p q (size t) (seen_few (left_taking o) (part_of t) (size t) h.0),
       ready_few (suc d) q.kind q.leaf q.value (size u) h.1.0.value,
     )
 applied_few o (MoreTerms t (MoreTerms u (MoreTerms v ts))) h d s = omega arith
@@ -115,12 +117,12 @@ compared_few : (o : Operation) (ts : Terms) → AllFew ts → (k : Kind) (w : Bo
 compared_few (operation.Compare c j) NoTerms h k w d m = kept_few (operation.Compare c j) NoTerms h k w d m
 compared_few (operation.Compare c j) (MoreTerms t NoTerms) h k w d m = kept_few (operation.Compare c j) (MoreTerms t NoTerms) h k w d m
 compared_few (operation.Compare c j) (MoreTerms t (MoreTerms u NoTerms)) h k w d m =
-    let p = part_of t in
-    let q = part_of u in
+    let p = seen_by Own (part_of t) in
+    let q = seen_by Short (part_of u) in
     omega (
       arith,
       two_long (ready_before d p q) (ready (suc d) q) (λ x y. branch w j c x y m),
-      before_few d p q (size t) h.0,
+      before_few d p q (size t) (seen_few Own (part_of t) (size t) h.0),
       ready_few (suc d) q.kind q.leaf q.value (size u) h.1.0.value,
     )
 compared_few (operation.Compare c j) (MoreTerms t (MoreTerms u (MoreTerms v ts))) h k w d m =

@@ -14,7 +14,9 @@ use Rattle.typed_meaning.specs.Trees.{Terms, NoTerms, MoreTerms}
 use Rattle.slot_code.specs.Code.{Spot, Operand, Inst, Alter, Operate}
 use Rattle.typed_lower.specs.Kinds.{kind_in, leaf, makes_call, changes}
 use Rattle.typed_lower.specs.Terms.{Part, Ready, part_of, parts_of, ready_of, ready, ready_before, kept, unless_changed, applied, one, two}
-use Rattle.typed_lower.specs.Terms.{takes_long, taken_by, seen_by, connected, branch, branches}
+use Rattle.typed_lower.specs.declared.taking.Taking.{Taking}
+use Rattle.typed_lower.specs.declared.taking.Taking.TheVariants.{Own, Short}
+use Rattle.typed_lower.specs.Terms.{left_taking, right_taking, taken_by, seen_by, two_taken, connected, branch, branches}
 use Rattle.slot_writing.specs.Operands as written
 use Rattle.slot_writing.specs.Operands.{ready_at, taken, standing}
 use Rattle.slot_writing.specs.Conditions.{IsOther, decides, passed}
@@ -86,10 +88,10 @@ ready_is d t =
     ap (λ (k : Kind). ready_of d k (part_of t).leaf (part_of t).value) (part_kind t)
     ∙ ap (λ (x : Option Operand). ready_at d t x) (part_leaf t)
 
-taken_is : (d : ℕ) (o : Operation) (t : Term) → ready d (seen_by o (part_of t)) ≡ ready_at d t (taken (takes_long o) t)
-taken_is d o t =
-    ap (λ (k : Kind). ready_of d k (taken_by (takes_long o) (part_of t).leaf) (part_of t).value) (part_kind t)
-    ∙ ap (λ (x : Option Operand). ready_at d t (taken_by (takes_long o) x)) (part_leaf t)
+taken_is : (d : ℕ) (y : Taking) (t : Term) → ready d (seen_by y (part_of t)) ≡ ready_at d t (taken y t)
+taken_is d y t =
+    ap (λ (k : Kind). ready_of d k (taken_by y (part_of t).leaf) (part_of t).value) (part_kind t)
+    ∙ ap (λ (x : Option Operand). ready_at d t (taken_by y x)) (part_leaf t)
 
 chosen : (d : ℕ) (p : Part) (k : Kind) → p.kind ≡ k → (x : Operand) (b : Bool)
     → (if b then kept d p.kind p.value else record { before = []; operand = x }) ≡ ready_of d k (if b then None else Some x) p.value
@@ -101,34 +103,34 @@ stands : (d : ℕ) (p : Part) (k : Kind) → p.kind ≡ k → (u : Term) (o : Op
 stands d p k e u None = ap (λ (j : Kind). kept d j p.value) e
 stands d p k e u (Some x) = chosen d p k e x (changes x u)
 
-before_is : (d : ℕ) (t u : Term) → ready_before d (part_of t) (part_of u) ≡ ready_at d t (standing false t u)
-before_is d t u =
-    ap (λ (f : Operand → Bool). unless_changed d (part_of t) (part_of t).leaf f) (part_changes u)
-    ∙ ap (λ (o : Option Operand). unless_changed d (part_of t) o (λ x. changes x u)) (part_leaf t)
-    ∙ stands d (part_of t) (kind_in t) (part_kind t) u (leaf t)
+seen_before : (d : ℕ) (y z : Taking) (t u : Term)
+    → ready_before d (seen_by y (part_of t)) (seen_by z (part_of u)) ≡ ready_at d t (standing y t u)
+seen_before d y z t u =
+    ap (λ (f : Operand → Bool). unless_changed d (seen_by y (part_of t)) (taken_by y (part_of t).leaf) f) (part_changes u)
+    ∙ ap (λ (x : Option Operand). unless_changed d (seen_by y (part_of t)) (taken_by y x) (λ v. changes v u)) (part_leaf t)
+    ∙ stands d (seen_by y (part_of t)) (kind_in t) (part_kind t) u (taken y t)
 
-seen_before : (d : ℕ) (o : Operation) (t u : Term)
-    → ready_before d (seen_by o (part_of t)) (seen_by o (part_of u)) ≡ ready_at d t (standing (takes_long o) t u)
-seen_before d o t u =
-    ap (λ (f : Operand → Bool). unless_changed d (seen_by o (part_of t)) (taken_by (takes_long o) (part_of t).leaf) f) (part_changes u)
-    ∙ ap (λ (x : Option Operand). unless_changed d (seen_by o (part_of t)) (taken_by (takes_long o) x) (λ y. changes y u)) (part_leaf t)
-    ∙ stands d (seen_by o (part_of t)) (kind_in t) (part_kind t) u (taken (takes_long o) t)
+-- what an instruction on two operands takes
+two_is : (o : Operation) (d : ℕ) (t u : Term) (last : Operand → Operand → Inst)
+    → two (ready_at d t (standing (left_taking o) t u)) (ready_at (suc d) u (taken (right_taking o) u)) last
+    ≡ two_taken o d (part_of t) (part_of u) last
+two_is o d t u last =
+    ap (λ (r : Ready). two r (ready_at (suc d) u (taken (right_taking o) u)) last) (sym (seen_before d (left_taking o) (right_taking o) t u))
+    ∙ ap (λ (r : Ready). two (ready_before d (seen_by (left_taking o) (part_of t)) (seen_by (right_taking o) (part_of u))) r last)
+    (sym (taken_is (suc d) (right_taking o) u))
 
 -- ---- operations
 
 pub applied_one : (o : Operation) (d : ℕ) (s : Spot) (t : Term) (ts : Terms) → ts ≡ MoreTerms t NoTerms
-    → one (ready_at d t (taken (takes_long o) t)) (λ x. Alter o s x) ≡ applied o (parts_of ts) d s
+    → one (ready_at d t (taken (left_taking o) t)) (λ x. Alter o s x) ≡ applied o (parts_of ts) d s
 applied_one o d s t ts e =
-    ap (λ (r : Ready). one r (λ x. Alter o s x)) (sym (taken_is d o t)) ∙ ap (λ (us : Terms). applied o (parts_of us) d s) (sym e)
+    ap (λ (r : Ready). one r (λ x. Alter o s x)) (sym (taken_is d (left_taking o) t)) ∙ ap (λ (us : Terms). applied o (parts_of us) d s) (sym e)
 
 pub applied_two : (o : Operation) (d : ℕ) (s : Spot) (t u : Term) (ts : Terms) → ts ≡ MoreTerms t (MoreTerms u NoTerms)
-    → two (ready_at d t (standing (takes_long o) t u)) (ready_at (suc d) u (taken (takes_long o) u)) (λ x y. Operate o s x y)
+    → two (ready_at d t (standing (left_taking o) t u)) (ready_at (suc d) u (taken (right_taking o) u)) (λ x y. Operate o s x y)
     ≡ applied o (parts_of ts) d s
 applied_two o d s t u ts e =
-    ap (λ (r : Ready). two r (ready_at (suc d) u (taken (takes_long o) u)) (λ x y. Operate o s x y)) (sym (seen_before d o t u))
-    ∙ ap (λ (r : Ready). two (ready_before d (seen_by o (part_of t)) (seen_by o (part_of u))) r (λ x y. Operate o s x y))
-    (sym (taken_is (suc d) o u))
-    ∙ ap (λ (us : Terms). applied o (parts_of us) d s) (sym e)
+    two_is o d t u (λ x y. Operate o s x y) ∙ ap (λ (us : Terms). applied o (parts_of us) d s) (sym e)
 
 pub applied_other : (o : Operation) (d : ℕ) (s : Spot) (ts : Terms) → IsOther ts → [] ≡ applied o (parts_of ts) d s
 applied_other o d s NoTerms h = refl
@@ -140,11 +142,9 @@ applied_other o d s (MoreTerms t (MoreTerms u (MoreTerms v ts))) h = refl
 
 pub compared_two : (c : Comparison) (k : Kind) (w : Bool) (d n : ℕ) (t u a : Term)
     → a ≡ Apply (operation.Compare c k) (MoreTerms t (MoreTerms u NoTerms))
-    → two (ready_at d t (standing false t u)) (ready_at (suc d) u (taken false u)) (λ x y. branch w k c x y n) ≡ branches w d a n
+    → two (ready_at d t (standing Own t u)) (ready_at (suc d) u (taken Short u)) (λ x y. branch w k c x y n) ≡ branches w d a n
 compared_two c k w d n t u a e =
-    ap (λ (r : Ready). two r (ready_at (suc d) u (leaf u)) (λ x y. branch w k c x y n)) (sym (before_is d t u))
-    ∙ ap (λ (r : Ready). two (ready_before d (part_of t) (part_of u)) r (λ x y. branch w k c x y n)) (sym (ready_is (suc d) u))
-    ∙ ap (λ (b : Term). branches w d b n) (sym e)
+    two_is (operation.Compare c k) d t u (λ x y. branch w k c x y n) ∙ ap (λ (b : Term). branches w d b n) (sym e)
 
 -- the left operand's code passes as it should
 pub connected_is : (c : Connective) (l r : Part) (w : Bool) (d n : ℕ)

@@ -1,7 +1,8 @@
 -- Which operands stand as they are, with no code in front of them.
-use Rattle.std.specs.Prelude.{ℕ, Bool, if◌then◌else◌, Option, None, Some}
+use Rattle.std.specs.Prelude.{ℕ, if◌then◌else◌, Option, None, Some}
 use Rattle.typed_meaning.specs.Trees.{Term}
 use Rattle.slot_code.specs.Code.{Operand}
+use Rattle.typed_lower.specs.declared.taking.Taking.{Taking}
 use Rattle.typed_lower.specs.Kinds.{kind_in, leaf, changes}
 use Rattle.typed_lower.specs.Terms.{Ready, ready_of, part_of, taken_by}
 
@@ -9,13 +10,13 @@ abbrev pub unless_changed : Option Operand → Term → Option Operand
 unless_changed None u = None
 unless_changed (Some x) u = if changes x u then None else Some x
 
--- What an instruction takes as it is: of one that takes long, the function's own alone.
-abbrev pub taken : (long : Bool) → Term → Option Operand
-taken long t = taken_by long (leaf t)
+-- What an instruction takes as it is.
+abbrev pub taken : Taking → Term → Option Operand
+taken y t = taken_by y (leaf t)
 
 -- And while another term is evaluated behind it.
-abbrev pub standing : (long : Bool) → Term → Term → Option Operand
-standing long t u = unless_changed (taken long t) u
+abbrev pub standing : Taking → Term → Term → Option Operand
+standing y t u = unless_changed (taken y t) u
 
 -- a term that stands there, or that a temporary has
 abbrev pub ready_at : ℕ → Term → Option Operand → Ready

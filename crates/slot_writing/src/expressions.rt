@@ -15,7 +15,9 @@ ghost use Rattle.slot_writing.specs.Weights.{weight, weights};
 ghost use Rattle.slot_writing.specs.Written.{written};
 
 use crate::conditions::{Condition, Operands, condition_of, decides, operands_of, passed};
-use crate::kinds::{kind_in, kind_of, leaf_of, makes_call, standing, taken, takes_long};
+use crate::kinds::{
+    kind_in, kind_of, leaf_of, left_taking, makes_call, right_taking, standing, taken,
+};
 use crate::operands::{
     operand_at, put, put_answer, put_branch, put_kept, put_leaf, put_old, put_taker, put_test,
     put_truth,
@@ -25,6 +27,7 @@ use limbo_typed::{Connective, Given, Operation, TExpr};
 use limbo_values::Kind;
 use slot_code::{Inst, Operand, Spot};
 use std::alloc::{AllocError, Global};
+use typed_lower::Taking;
 
 /// Writes what a term needs before an instruction takes it: nothing where it stands there.
 #[cycle(expressions)]
@@ -59,18 +62,19 @@ pub(crate) fn emit_ready(
 fn emit_operands(
     alloc: Global,
     code: &mut Vec<Inst>,
-    long: bool,
+    first: Taking,
+    second: Taking,
     left: Term<'_>,
     right: Term<'_>,
     d: u32,
 ) -> Result<(), AllocError>
     requires { d + (weight (view_term left) + weight (view_term right)) + 2 ≤ 2 ^ 31 }
     ensures { OnOk result (written code.new.items
-        ≡ (ready_at d (view_term left.entry) (operands.standing long (view_term left.entry) (view_term right.entry))).before
-        ++ (ready_at (suc d) (view_term right.entry) (operands.taken long (view_term right.entry))).before ++ written code.old.items) }
+        ≡ (ready_at d (view_term left.entry) (operands.standing first (view_term left.entry) (view_term right.entry))).before
+        ++ (ready_at (suc d) (view_term right.entry) (operands.taken second (view_term right.entry))).before ++ written code.old.items) }
 {
-    emit_ready(alloc, code, right, taken(long, right), d + 1)?;
-    emit_ready(alloc, code, left, standing(long, left, right), d)
+    emit_ready(alloc, code, right, taken(second, right), d + 1)?;
+    emit_ready(alloc, code, left, standing(first, left, right), d)
 }
 
 // Writes an operation on one value.
@@ -85,11 +89,11 @@ pub(crate) fn emit_altered(
 ) -> Result<(), AllocError>
     requires { d + weight (view_term term) + 1 ≤ 2 ^ 31 }
     ensures { OnOk result (written code.new.items
-        ≡ one (ready_at d (view_term term.entry) (operands.taken (terms.takes_long operation) (view_term term.entry)))
+        ≡ one (ready_at d (view_term term.entry) (operands.taken (terms.left_taking operation) (view_term term.entry)))
         (λ x. slot.Alter operation (view_spot into) x)
         ++ written code.old.items) }
 {
-    let at = taken(takes_long(operation), term);
+    let at = taken(left_taking(operation), term);
     let of = operand_at(term, at, d);
     put(
         code,
@@ -115,15 +119,16 @@ pub(crate) fn emit_operated(
 ) -> Result<(), AllocError>
     requires { d + (weight (view_term left) + weight (view_term right)) + 2 ≤ 2 ^ 31 }
     ensures { OnOk result (written code.new.items
-        ≡ two (ready_at d (view_term left.entry) (operands.standing (terms.takes_long operation) (view_term left.entry)
+        ≡ two (ready_at d (view_term left.entry) (operands.standing (terms.left_taking operation) (view_term left.entry)
         (view_term right.entry)))
-        (ready_at (suc d) (view_term right.entry) (operands.taken (terms.takes_long operation) (view_term right.entry)))
+        (ready_at (suc d) (view_term right.entry) (operands.taken (terms.right_taking operation) (view_term right.entry)))
         (λ x y. slot.Operate operation (view_spot into) x y)
         ++ written code.old.items) }
 {
-    let long = takes_long(operation);
-    let first = operand_at(left, standing(long, left, right), d);
-    let second = operand_at(right, taken(long, right), d + 1);
+    let before = left_taking(operation);
+    let behind = right_taking(operation);
+    let first = operand_at(left, standing(before, left, right), d);
+    let second = operand_at(right, taken(behind, right), d + 1);
     put(
         code,
         Inst::Operate {
@@ -133,7 +138,7 @@ pub(crate) fn emit_operated(
             right: second,
         },
     )?;
-    emit_operands(alloc, code, long, left, right, d)
+    emit_operands(alloc, code, before, behind, left, right, d)
 }
 
 // Writes what an operation gives.
@@ -228,10 +233,10 @@ pub(crate) fn emit_branches(
         } => {
             let left = term_of(left);
             let right = term_of(right);
-            let first = operand_at(left, standing(false, left, right), d);
-            let second = operand_at(right, taken(false, right), d + 1);
+            let first = operand_at(left, standing(Taking::Own, left, right), d);
+            let second = operand_at(right, taken(Taking::Short, right), d + 1);
             put_branch(code, where_true, kind, comparison, first, second, passes)?;
-            emit_operands(alloc, code, false, left, right, d)
+            emit_operands(alloc, code, Taking::Own, Taking::Short, left, right, d)
         }
         Condition::Tested => {
             put_test(code, term, where_true, d, passes)?;

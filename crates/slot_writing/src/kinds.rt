@@ -7,6 +7,7 @@ ghost use Rattle.limbo_values.specs.Numbers as numbers;
 ghost use Rattle.typed_meaning.specs.Program as program;
 ghost use Rattle.typed_meaning.specs.Trees.{Local};
 ghost use Rattle.typed_meaning.specs.Values as values;
+ghost use Rattle.slot_code.specs.Code as slot;
 ghost use Rattle.slot_code.specs.View.{view_spot, view_operand};
 ghost use Rattle.typed_lower.specs.Kinds as kinds;
 ghost use Rattle.typed_lower.specs.Statements as statements;
@@ -19,6 +20,7 @@ use limbo_typed::{Operation, TExpr};
 use limbo_types::Ty;
 use limbo_values::{Kind, byte, int};
 use slot_code::{Operand, Spot};
+use typed_lower::Taking;
 
 /// Of which kind the numbers of a type are.
 #[tactic(auto, using(limbo_types::proofs::View::the_types, crate::proofs::Others::other_kind))]
@@ -233,6 +235,36 @@ pub(crate) fn takes_long(operation: Operation) -> bool
     }
 }
 
+// What is taken of an operation's operands, where it takes long or not.
+fn long_taking(long: bool) -> Taking
+    ensures { result ≡ terms.long_taking long }
+{
+    if long { Taking::Own } else { Taking::Any }
+}
+
+/// How an operation takes its left operand, or its only one.
+#[tactic(auto, using(crate::proofs::Leaves::other_left))]
+pub(crate) fn left_taking(operation: Operation) -> Taking
+    ensures { result ≡ terms.left_taking operation }
+{
+    match operation {
+        Operation::Arithmetic { .. } => Taking::Short,
+        Operation::Shift { .. } => Taking::Short,
+        _ => long_taking(takes_long(operation)),
+    }
+}
+
+/// And its right one.
+#[tactic(auto, using(crate::proofs::Leaves::other_right))]
+pub(crate) fn right_taking(operation: Operation) -> Taking
+    ensures { result ≡ terms.right_taking operation }
+{
+    match operation {
+        Operation::Compare { .. } => Taking::Short,
+        _ => Taking::Any,
+    }
+}
+
 // An operand that isn't a variable of the module.
 fn own(operand: Operand) -> Option<Operand>
     ensures { option_map view_operand result ≡ terms.own (Some (view_operand operand)) }
@@ -246,21 +278,63 @@ fn own(operand: Operand) -> Option<Operand>
     }
 }
 
-/// The leaf that a term is, which an instruction takes as it is: one that takes long, the function's own alone.
-pub(crate) fn taken(long: bool, term: Term<'_>) -> Option<Operand>
-    ensures { option_map view_operand result ≡ operands.taken long (view_term term.entry) }
+// Whether a number has at most 16 bits.
+fn is_short(number: i64) -> bool
+    ensures { result ≡ terms.is_short number }
+{
+    -32_768 <= number && number <= 32_767
+}
+
+// A short number.
+fn short_number(number: i64) -> Option<Operand>
+    ensures { option_map view_operand result ≡ terms.short (Some (slot.Number number)) }
+{
+    if is_short(number) {
+        Some(Operand::Number(number))
+    } else {
+        None
+    }
+}
+
+// An operand that isn't a variable of the module, and isn't a number of more than 16 bits.
+fn short(operand: Operand) -> Option<Operand>
+    ensures { option_map view_operand result ≡ terms.short (Some (view_operand operand)) }
+{
+    match operand {
+        Operand::In(Spot::Variable { .. }) => Some(operand),
+        Operand::In(Spot::Global { .. }) => None,
+        Operand::In(Spot::Temporary { .. }) => Some(operand),
+        Operand::In(Spot::Argument { .. }) => Some(operand),
+        Operand::Number(number) => short_number(number),
+    }
+}
+
+fn taken_by(taking: Taking, operand: Operand) -> Option<Operand>
+    ensures { option_map view_operand result ≡ terms.taken_by taking (Some (view_operand operand)) }
+{
+    match taking {
+        Taking::Any => Some(operand),
+        Taking::Own => own(operand),
+        Taking::Short => short(operand),
+    }
+}
+
+/// The leaf that a term is, which an instruction takes as it is.
+#[tactic(auto, using(crate::proofs::Leaves::none_taken))]
+pub(crate) fn taken(taking: Taking, term: Term<'_>) -> Option<Operand>
+    ensures { option_map view_operand result ≡ operands.taken taking (view_term term.entry) }
 {
     match leaf_of(term) {
         None => None,
-        Some(operand) => { if long { own(operand) } else { Some(operand) } }
+        Some(operand) => taken_by(taking, operand),
     }
 }
 
 /// The same, where it stands while another term is evaluated behind it.
-pub(crate) fn standing(long: bool, term: Term<'_>, behind: Term<'_>) -> Option<Operand>
-    ensures { option_map view_operand result ≡ operands.standing long (view_term term.entry) (view_term behind.entry) }
+pub(crate) fn standing(taking: Taking, term: Term<'_>, behind: Term<'_>) -> Option<Operand>
+    ensures { option_map view_operand result ≡ operands.standing taking (view_term term.entry) (view_term behind.entry) }
 {
-    match taken(long, term) {
+    match taken(taking, term) {
         None => None,
         Some(operand) => {
             if changes(operand, behind) {

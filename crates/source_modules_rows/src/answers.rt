@@ -10,7 +10,7 @@ use source_files::read_included;
 use source_modules::{ModuleFault, check_source};
 use std::alloc::{AllocError, Global};
 use std::mem::forget;
-use typed_part::is_part;
+use typed_part::runs;
 
 // What is told of a source with the texts that it includes.
 fn checked(
@@ -25,7 +25,7 @@ fn checked(
         Ok(checked) => {
             let told = if !checked.begins {
                 "45"
-            } else if is_part(&checked.module) {
+            } else if runs(&checked.module) {
                 "ok"
             } else {
                 "25"

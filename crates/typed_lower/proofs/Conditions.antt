@@ -22,7 +22,8 @@ use Rattle.slot_code.specs.Machine as machine
 use Rattle.slot_code.specs.Step as code_step
 use Rattle.slot_code.specs.Step.{compared_values}
 use Rattle.typed_lower.specs.Kinds.{kind_in, writes}
-use Rattle.typed_lower.specs.Terms.{Ready, part_of, ready, ready_before, branch, tested, compared as compared_code, kept}
+use Rattle.typed_lower.specs.declared.taking.Taking.TheVariants.{Own, Short}
+use Rattle.typed_lower.specs.Terms.{Ready, part_of, ready, ready_before, branch, tested, compared as compared_code, kept, taken_by, seen_by}
 use Rattle.typed_lower.specs.Stands as stands
 use Rattle.typed_lower.specs.Stands.{Fresh, HasAt, run_to, beside, sourced, coded, obeys, Bursts, Quiet, Stands, Going, Next}
 use Rattle.typed_lower.proofs.Contexts.{Context}
@@ -30,7 +31,7 @@ use Rattle.typed_lower.proofs.Places.{has_front, has_back, has_at, After, after_
 use Rattle.typed_lower.proofs.Operands.{Holds, a_value, Steps, applying, read_it, two_reads}
 use Rattle.typed_lower.proofs.Operands.{one_step, steps_then}
 use Rattle.typed_lower.proofs.Parts.{ValueGoes, BranchGoes, Decides, landing, Written, kept_goes, ready_goes, two_ready}
-use Rattle.typed_lower.proofs.Parts.{taken_alone}
+use Rattle.typed_lower.proofs.Parts.{taken_is, taken_alone}
 use Rattle.typed_lower.proofs.Values.{opposite_compared, test_holds, two_few}
 
 truth_holds : (b : Bool) → holds (Num (truth b)) ≡ b
@@ -158,14 +159,15 @@ module _ (routines : List Routine) (functions : List Function) (codes : List Ins
       → G g (within (Apply (operation.Compare x k) (MoreTerms a (MoreTerms b NoTerms))))
   compared_branch x k a b fresh goes_a goes_b wt d n within g cx has leads =
       let o = operation.Compare x k in
-      let A = ready_before d (part_of a) (part_of b) in
-      let C = ready (suc d) (part_of b) in
+      let A = ready_before d (seen_by Own (part_of a)) (seen_by Short (part_of b)) in
+      let C = ready (suc d) (seen_by Short (part_of b)) in
       let i = branch wt k x A.operand C.operand n in
       let W = Written routines functions codes (Apply o (MoreTerms a (MoreTerms b NoTerms))) in
       let end : suc (g.pc + length (A.before ++ C.before)) ≡ g.pc + length ((A.before ++ C.before) ++ i ∷ []) =
       omega (arith, length-append (A.before ++ C.before) (i ∷ [])) in
       two_ready routines functions codes (Apply o) o (λ vs v. Evaluated v) a b (applying routines functions codes o) fresh goes_a goes_b
-      (part_of a).leaf (part_of b).leaf (λ x e. e) (λ x e. e) (taken_alone false a b) d within cx g (has_front codes g.pc (A.before
+      (taken_by Own (part_of a).leaf) (taken_by Short (part_of b).leaf) (taken_is Own (part_of a).leaf) (taken_is Short (part_of b).leaf)
+      (taken_alone o a b) d within cx g (has_front codes g.pc (A.before
       ++ C.before) (i ∷ []) has) (λ g1 u v a1 h h2.
       branch_going wt k x A.operand C.operand n (Apply o (MoreTerms u (MoreTerms v NoTerms))) within g1
       (has_at codes _ _ (i ∷ []) (sym a1.place) (has_back codes g.pc (A.before ++ C.before) (i ∷ []) has)).0 (λ w.

@@ -1,5 +1,5 @@
 -- The code of operands leads to where they are read.
-use Rattle.std.proofs.Common.{◌≡◌, ℕ, suc, ◌+◌, Bool, true, false, List, [], ◌++◌, length, Option, Some, None, refl, sym, ap, ◌∙◌, subst}
+use Rattle.std.proofs.Common.{◌≡◌, ℕ, suc, ℤ, ◌+◌, Bool, true, false, List, [], ◌++◌, length, Option, Some, None, refl, sym, ap, ◌∙◌, subst}
 use Rattle.std.proofs.Common.{arith}
 use Rattle.std.proofs.Common.{length-append}
 use Rattle.std.proofs.lemmas.Bool.{false≢true}
@@ -8,6 +8,7 @@ use Rattle.std.specs.Prelude.{slice_index_or, not, ◌||◌, if◌then◌else◌
 use Rattle.process_model.specs.Alone.{here}
 use Rattle.limbo_values.specs.declared.number.Kind.{Kind}
 use Rattle.limbo_typed.specs.declared.operation.Operation.{Operation}
+use Rattle.limbo_typed.specs.declared.operation.Operation.TheVariants as operation
 use Rattle.system_model.specs.Values.{Value, Num, zero_value}
 use Rattle.typed_meaning.specs.Values.{number_of, kind_of, holds}
 use Rattle.typed_meaning.specs.World.{World}
@@ -21,7 +22,10 @@ use Rattle.limbo_types.specs.Types.{Ty}
 use Rattle.slot_code.specs.Code as code
 use Rattle.slot_code.specs.Machine.{Frame, value_of, put}
 use Rattle.typed_lower.specs.Kinds.{spot_at, leaf, is_leaf, changes, writes}
-use Rattle.typed_lower.specs.Terms.{Ready, part_of, ready, ready_of, unless_changed, kept, own, taken_by}
+use Rattle.typed_lower.specs.declared.taking.Taking.{Taking}
+use Rattle.typed_lower.specs.declared.taking.Taking.TheVariants.{Any, Own, Short}
+use Rattle.typed_lower.specs.Terms.{Ready, part_of, ready, ready_of, unless_changed, kept, own, is_short, short, taken_by, left_taking}
+use Rattle.typed_lower.specs.Terms.{right_taking}
 use Rattle.typed_lower.specs.Stands as stands
 use Rattle.typed_lower.specs.Stands.{Fresh, HasAt, beside, sourced, Quiet, Stands, Going}
 use Rattle.typed_lower.proofs.Contexts.{Context, stepped, within_hole, first_among, later_among, fresh_fill}
@@ -288,7 +292,7 @@ module _ (routines : List Routine) (functions : List Function) (codes : List Ins
     pub two_ready : (g : Frame) → HasAt codes g.pc (A.before ++ B.before) → Then A.before A.operand g → Goes g (two a b)
     two_ready g has on_it = two_by left_leaf refl g has on_it
 
--- ---- operands of an operation that takes long
+-- ---- operands that an operation takes as they are
 
 own_again : (l : Option Operand) (x : Operand) → own l ≡ Some x → own (Some x) ≡ Some x
 own_again (Some (In (code.Global k i))) x e = absurd (none-some x e)
@@ -306,11 +310,46 @@ own_is (Some (In (code.Temporary k i))) x e = e
 own_is (Some (In (code.Argument k i))) x e = e
 own_is (Some (Number z)) x e = e
 
-pub taken_is : (b : Bool) (l : Option Operand) (x : Operand) → taken_by b l ≡ Some x → l ≡ Some x
-taken_is true l x e = own_is l x e
-taken_is false l x e = e
+short_number : (b : Bool) (z : ℤ) (x : Operand) → (if b then Some (Number z) else None) ≡ Some x → Some (Number z) ≡ Some x
+short_number true z x e = e
+short_number false z x e = absurd (none-some x e)
 
-pub taken_alone : (c : Bool) (a b : Term) (x : Operand) → taken_by c (part_of a).leaf ≡ Some x → taken_by c (part_of b).leaf ≡ None
-    → Alone x b
-taken_alone true a b x e n = its_own (own_again (part_of a).leaf x e)
-taken_alone false a b x e n = no_leaf (sym (part_leaf b) ∙ n)
+short_is : (l : Option Operand) (x : Operand) → short l ≡ Some x → l ≡ Some x
+short_is (Some (In (code.Global k i))) x e = absurd (none-some x e)
+short_is None x e = absurd (none-some x e)
+short_is (Some (In (code.Variable k i))) x e = e
+short_is (Some (In (code.Temporary k i))) x e = e
+short_is (Some (In (code.Argument k i))) x e = e
+short_is (Some (Number z)) x e = short_number (is_short z) z x e
+
+short_own : (l : Option Operand) (x : Operand) → short l ≡ Some x → own (Some x) ≡ Some x
+short_own (Some (In (code.Global k i))) x e = absurd (none-some x e)
+short_own None x e = absurd (none-some x e)
+short_own (Some (In (code.Variable k i))) x e = ap own (sym e) ∙ e
+short_own (Some (In (code.Temporary k i))) x e = ap own (sym e) ∙ e
+short_own (Some (In (code.Argument k i))) x e = ap own (sym e) ∙ e
+short_own (Some (Number z)) x e = let f = short_number (is_short z) z x e in ap own (sym f) ∙ f
+
+pub taken_is : (y : Taking) (l : Option Operand) (x : Operand) → taken_by y l ≡ Some x → l ≡ Some x
+taken_is Any l x e = e
+taken_is Own l x e = own_is l x e
+taken_is Short l x e = short_is l x e
+
+-- Where the right operand is no leaf any more, the left one is the function's own, or the right one never was.
+alone_by : (y z : Taking) → (y ≡ Any → z ≡ Any) → (a b : Term) (x : Operand) → taken_by y (part_of a).leaf ≡ Some x
+    → taken_by z (part_of b).leaf ≡ None → Alone x b
+alone_by Any z any a b x e n =
+    no_leaf (sym (part_leaf b) ∙ subst (λ (u : Taking). taken_by u (part_of b).leaf ≡ None) (any refl) n)
+alone_by Own z any a b x e n = its_own (own_again (part_of a).leaf x e)
+alone_by Short z any a b x e n = its_own (short_own (part_of a).leaf x e)
+
+own_any : Own ≡ Any → ⊥
+own_any e = cc
+
+right_any : (o : Operation) → left_taking o ≡ Any → right_taking o ≡ Any
+right_any (operation.Compare y k) e = absurd (own_any e)
+right_any o e = refl
+
+pub taken_alone : (o : Operation) (a b : Term) (x : Operand) → taken_by (left_taking o) (part_of a).leaf ≡ Some x
+    → taken_by (right_taking o) (part_of b).leaf ≡ None → Alone x b
+taken_alone o a b x e n = alone_by (left_taking o) (right_taking o) (right_any o) a b x e n

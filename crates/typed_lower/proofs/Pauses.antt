@@ -20,7 +20,8 @@ use Rattle.slot_code.specs.Code.{Format}
 use Rattle.slot_code.specs.Code as code
 use Rattle.typed_lower.specs.Kinds.{leaf, makes_call, make_call, kind_in, kind_at, kind_given, spot_of}
 use Rattle.typed_lower.specs.Terms.{Part, part_of, parts_of, ready, ready_of, ready_before, unless_changed, kept, applied, branch, tested}
-use Rattle.typed_lower.specs.Terms.{takes_long, taken_by, seen_by}
+use Rattle.typed_lower.specs.declared.taking.Taking.TheVariants.{Own, Short}
+use Rattle.typed_lower.specs.Terms.{left_taking, right_taking, taken_by, seen_by}
 use Rattle.typed_lower.specs.Terms.{compared, connected, changed, first_put, all_put, made_ready, count}
 use Rattle.typed_lower.specs.Stands.{Fresh, AllFresh, is_silent, run_to}
 
@@ -217,17 +218,17 @@ pub one_value : (o : Operation) (a : Term) → CalmTree a → (calls : Bool) →
     → Values calls (applied o (part_of a ∷ []))
 one_value o a its calls e d s n t =
     calm_more n 0 3 _ (omega arith)
-    (one_calm a its (taken_by (takes_long o) (part_of a).leaf) d (part_of a).kind n (Alter o s (ready d (seen_by o
-    (part_of a))).operand) refl
+    (one_calm a its (taken_by (left_taking o) (part_of a).leaf) d (part_of a).kind n
+    (Alter o s (ready d (seen_by (left_taking o) (part_of a))).operand) refl
     (starts_left (makes_call a) false n (subst (λ b. Starts b n) e t)))
 
 pub two_value : (o : Operation) (a b : Term) → CalmTree a → CalmTree b → (calls : Bool) → calls ≡ (makes_call a || (makes_call b || false))
     → Values calls (applied o (part_of a ∷ part_of b ∷ []))
 two_value o a b ia ib calls e d s n t =
     calm_more n 0 3 _ (omega arith)
-    (two_calm a b ia ib (taken_by (takes_long o) (part_of a).leaf) (taken_by (takes_long o) (part_of b).leaf) d n
-    (Operate o s (ready_before d (seen_by o (part_of a)) (seen_by o (part_of b))).operand (ready (suc d) (seen_by o
-    (part_of b))).operand) refl
+    (two_calm a b ia ib (taken_by (left_taking o) (part_of a).leaf) (taken_by (right_taking o) (part_of b).leaf) d n
+    (Operate o s (ready_before d (seen_by (left_taking o) (part_of a)) (seen_by (right_taking o) (part_of b))).operand
+    (ready (suc d) (seen_by (right_taking o) (part_of b))).operand) refl
     (starts_two (makes_call a) (makes_call b) n (subst (λ x. Starts x n) e t)))
 
 one_branches : (o : Operation) (a : Term) (calls : Bool) → Values calls (applied o (part_of a ∷ [])) → (w : Bool) (d m n : ℕ)
@@ -241,8 +242,9 @@ two_branches : (o : Operation) (a b : Term) → CalmTree a → CalmTree b → (c
     → Values calls (applied o (part_of a ∷ part_of b ∷ [])) → (w : Bool) (d m n : ℕ) → Starts calls n
     → Calm n 0 (compared o (part_of a ∷ part_of b ∷ []) (kind_given o) (applied o (part_of a ∷ part_of b ∷ [])) w d m)
 two_branches (operation.Compare x k) a b ia ib calls e v w d m n s =
-    two_calm a b ia ib (part_of a).leaf (part_of b).leaf d n (branch w k x (ready_before d (part_of a) (part_of b)).operand (ready
-    (suc d) (part_of b)).operand m)
+    let p = seen_by Own (part_of a) in
+    let q = seen_by Short (part_of b) in
+    two_calm a b ia ib p.leaf q.leaf d n (branch w k x (ready_before d p q).operand (ready (suc d) q).operand m)
     (branch_loud w k x _ _ m) (starts_two (makes_call a) (makes_call b) n (subst (λ y. Starts y n) e s))
 two_branches o a b ia ib calls e v w d m n s =
     plain_branches calls (applied o (part_of a ∷ part_of b ∷ [])) v None (kind_given o) w d m n s

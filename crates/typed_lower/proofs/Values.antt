@@ -26,7 +26,7 @@ use Rattle.slot_code.specs.Code as code
 use Rattle.slot_code.specs.Machine.{Frame, moved, stored, value_of}
 use Rattle.slot_code.specs.Step.{compared_values}
 use Rattle.typed_lower.specs.Kinds.{spot_of, writes, is_at, kind_at}
-use Rattle.typed_lower.specs.Terms.{part_of, ready, ready_before, applied, opposite, takes_long, taken_by, seen_by}
+use Rattle.typed_lower.specs.Terms.{part_of, ready, ready_before, applied, opposite, left_taking, right_taking, taken_by, seen_by}
 use Rattle.typed_lower.specs.Stands as stands
 use Rattle.typed_lower.specs.Stands.{Fresh, AllFresh, IsOne, HasAt, beside, sourced, coded, obeys, Bursts, Stands, Going, Next}
 use Rattle.typed_lower.proofs.Contexts.{Context, within_hole, in_store, first_among}
@@ -157,9 +157,10 @@ module _ (routines : List Routine) (functions : List Function) (codes : List Ins
       → Context routines within → HasAt codes g.pc (applied o (part_of a ∷ []) d s)
       → Becomes become s within written d (g.pc + length (applied o (part_of a ∷ []) d s)) g → G g (within (whole (MoreTerms a NoTerms)))
   applied_one whole o become a its goes written few d s within g cx has arrives =
-      let r = ready d (seen_by o (part_of a)) in
+      let y = left_taking o in
+      let r = ready d (seen_by y (part_of a)) in
       let hole = its.holes (λ t. MoreTerms t NoTerms) (first_among NoTerms (no_terms)) in
-      ready_by routines functions codes a goes (taken_by (takes_long o) (part_of a).leaf) (taken_is (takes_long o) (part_of a).leaf) d
+      ready_by routines functions codes a goes (taken_by y (part_of a).leaf) (taken_is y (part_of a).leaf) d
       (λ t. within (whole (MoreTerms t NoTerms))) g (within_hole routines within _ cx hole)
       (has_front codes g.pc r.before (Alter o s r.operand ∷ []) has) (λ g1 u a1 h.
       one_going routines functions codes whole o become s r.operand u within g1 its cx h
@@ -175,13 +176,14 @@ module _ (routines : List Routine) (functions : List Function) (codes : List Ins
       → Becomes become s within written d (g.pc + length (applied o (part_of a ∷ part_of b ∷ []) d s)) g
       → G g (within (whole (MoreTerms a (MoreTerms b NoTerms))))
   applied_two whole o become a b its fresh goes_a goes_b written few d s within g cx has arrives =
-      let A = ready_before d (seen_by o (part_of a)) (seen_by o (part_of b)) in
-      let B = ready (suc d) (seen_by o (part_of b)) in
+      let y = left_taking o in
+      let z = right_taking o in
+      let A = ready_before d (seen_by y (part_of a)) (seen_by z (part_of b)) in
+      let B = ready (suc d) (seen_by z (part_of b)) in
       let i = code.Operate o s A.operand B.operand in
       let l = length-append (A.before ++ B.before) (i ∷ []) in
-      two_ready routines functions codes whole o become a b its fresh goes_a goes_b (taken_by (takes_long o) (part_of a).leaf)
-      (taken_by (takes_long o) (part_of b).leaf) (taken_is (takes_long o) (part_of a).leaf) (taken_is (takes_long o) (part_of b).leaf)
-      (taken_alone (takes_long o) a b) d within cx g
+      two_ready routines functions codes whole o become a b its fresh goes_a goes_b (taken_by y (part_of a).leaf)
+      (taken_by z (part_of b).leaf) (taken_is y (part_of a).leaf) (taken_is z (part_of b).leaf) (taken_alone o a b) d within cx g
       (has_front codes g.pc (A.before ++ B.before) (i ∷ []) has) (λ g1 u v a1 h h2.
       two_going routines functions codes whole o become s A.operand B.operand u v within g1 its cx h h2
       (has_at codes _ _ (i ∷ []) (sym a1.place) (has_back codes g.pc (A.before ++ B.before) (i ∷ []) has)).0

@@ -1,6 +1,7 @@
 -- The code of expressions: it evaluates a tree and leaves its value at a place. Temporaries are used from one on; what stands below it is
 -- in use.
-use Rattle.std.specs.Prelude.{ℕ, suc, pos, ◌+◌, Bool, true, false, List, [], ◌∷◌, ◌++◌, length, Option, Some, None, if◌then◌else◌}
+use Rattle.std.specs.Prelude.{ℕ, suc, ℤ, pos, negsuc, ◌+◌, Bool, true, false, ◌&&◌, int_le, List, [], ◌∷◌, ◌++◌, length, Option, Some, None}
+use Rattle.std.specs.Prelude.{if◌then◌else◌}
 use Rattle.limbo_values.specs.declared.number.Kind.{Kind}
 use Rattle.limbo_values.specs.declared.number.Kind.TheVariants.{Byte, Int, Big}
 use Rattle.limbo_values.specs.declared.operator.Comparison.{Comparison}
@@ -18,6 +19,8 @@ use Rattle.slot_code.specs.Code.{Spot, Variable, Temporary, Argument, Operand, I
 use Rattle.slot_code.specs.Code.{Begin}
 use Rattle.slot_code.specs.Code.{Format}
 use Rattle.slot_code.specs.Code as code
+use Rattle.typed_lower.specs.declared.taking.Taking.{Taking}
+use Rattle.typed_lower.specs.declared.taking.Taking.TheVariants.{Any, Own, Short}
 use Rattle.typed_lower.specs.Kinds.{kind_in, kind_at, kind_given, spot_of, leaf, makes_call, changes}
 
 -- What an operand needs before it is there, and the operand.
@@ -76,8 +79,7 @@ unless_changed d p None changes = kept d p.kind p.value
 abbrev pub ready_before : ℕ → Part → Part → Ready
 ready_before d p q = unless_changed d p p.leaf q.changes
 
--- An operation of which one instruction of a machine reads the operands and a later one writes the result. Its operands are the function's
--- own: a variable of the module, which anybody may write meanwhile, is read first.
+-- An operation of which one instruction of a machine reads the operands and a later one writes the result.
 abbrev pub takes_long : Operation → Bool
 takes_long (operation.Compare x k) = true
 takes_long operation.Not = true
@@ -85,22 +87,54 @@ takes_long (operation.Convert Byte Big) = true
 takes_long (operation.Convert Big Byte) = true
 takes_long o = false
 
+-- Such an operation takes what is the function's own: a variable of the module, which anybody may write meanwhile, is read first.
 abbrev pub own : Option Operand → Option Operand
 own (Some (In (code.Global k x))) = None
 own l = l
 
-abbrev pub taken_by : Bool → Option Operand → Option Operand
-taken_by true l = own l
-taken_by false l = l
+-- A machine's instruction on three operands holds a number of at most 16 bits as the one in the middle, and reaches no variable far away by
+-- it. So that operand is the function's own, or a short number.
+abbrev pub is_short : ℤ → Bool
+is_short z = int_le (negsuc 32767) z && int_le z (pos 32767)
 
-abbrev pub seen_by : Operation → Part → Part
-seen_by o p = record p { leaf = taken_by (takes_long o) p.leaf }
+abbrev pub short : Option Operand → Option Operand
+short (Some (In (code.Global k x))) = None
+short (Some (Number z)) = if is_short z then Some (Number z) else None
+short l = l
+
+-- What an instruction takes as it is, of an operand that is a leaf.
+abbrev pub taken_by : Taking → Option Operand → Option Operand
+taken_by Any l = l
+taken_by Own l = own l
+taken_by Short l = short l
+
+abbrev pub long_taking : Bool → Taking
+long_taking true = Own
+long_taking false = Any
+
+-- How an operation takes its left operand, or its only one, and its right one. The left one stands in the middle, but of a comparison the
+-- right one. Where what stands in the middle is read first, so is what is left of it: it is the function's own too.
+abbrev pub left_taking : Operation → Taking
+left_taking (operation.Arithmetic x k) = Short
+left_taking (operation.Shift s k) = Short
+left_taking o = long_taking (takes_long o)
+
+abbrev pub right_taking : Operation → Taking
+right_taking (operation.Compare x k) = Short
+right_taking o = Any
+
+abbrev pub seen_by : Taking → Part → Part
+seen_by y p = record p { leaf = taken_by y p.leaf }
+
+-- What an instruction on two operands takes.
+abbrev pub two_taken : Operation → ℕ → Part → Part → (Operand → Operand → Inst) → List Inst
+two_taken o d p q last =
+    two (ready_before d (seen_by (left_taking o) p) (seen_by (right_taking o) q)) (ready (suc d) (seen_by (right_taking o) q)) last
 
 -- What an operation gives.
 abbrev pub applied : Operation → List Part → ℕ → Spot → List Inst
-applied o (p ∷ []) d s = one (ready d (seen_by o p)) (λ x. Alter o s x)
-applied o (p ∷ q ∷ []) d s =
-    two (ready_before d (seen_by o p) (seen_by o q)) (ready (suc d) (seen_by o q)) (λ x y. Operate o s x y)
+applied o (p ∷ []) d s = one (ready d (seen_by (left_taking o) p)) (λ x. Alter o s x)
+applied o (p ∷ q ∷ []) d s = two_taken o d p q (λ x y. Operate o s x y)
 applied o ps d s = []
 
 -- A value is tested, and so is a comparison, which needs no value.
@@ -108,8 +142,7 @@ abbrev pub tested : Bool → Kind → Ready → (passes : ℕ) → List Inst
 tested w k x n = one x (λ x. branch w k c.Unequal x (Number (pos 0)) n)
 
 abbrev pub compared : Operation → List Part → Kind → (ℕ → Spot → List Inst) → Bool → ℕ → (passes : ℕ) → List Inst
-compared (operation.Compare o j) (p ∷ q ∷ []) k value w d n =
-    two (ready_before d p q) (ready (suc d) q) (λ x y. branch w j o x y n)
+compared (operation.Compare o j) (p ∷ q ∷ []) k value w d n = two_taken (operation.Compare o j) d p q (λ x y. branch w j o x y n)
 compared o ps k value w d n = tested w k (kept d k value) n
 
 -- `&&` passes where the left operand doesn't hold, and `||` where it does: to where control passes if that decides so, and else behind the

@@ -13,5 +13,7 @@
 #![tactic(auto)]
 
 mod laws;
+mod taking;
 
 pub use laws::code_keeps;
+pub use taking::Taking;

@@ -18,14 +18,15 @@ abbrev Boxed : Type 0
 Boxed = Box code_expr.TExpr Global
 
 abbrev pub is_print_of : Inside → Ty → List Piece → tree.Exprs → Bool
-is_print_of i t ps es = part.are_exprs i es && part.are_printed ps (types_of es) && part.is_of kind.Int t
+is_print_of i t ps es = part.are_exprs i es && part.are_printed ps (types_of es) && (part.is_of kind.Int t && part.is_format ps)
 
 module _ (i : Inside) (t : Ty) (n : code_node.TNode) (w : Printed) (m : Boxed) (file : Option Boxed) (ps : Vec Piece Global)
     (es : Vec code_expr.TExpr Global) where
   -- with another answer of whether it goes through the module's variable
   abbrev with : Bool → Bool
   with b =
-      b && part.are_exprs i (view_exprs es.items) && part.are_printed ps.items (types_of (view_exprs es.items)) && part.is_of kind.Int t
+      b && part.are_exprs i (view_exprs es.items) && part.are_printed ps.items (types_of (view_exprs es.items))
+      && (part.is_of kind.Int t && part.is_format ps.items)
 
   node_is : (b : Bool) → n ≡ make.Print w m file ps es → b ≡ part.prints i w (view_expr m.value) (view_optional file)
       → with b ≡ part.is_node i t (view_node n)

@@ -1,8 +1,11 @@
--- Which checked modules are in the part of the language that runs: functions over bytes, ints and bigs, with all that is done with numbers,
+-- Which checked modules are in the part of the language that the compiler takes, and which of these run: functions over bytes, ints and bigs, with all that is done with numbers,
 -- and prints on the standard output. The types that the checker gave are looked at again where the code depends on them.
-use Rattle.std.specs.Prelude.{ℕ, suc, nat_eq, nat_lt, ◌&&◌, ◌||◌, Bool, true, false, not, List, [], ◌∷◌, map, codes}
+use Rattle.std.specs.Prelude.{ℕ, suc, ◌+◌, nat_eq, nat_lt, nat_le, ◌&&◌, ◌||◌, Bool, true, false, not, List, [], ◌∷◌, map, codes}
+use Rattle.std.specs.Prelude.{if◌then◌else◌}
 use Rattle.std.specs.Prelude.{Option, None, Some, slice_get}
 use Rattle.std.specs.Cmp.Lexicographic.{pointwise}
+use lib.Utf8.{scalar as is_scalar}
+use Rattle.limbo_values.specs.Texts.{longest}
 use Rattle.limbo_values.specs.declared.number.Kind.{Kind}
 use Rattle.limbo_values.specs.declared.number.Kind.TheVariants as kind
 use Rattle.limbo_types.specs.Types.{Ty, Nothing, Tuple, Adt, Nil}
@@ -142,6 +145,30 @@ are_printed (piece.Chars s ∷ ps) ts = are_printed ps ts
 are_printed (piece.Hole h ∷ ps) [] = false
 are_printed (piece.Hole h ∷ ps) (t ∷ ts) = some_is (λ k. is_of k t) (hole_kind h) && are_printed ps ts
 
+-- How many characters the text of a format has: `%` is written twice where it stands for itself. That is a string, so there are at most
+-- 16,777,216.
+abbrev pub written_size : List ℕ → ℕ
+written_size [] = 0
+written_size (c ∷ cs) = (if nat_eq c 37 then 2 else 1) + written_size cs
+
+abbrev pub hole_size : Hole → ℕ
+hole_size (hole.Decimal kind.Big) = 3
+hole_size (hole.Decimal k) = 2
+hole_size hole.Character = 2
+hole_size hole.Hexadecimal = 2
+hole_size h = 0
+
+abbrev pub piece_size : Piece → ℕ
+piece_size (piece.Chars cs) = written_size cs
+piece_size (piece.Hole h) = hole_size h
+
+abbrev pub format_size : List Piece → ℕ
+format_size [] = 0
+format_size (p ∷ ps) = piece_size p + format_size ps
+
+abbrev pub is_format : List Piece → Bool
+is_format ps = nat_le (format_size ps) longest
+
 abbrev pub is_print : Printed → Bool
 is_print printed.Print = true
 is_print _ = false
@@ -199,7 +226,7 @@ abbrev mutual
   is_node i t (typed.Step o g p) = is_place i p && gives o (type_at p ∷ []) (type_at p) && are_alike t (type_at p)
   is_node i t (typed.Call f es) = are_exprs i es && calls i f (types_of es) t
   is_node i t (typed.Print w m file ps es) =
-      prints i w m file && are_exprs i es && are_printed ps (types_of es) && is_of kind.Int t
+      prints i w m file && are_exprs i es && are_printed ps (types_of es) && (is_of kind.Int t && is_format ps)
   is_node i t _ = false
 
   pub are_exprs : Inside → typed.Exprs → Bool
@@ -336,8 +363,20 @@ is_function m f = is_plain f && are_stmts (inside m f) 0 f.body
 abbrev pub is_initial : Initial → Bool
 is_initial i = elim i.value [ constant.Number n ↦ true | constant.Chars s ↦ false ]
 
--- The module is in the part of the language that runs.
+-- A name of a source: Unicode characters, none of which is 0.
+abbrev pub is_letter : ℕ → Bool
+is_letter c = is_scalar c && not (nat_eq c 0)
+
+abbrev pub is_name : List ℕ → Bool
+is_name cs = all is_letter cs
+
+-- The module is in the part of the language that the compiler takes.
 abbrev pub is_part : typed.Module → Bool
-is_part m =
-    all is_word (types_in m.globals) && all is_initial m.initials && not (is_none (init_in m.functions))
-    && all (is_function m) m.functions
+is_part m = all is_word (types_in m.globals) && all is_initial m.initials && is_name m.name && all (is_function m) m.functions
+
+-- It has a function with which it begins, so it runs.
+abbrev pub has_init : typed.Module → Bool
+has_init m = not (is_none (init_in m.functions))
+
+abbrev pub runs : typed.Module → Bool
+runs m = is_part m && has_init m

@@ -1,6 +1,6 @@
 //! What calls and prints take.
 
-ghost use Rattle.std.specs.Prelude.{◌≡◌, map};
+ghost use Rattle.std.specs.Prelude.{◌≡◌, ◌≤◌, ◌*◌, length, nat_le, map};
 ghost use Rattle.limbo_types.specs.View.{view_ty};
 ghost use Rattle.limbo_typed.specs.Sound.{types_of};
 ghost use Rattle.limbo_typed.specs.View as typed;
@@ -76,6 +76,60 @@ pub(crate) fn are_printed(pieces: &[Piece], es: &[TExpr]) -> bool
             },
         },
     }
+}
+
+// How many characters these are as they are written in a format.
+fn written_size(chars: &[char]) -> usize
+    ensures size { result ≡ part.written_size chars.now }
+    ensures few { result ≤ 2 * length chars.now }
+{
+    let mut size = 0;
+    for c in chars {
+        size += if *c == '%' { 2 } else { 1 };
+    }
+    size
+}
+
+fn hole_size(hole: Hole) -> usize
+    ensures { result ≡ part.hole_size hole }
+{
+    match hole {
+        Hole::Decimal(Kind::Big) => 3,
+        Hole::Decimal(_) => 2,
+        Hole::Character => 2,
+        Hole::Hexadecimal => 2,
+        _ => 0,
+    }
+}
+
+fn piece_size(piece: &Piece) -> usize
+    ensures { result ≡ part.piece_size piece.now }
+{
+    match piece {
+        Piece::Chars(chars) => written_size(chars.as_slice()),
+        Piece::Hole(hole) => hole_size(*hole),
+    }
+}
+
+// Whether the text of a format has at most so many characters.
+#[tactic(auto, using(crate::proofs::Sizes::one_more, crate::proofs::Sizes::nothing_fits))]
+fn has_room(pieces: &[Piece], most: usize) -> bool
+    ensures { result ≡ nat_le (part.format_size pieces.now) most }
+{
+    match pieces.split_first() {
+        None => true,
+        Some((piece, more)) => {
+            let size = piece_size(piece);
+            size <= most && has_room(more, most - size)
+        }
+    }
+}
+
+/// Whether the text of a format is a string.
+pub(crate) fn is_format(pieces: &[Piece]) -> bool
+    ensures { result ≡ part.is_format pieces.now }
+{
+    has_room(pieces, 16_777_216)
 }
 
 fn is_print(printed: Printed) -> bool

@@ -8,7 +8,7 @@ ghost use Rattle.limbo_typed.specs.View as typed;
 ghost use Rattle.typed_part.specs.Part as part;
 ghost use Rattle.typed_part.specs.Seen.{view_inside};
 
-use crate::calls::{are_printed, calls, prints};
+use crate::calls::{are_printed, calls, is_format, prints};
 use crate::inside::Inside;
 use crate::kinds::{are_alike, is_number, is_of};
 use crate::operations::{gives, gives_of_one, gives_of_two};
@@ -102,9 +102,12 @@ fn is_call(inside: Inside, t: &Ty, function: u32, args: &[TExpr]) -> bool
 #[cycle(expressions)]
 fn is_print_of(inside: Inside, t: &Ty, format: &[Piece], args: &[TExpr]) -> bool
     ensures { result ≡ (part.are_exprs (view_inside inside.entry) (typed.view_exprs args.now)
-        && part.are_printed format.now (types_of (typed.view_exprs args.now)) && part.is_of kind.Int (view_ty t.now)) }
+        && part.are_printed format.now (types_of (typed.view_exprs args.now))
+        && (part.is_of kind.Int (view_ty t.now) && part.is_format format.now)) }
 {
-    are_exprs(inside, args) && are_printed(format, args) && is_of(Kind::Int, t)
+    are_exprs(inside, args)
+        && are_printed(format, args)
+        && (is_of(Kind::Int, t) && is_format(format))
 }
 
 // Expressions, each in the part.

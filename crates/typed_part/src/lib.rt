@@ -2,7 +2,8 @@
 //!
 //! The checker checks the whole language; the meaning of modules, and the compiler's passes that keep it, take this part of it so far.
 //! `specs/Part.antt` says which checked modules are in it, by tests that go down the trees and look at the types again where the code
-//! depends on them. `is_part` tells that of a module as it lies in memory; its contract cites the definition, and it builds nothing. The
+//! depends on them. `is_part` tells that of a module as it lies in memory, and `runs` whether it also has a function with which it begins;
+//! their contracts cite the definitions, and they build nothing. The
 //! law `part_has_code` joins the definition with the compiler: all that stands in the functions of such a module has code, which is what
 //! the law of the first pass asks of a module.
 //!
@@ -23,4 +24,4 @@ mod places;
 mod statements;
 
 pub use laws::part_has_code;
-pub use modules::is_part;
+pub use modules::{is_part, runs};

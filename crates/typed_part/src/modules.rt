@@ -28,12 +28,31 @@ fn are_initials(initials: &[Initial]) -> bool
     true
 }
 
-/// Whether a checked module is in the part of the language that runs.
+// Whether none of these characters is 0.
+fn is_name(chars: &[char]) -> bool
+    ensures { result ≡ part.is_name chars.now }
+{
+    for c in chars {
+        if *c == '\0' {
+            return false;
+        }
+    }
+    true
+}
+
+/// Whether a checked module is in the part of the language that the compiler takes.
 pub fn is_part(module: &TypedModule) -> bool
     ensures { result ≡ part.is_part (typed.view_module module.now) }
 {
     are_words(&module.globals)
         && are_initials(&module.initials)
-        && has_init(&module.functions)
+        && is_name(module.name.as_slice())
         && are_functions(module)
+}
+
+/// Whether it also has a function with which it begins, so that it runs.
+pub fn runs(module: &TypedModule) -> bool
+    ensures { result ≡ part.runs (typed.view_module module.now) }
+{
+    is_part(module) && has_init(&module.functions)
 }

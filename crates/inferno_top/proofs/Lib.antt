@@ -1,0 +1,12 @@
+mod Begins
+mod Programs
+mod Causes
+mod Dumped
+mod Exact
+mod Faults
+mod Runs
+mod Sources
+mod Starts
+mod Trees
+mod Endings
+mod Compiled
