@@ -64,14 +64,24 @@ fn number(digits: &str) -> u64 {
     digits.parse::<u64>().unwrap_or(0)
 }
 
-// The text so many times, as `COUNT TEXT` has it.
-fn repeated(alloc: Global, rest: &str) -> Result<Vec<u8>, AllocError> {
+// The text so many times, as `COUNT TEXT` has it, with the number of the time for a `§`.
+fn repeated(alloc: Global, rest: &str) -> Result<String, AllocError> {
     let (count, piece) = rest.split_once(' ').unwrap_or((rest, ""));
-    let mut bytes = Vec::new(alloc);
-    for _ in 0..number(count) {
-        bytes.extend_from_slice(piece.as_bytes())?;
+    let mut text = String::new(alloc);
+    for time in 0..number(count) {
+        let (before, behind) = piece.split_once('§').unwrap_or((piece, ""));
+        text.push_str(before)?;
+        if before.len() < piece.len() {
+            text.push_str(format!(in alloc; "{time}{behind}")?.as_str())?;
+        }
     }
-    Ok(bytes)
+    Ok(text)
+}
+
+// The source whose `init` declares so many variables, as `COUNT DECLARATION` has it.
+fn declaring(alloc: Global, rest: &str) -> Result<String, AllocError> {
+    let declarations = repeated(alloc, rest)?;
+    format!(in alloc; "{BEFORE}{BETWEEN}{declarations} }}")
 }
 
 impl Case {
@@ -103,10 +113,14 @@ impl Case {
         let (path, rest) = rest.split_once(' ').unwrap_or((rest, ""));
         let bytes = match kind {
             "bytes" => hex::decode(alloc, rest).unwrap_or(Vec::new(alloc)),
-            "many" => repeated(alloc, rest)?,
+            "many" => Vec::from_slice(alloc, repeated(alloc, rest)?.as_bytes())?,
             _ => bytes_of(alloc, rest)?,
         };
         self.list(alloc, path, bytes)
+    }
+
+    fn source(&mut self, alloc: Global, source: String) -> Result<(), AllocError> {
+        self.list(alloc, "hello.b", Vec::from_slice(alloc, source.as_bytes())?)
     }
 
     // A port's call that fails.
@@ -124,10 +138,8 @@ impl Case {
     fn set(&mut self, alloc: Global, kind: &str, rest: &str) -> Result<(), AllocError> {
         self.begin(alloc);
         match kind {
-            "program" => {
-                let source = program(alloc, rest)?;
-                self.list(alloc, "hello.b", Vec::from_slice(alloc, source.as_bytes())?)?;
-            }
+            "program" => self.source(alloc, program(alloc, rest)?)?,
+            "declares" => self.source(alloc, declaring(alloc, rest)?)?,
             "fails" => self.fail(rest),
             "room" => self.plan.room = usize::try_from(number(rest)).unwrap_or(ROOM),
             "bytewise" => self.plan.is_bytewise = true,

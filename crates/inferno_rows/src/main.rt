@@ -5,8 +5,9 @@
 //!
 //! - `file PATH TEXT`: at PATH stands TEXT, in which `¶` is a newline and `→` a tab;
 //! - `bytes PATH DIGITS`: at PATH stand these bytes, in hexadecimal;
-//! - `many PATH COUNT TEXT`: at PATH stands TEXT so many times;
+//! - `many PATH COUNT TEXT`: at PATH stands TEXT so many times, with the number of the time, counted from 0, for a `§` in it;
 //! - `program FUNCTIONS ~ STATEMENTS`: at hello.b stands a program with these functions and these statements in its `init`;
+//! - `declares COUNT TEXT`: at hello.b stands a program whose `init` has TEXT so many times, as in `many`;
 //! - `fails PORT CALL`: the call of this number fails, counted from 0, of `files`, `out` or `err`;
 //! - `room COUNT`: `out` takes so many bytes; `bytewise`: it takes one byte at a time; `journal`: the journal is told too;
 //! - `$ WORDS`: the command.
