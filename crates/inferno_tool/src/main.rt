@@ -13,6 +13,7 @@ use inferno_top::{Cause, close, inferno};
 use std::alloc::{AllocError, Global};
 use std::env::Args;
 use std::io::ErrorKind;
+use std::mem::forget;
 use std::process::ExitCode;
 use std::{env, io};
 
@@ -68,7 +69,11 @@ fn main(rt: HostRuntime) -> ExitCode {
     let status = match given_words(rt.alloc(), env::args(&rt)) {
         Ok(words) => {
             let mut files = StdTree::new(&rt);
-            inferno(rt.alloc(), &words, &mut files, &mut out, &mut err).status
+            let ended = inferno(rt.alloc(), &words, &mut files, &mut out, &mut err);
+            let status = ended.status;
+            // The program ends here, so its journal and objects aren't let go one by one.
+            forget(ended);
+            status
         }
         Err(cause) => close(rt.alloc(), cause, None, &mut err).status(),
     };
