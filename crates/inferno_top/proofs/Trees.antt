@@ -10,7 +10,7 @@ use Rattle.limbo_parser.proofs.Trees.{one_tree}
 use Rattle.limbo_typed.specs.Typed.{Module}
 use Rattle.source_names.specs.Included.{AreTold}
 use Rattle.limbo_entries.specs.Entries.{Entry}
-use Rattle.limbo_modules.specs.First.{DeclaresInit}
+use Rattle.source_modules.specs.limbo_modules.First.{DeclaresInit}
 use Rattle.source_modules.specs.Checked.{IsFirst, IsOther}
 use Rattle.source_modules.specs.Laws.{OneChecked, FailsOrChecked}
 use Rattle.declared_signs.specs.Laws.{NotBoth}

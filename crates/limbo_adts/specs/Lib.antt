@@ -5,3 +5,4 @@ pub mod Table
 pub mod Seen
 pub mod Searching
 pub mod Laws
+pub use Rattle.limbo_layout.specs as limbo_layout

@@ -1,2 +1,3 @@
 pub mod Allowed
 pub mod Choosing
+pub use Rattle.limbo_adts.specs as limbo_adts

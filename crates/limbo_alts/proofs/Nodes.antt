@@ -11,9 +11,9 @@ use Rattle.limbo_typed.specs.Typed.{Of, Pattern}
 use Rattle.limbo_typed.specs.View.{pattern_step, place_node_step, node_step, item_step, place_step, expr_step}
 use Rattle.limbo_typed.specs.View.{view_pattern, view_place_node, view_node, view_item, view_place, view_expr, view_optional}
 use Rattle.limbo_typed.proofs.View.{view_expr-out, view_node-Assign, view_node-Send, view_node-Receive}
-use Rattle.limbo_stating.specs.Reasons as reasons
-use Rattle.limbo_stating.specs.Reasons.{Reason}
-use Rattle.limbo_stating.specs.Alts.{waits_for}
+use Rattle.limbo_stmt_values.specs.limbo_stating.Reasons as reasons
+use Rattle.limbo_stmt_values.specs.limbo_stating.Reasons.{Reason}
+use Rattle.limbo_stmt_values.specs.limbo_stating.Alts.{waits_for}
 use Rattle.limbo_stmt_values.specs.Whys.{FailsFor}
 use Rattle.limbo_stmt_values.specs.declared.fault.Why.{Why}
 use Rattle.limbo_stmt_values.specs.declared.fault.Why.TheVariants as why

@@ -2,7 +2,7 @@
 
 ghost use Rattle.std.specs.Prelude.{◌≡◌, option_map};
 ghost use Rattle.limbo_typed.specs.View.{view_expr, view_pattern, view_alt_head};
-ghost use Rattle.limbo_stating.specs.Alts as alts;
+ghost use Rattle.limbo_stmt_values.specs.limbo_stating.Alts as alts;
 ghost use Rattle.limbo_alts.specs.Assigned.{received_to};
 
 use limbo_typed::{AltHead, Pattern, TExpr, TNode};

@@ -2,7 +2,7 @@
 
 ghost use Rattle.std.specs.Prelude.{◌≡◌};
 ghost use Rattle.limbo_tree.specs.View as source;
-ghost use Rattle.limbo_stating.specs.Alts as alts;
+ghost use Rattle.limbo_stmt_values.specs.limbo_stating.Alts as alts;
 
 use limbo_tree::{AssignOp, Expr, assign_in, received_in};
 

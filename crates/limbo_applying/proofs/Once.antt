@@ -6,7 +6,7 @@ use Rattle.limbo_types.specs.Types.{Nothing, Adt}
 use Rattle.limbo_typed.specs.Typed.{Expr, Exprs, Optional, Absent, Interface, Signature}
 use Rattle.limbo_refusals.specs.Refusals.{Refusal, Clash, NoneIs}
 use Rattle.limbo_context.specs.Context.{Context, Callee}
-use Rattle.limbo_arguments.specs.Failing.{FailsEach}
+use Rattle.limbo_calls.specs.limbo_arguments.Failing.{FailsEach}
 use Rattle.limbo_calls.specs.Calls.{Calls, CallsThrough}
 use Rattle.limbo_calls.specs.Refusing.{RefusesThrough}
 use Rattle.limbo_calls.proofs.Calls.{one_call, one_through, one_construct}

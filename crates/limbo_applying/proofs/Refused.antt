@@ -11,8 +11,8 @@ use Rattle.limbo_typed.specs.View.{view_expr}
 use Rattle.limbo_refusals.specs.declared.fault.ExprFault.{ExprFault}
 use Rattle.limbo_refusals.specs.Refusals.{Clash, Refuses, NoneIs}
 use Rattle.limbo_context.specs.Context.{Context, Callee}
-use Rattle.limbo_arguments.specs.Failing.{FailsEach}
-use Rattle.limbo_arguments.proofs.Faults.{refuses_weaker}
+use Rattle.limbo_calls.specs.limbo_arguments.Failing.{FailsEach}
+use Rattle.limbo_calls.proofs.limbo_arguments_lemmas.Faults.{refuses_weaker}
 use Rattle.limbo_calls.specs.Calls.{Calls, CallsThrough, Constructs}
 use Rattle.limbo_calls.specs.Refusing.{RefusesThrough, RefusesConstruct}
 use Rattle.limbo_things.specs.Things.{Thing, AValue, AType, AVariant}

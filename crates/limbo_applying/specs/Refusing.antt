@@ -4,7 +4,7 @@ use Rattle.limbo_types.specs.Types.{Nothing, Adt}
 use Rattle.limbo_typed.specs.Typed.{Expr, Exprs, Optional, Absent, Signature}
 use Rattle.limbo_refusals.specs.Refusals.{Refusal, Clash, NoneIs}
 use Rattle.limbo_context.specs.Context.{Context, Callee}
-use Rattle.limbo_arguments.specs.Failing.{FailsEach}
+use Rattle.limbo_calls.specs.limbo_arguments.Failing.{FailsEach}
 use Rattle.limbo_calls.specs.Refusing.{RefusesThrough, RefusesConstruct}
 use Rattle.limbo_things.specs.Things.{Thing, AType, AVariant, AFunction, AMethod, AMember, type_named}
 use Rattle.limbo_applying.specs.Applying.{Declares, with_object}

@@ -26,7 +26,7 @@ use Rattle.limbo_typed.specs.Typed.{Expr, Of, Exprs, Apply, Call, CallThrough, M
 use Rattle.limbo_typed.specs.Fitting.{AllStand, TakesFields}
 use Rattle.limbo_typed.specs.Sound as sound
 use Rattle.limbo_refusals.specs.Refusals.{Refusal, NoneIs}
-use Rattle.limbo_standing.specs.Standing.{SettleEach}
+use Rattle.limbo_arguments.specs.limbo_standing.Standing.{SettleEach}
 use Rattle.limbo_arguments.specs.Failing.{FailsEach}
 use Rattle.limbo_arguments.proofs.Each.{each_once, each_stand, each_fails}
 use Rattle.limbo_calls.specs.Calls.{Calls, CallsThrough, Constructs, HasFields, FieldsOf, PassesNone}

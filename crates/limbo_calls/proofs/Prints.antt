@@ -29,8 +29,8 @@ use Rattle.limbo_formats.specs.Formats.{IsFormat, Takes, Fits}
 use Rattle.limbo_formats.specs.Formats as formats
 use Rattle.limbo_formats.specs.FormatReading.{hole_for}
 use Rattle.limbo_formats.proofs.Formats.{one_format}
-use Rattle.limbo_standing.specs.Standing.{Settles, SettleEach}
-use Rattle.limbo_standing.proofs.Settled.{settled_once, settled_stands}
+use Rattle.limbo_arguments.specs.limbo_standing.Standing.{Settles, SettleEach}
+use Rattle.limbo_arguments.proofs.limbo_standing_lemmas.Settled.{settled_once, settled_stands}
 use Rattle.limbo_arguments.specs.Failing.{FailsEach}
 use Rattle.limbo_arguments.proofs.Each.{Value, each_once, each_stand, each_fails, types_are}
 use Rattle.limbo_calls.specs.Prints.{Output, Print, Fprint, Sprint, PrintsTo, Formats, Prints}

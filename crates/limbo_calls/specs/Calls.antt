@@ -6,7 +6,7 @@ use Rattle.limbo_typed.specs.declared.operation.Operation.TheVariants as op
 use Rattle.limbo_typed.specs.Typed.{Expr, Of, Exprs, Apply, Call, CallThrough}
 use Rattle.limbo_typed.specs.Sound.{type_of}
 use Rattle.limbo_allowed.specs.Allowed.{IsUserModule}
-use Rattle.limbo_standing.specs.Standing.{SettleEach}
+use Rattle.limbo_arguments.specs.limbo_standing.Standing.{SettleEach}
 
 -- Arguments where these parameters are asked for: each is what it is there.
 abbrev pub Arguments : List Ty → Exprs → Exprs → Type 0

@@ -9,7 +9,7 @@ use Rattle.limbo_typed.specs.Typed.{Expr, Of, Exprs, Optional, Absent, Present}
 use Rattle.limbo_typed.specs.Sound.{types_of, holes, printed_type}
 use Rattle.limbo_formats.specs.declared.format.FormatPart.{FormatPart}
 use Rattle.limbo_formats.specs.Formats.{IsFormat, Fits}
-use Rattle.limbo_standing.specs.Standing.{Settles, SettleEach}
+use Rattle.limbo_arguments.specs.limbo_standing.Standing.{Settles, SettleEach}
 
 -- what an option has, as a list
 abbrev pub listed_option : {A : Type 0} → Option A → List A

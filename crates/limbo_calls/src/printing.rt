@@ -10,7 +10,7 @@ ghost use Rattle.limbo_typed.specs.Sound.{holes, type_of_hole};
 ghost use Rattle.limbo_typed.specs.View.{view_expr, view_exprs, view_optional};
 ghost use Rattle.limbo_refusals.specs.Refusals as refusals;
 ghost use Rattle.limbo_refusals.specs.Refusals.{Refuses, NoneIs, told};
-ghost use Rattle.limbo_standing.specs.Standing.{Settles};
+ghost use Rattle.limbo_arguments.specs.limbo_standing.Standing.{Settles};
 ghost use Rattle.limbo_calls.specs.Prints.{PrintsTo, Formats, Prints, listed_option};
 ghost use Rattle.limbo_calls.specs.OutputView.{view_output};
 ghost use Rattle.limbo_calls.specs.Refusing.{FailsAsFile, FailsFile, RefusesPrint};

@@ -13,11 +13,11 @@ use Rattle.limbo_typed.specs.declared.expr.TExpr as code_expr
 use Rattle.limbo_typed.specs.View.{view_expr}
 use Rattle.limbo_typed.specs.Sound.{type_of}
 use Rattle.limbo_typed.proofs.View.{view_expr-out}
-use Rattle.limbo_standing.specs.Standing.{Settles}
+use Rattle.limbo_operands.specs.limbo_standing.Standing.{Settles}
 use Rattle.limbo_refusals.specs.declared.fault.ExprFault.{ExprFault}
 use Rattle.limbo_refusals.specs.Refusals.{Refuses, NoneIs}
 use Rattle.limbo_operands.proofs.Refused.{refuses_so}
-use Rattle.limbo_standing.proofs.Settled.{settled_once}
+use Rattle.limbo_operands.proofs.limbo_standing_lemmas.Settled.{settled_once}
 use Rattle.limbo_operators.specs.declared.signs.Binary.{Binary}
 use Rattle.limbo_operators.specs.declared.signs.Binary.TheVariants as binary
 use Rattle.limbo_operators.specs.Rows.{Row, BinaryRow, LazyRow, ints, binary_of}

@@ -10,7 +10,7 @@ use Rattle.limbo_typed.specs.declared.operation.Connective.{Connective}
 use Rattle.limbo_typed.specs.declared.operation.Operation.{Operation}
 use Rattle.limbo_typed.specs.Typed.{Expr, Of, Apply, Lazy}
 use Rattle.limbo_typed.specs.Sound.{type_of}
-use Rattle.limbo_standing.specs.Standing.{Settles}
+use Rattle.limbo_operands.specs.limbo_standing.Standing.{Settles}
 use Rattle.limbo_operators.specs.Rows.{Row, BinaryRow, LazyRow, binary_of}
 use Rattle.limbo_prefixes.specs.Rows.{OneRow, UnaryRow, BytesRow}
 use Rattle.limbo_operands.specs.Operands.{one, two}

@@ -22,7 +22,7 @@ use Rattle.limbo_typed.proofs.View.{view_optional-None, view_optional-Some}
 use Rattle.limbo_refusals.specs.declared.fault.ExprFault.{ExprFault}
 use Rattle.limbo_refusals.specs.declared.fault.ExprFault.TheVariants as fault
 use Rattle.limbo_refusals.specs.Refusals.{Clash, NotPlace, BadFormat, Refuses, NoneIs}
-use Rattle.limbo_arguments.proofs.Faults.{refuses_weaker}
+use Rattle.limbo_calls.proofs.limbo_arguments_lemmas.Faults.{refuses_weaker}
 use Rattle.limbo_folding.specs.Folding.{value_of}
 use Rattle.limbo_defining.specs.Defining.{Defines, FailsDefine}
 use Rattle.limbo_defining.specs.Defining as defining
@@ -44,11 +44,11 @@ use Rattle.limbo_things.specs.declared.thing.Thing as code_thing
 use Rattle.limbo_things.specs.declared.thing.Thing.TheVariants as make_thing
 use Rattle.limbo_things.specs.Things.{Thing, AValue, AType, APrint, NameIs, MemberIs, PartIs}
 use Rattle.limbo_things.specs.ThingView.{view_thing}
-use Rattle.limbo_applying.specs.Applying.{Applies}
-use Rattle.limbo_applying.specs.Refusing.{RefusesApply}
+use Rattle.limbo_typing.specs.limbo_applying.Applying.{Applies}
+use Rattle.limbo_typing.specs.limbo_applying.Refusing.{RefusesApply}
 use Rattle.limbo_permits.specs.Permits.{IsPermitted}
 use Rattle.limbo_written.specs.Written.{MeansPermitted}
-use Rattle.limbo_value_forms.specs.Forms.{one, two, three, values_in, copied, Forms, RefusesForm}
+use Rattle.limbo_typing.specs.limbo_value_forms.Forms.{one, two, three, values_in, copied, Forms, RefusesForm}
 use Rattle.limbo_typing.specs.Typing as typing
 use Rattle.limbo_typing.specs.Typing.{is_path, is_pattern, literal_first, behind_file, format_in, OutputIs}
 use Rattle.limbo_typing.specs.Typing.{Denotes, HasValue, Types, Has, HaveValues, MayHave, Fill, IsPattern, ArePatterns}

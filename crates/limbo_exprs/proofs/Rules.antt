@@ -8,7 +8,7 @@ use Rattle.limbo_types.specs.View.{view_ty}
 use Rattle.limbo_typed.specs.declared.expr.TExpr as code_typed
 use Rattle.limbo_typed.specs.View.{view_expr}
 use Rattle.limbo_refusals.specs.declared.fault.ExprFault.{ExprFault}
-use Rattle.limbo_arguments.proofs.Faults.{refuses_weaker}
+use Rattle.limbo_calls.proofs.limbo_arguments_lemmas.Faults.{refuses_weaker}
 use Rattle.limbo_places.specs.Elements.{Indexes}
 use Rattle.limbo_exprs.specs.declared.shapes.OfTwo.TheVariants as of_two
 use Rattle.limbo_exprs.proofs.Tested.{typed_as}
@@ -36,8 +36,8 @@ use Rattle.limbo_places.specs.Slices.{Slices, Hinders}
 use Rattle.limbo_channels.specs.Loading.{Loads}
 use Rattle.limbo_literals.specs.Literals.{Fills, Sizes}
 use Rattle.limbo_literals.specs.Refusing.{RefusesFill, NoLength}
-use Rattle.limbo_value_forms.specs.Forms.{one, two, itself, values_in, copied, given_by, Forms, RefusesForm}
-use Rattle.limbo_value_forms.specs.Forms.{Gives, AssignForms, RefusesGives, RefusesAssign}
+use Rattle.limbo_typing.specs.limbo_value_forms.Forms.{one, two, itself, values_in, copied, given_by, Forms, RefusesForm}
+use Rattle.limbo_typing.specs.limbo_value_forms.Forms.{Gives, AssignForms, RefusesGives, RefusesAssign}
 use Rattle.limbo_typing.specs.Typing.{is_path, is_pattern, Denotes, HasValue, Types, Has, HaveValues, MayHave, Fill, IsPattern, ArePatterns}
 use Rattle.limbo_typing.specs.Typing as typing
 use Rattle.limbo_typing.specs.Failing.{unfit, IsNoPrint, FailsName, FailsModule, FailsThing, FailsValue, Fails, FailsForm, FailsSome}

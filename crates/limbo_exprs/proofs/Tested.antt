@@ -41,7 +41,7 @@ use Rattle.limbo_typed.specs.View.{place_step}
 use Rattle.limbo_typed.specs.View.{expr_step as expr_step_of_typed}
 use Rattle.limbo_typed.proofs.View.{view_expr-out, view_item-out}
 use Rattle.limbo_forms.specs.Forms.{is_int}
-use Rattle.limbo_value_forms.specs.Forms.{two, given_by, copied}
+use Rattle.limbo_typing.specs.limbo_value_forms.Forms.{two, given_by, copied}
 use Rattle.limbo_things.specs.Things.{Thing, AType}
 use Rattle.limbo_typing.specs.Typing.{is_path, is_pattern}
 use Rattle.limbo_typing.specs.Failing.{changed_in, is_enclosed}

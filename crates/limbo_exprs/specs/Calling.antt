@@ -9,8 +9,8 @@ use Rattle.limbo_context.specs.Context.{Context, Body}
 use Rattle.limbo_calls.specs.Prints.{Prints, Output}
 use Rattle.limbo_calls.specs.Refusing.{RefusesPrint}
 use Rattle.limbo_things.specs.Things.{Thing, APrint}
-use Rattle.limbo_applying.specs.Applying.{Applies}
-use Rattle.limbo_applying.specs.Refusing.{RefusesApply}
+use Rattle.limbo_typing.specs.limbo_applying.Applying.{Applies}
+use Rattle.limbo_typing.specs.limbo_applying.Refusing.{RefusesApply}
 use Rattle.limbo_typing.specs.Typing.{format_in, OutputIs, HaveValues}
 use Rattle.limbo_typing.specs.Failing.{IsNoPrint, FailsSome}
 use Rattle.limbo_typed.specs.View.{view_expr}

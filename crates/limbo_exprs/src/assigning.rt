@@ -15,7 +15,7 @@ ghost use Rattle.limbo_causes.specs.Causes.{FailsBy};
 ghost use Rattle.limbo_causes.specs.declared.fault.Cause.TheVariants.{NoMemory};
 ghost use Rattle.limbo_context.specs.View.{view_context, view_body};
 ghost use Rattle.limbo_operands.specs.Operands.{IsPlace};
-ghost use Rattle.limbo_value_forms.specs.Forms.{copied};
+ghost use Rattle.limbo_typing.specs.limbo_value_forms.Forms.{copied};
 ghost use Rattle.limbo_typing.specs.Typing.{Has, IsPattern, ArePatterns};
 ghost use Rattle.limbo_typing.specs.Failing.{FailsForm, FailsPattern, FailsPatterns};
 

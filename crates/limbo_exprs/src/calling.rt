@@ -21,7 +21,6 @@ use crate::endings::placed;
 use crate::naming::{denote, module_named};
 use crate::valuing::{value, values};
 use inf_text::{Span, Text};
-use limbo_applying::apply;
 use limbo_calls::{Output, print};
 use limbo_causes::TypingFault;
 use limbo_channels::load;
@@ -30,6 +29,7 @@ use limbo_refusals::ExprFault;
 use limbo_things::Thing;
 use limbo_tree::Expr;
 use limbo_typed::{Printed, TExpr};
+use limbo_typing::limbo_applying::apply;
 use std::alloc::Global;
 
 /// `load` module path

@@ -12,7 +12,7 @@ ghost use Rattle.limbo_context.specs.View.{view_context};
 ghost use Rattle.limbo_permits.specs.Permits.{IsPermitted, Forbids};
 ghost use Rattle.limbo_things.specs.Things.{AValue};
 ghost use Rattle.limbo_things.specs.ThingView.{view_thing};
-ghost use Rattle.limbo_value_forms.specs.Forms.{itself};
+ghost use Rattle.limbo_typing.specs.limbo_value_forms.Forms.{itself};
 ghost use Rattle.limbo_typing.specs.Failing.{unfit};
 
 use inf_text::Span;

@@ -11,7 +11,7 @@ ghost use Rattle.limbo_typed.specs.View.{view_expr, view_node};
 ghost use Rattle.limbo_causes.specs.Causes.{FailsBy};
 ghost use Rattle.limbo_causes.specs.declared.fault.Cause.TheVariants.{NoMemory};
 ghost use Rattle.limbo_context.specs.View.{view_context, view_body};
-ghost use Rattle.limbo_value_forms.specs.Forms.{Forms, two, values_in};
+ghost use Rattle.limbo_typing.specs.limbo_value_forms.Forms.{Forms, two, values_in};
 ghost use Rattle.limbo_operands.specs.Operands as operands;
 ghost use Rattle.limbo_typing.specs.Typing.{Has};
 ghost use Rattle.limbo_typing.specs.Failing.{FailsForm};

@@ -6,18 +6,18 @@ ghost use Rattle.limbo_typed.specs.View.{view_expr};
 ghost use Rattle.limbo_refusals.specs.Refusals.{Refuses, NoneIs};
 ghost use Rattle.limbo_context.specs.View.{view_context};
 ghost use Rattle.limbo_operands.specs.Operands.{one, two};
-ghost use Rattle.limbo_value_forms.specs.Forms.{Forms, RefusesForm, values_in};
-ghost use Rattle.limbo_value_forms.specs.Forms as value_forms;
+ghost use Rattle.limbo_typing.specs.limbo_value_forms.Forms.{Forms, RefusesForm, values_in};
+ghost use Rattle.limbo_typing.specs.limbo_value_forms.Forms as value_forms;
 ghost use Rattle.limbo_typing.specs.Failing.{changed_in};
 ghost use Rattle.limbo_exprs.specs.Parts.{with_one, with_two, if_changed};
 
-use limbo_combining::{combine, text_bytes};
 use limbo_context::Context;
 use limbo_places::{index, step};
 use limbo_refusals::ExprFault;
 use limbo_tree::{AssignOp, BinaryOp, PostfixOp, UnaryOp};
 use limbo_typed::{Given, TExpr};
-use limbo_value_forms::{before, give};
+use limbo_typing::limbo_combining::{combine, text_bytes};
+use limbo_typing::limbo_value_forms::{before, give};
 use std::alloc::Global;
 
 /// What is made of one value.

@@ -12,7 +12,7 @@ ghost use Rattle.limbo_context.specs.Context as known;
 ghost use Rattle.limbo_context.specs.View.{view_context, view_body};
 ghost use Rattle.limbo_things.specs.Things.{AValue};
 ghost use Rattle.limbo_things.specs.ThingView.{view_thing};
-ghost use Rattle.limbo_value_forms.specs.Forms.{one};
+ghost use Rattle.limbo_typing.specs.limbo_value_forms.Forms.{one};
 ghost use Rattle.limbo_typing.specs.Typing.{Has, HasValue, is_path};
 ghost use Rattle.limbo_typing.specs.Failing.{FailsPlace, FailsValue, is_enclosed};
 ghost use Rattle.limbo_exprs.specs.Parts.{FailsAs};

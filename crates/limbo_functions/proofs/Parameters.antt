@@ -9,11 +9,11 @@ use Rattle.limbo_scope.specs.declared.meaning.Meaning.TheVariants as meaning
 use Rattle.limbo_scope.specs.Scopes.{Scope, entered, declared}
 use Rattle.limbo_scope.specs.Laws.{declared_all}
 use Rattle.limbo_context.specs.Context.{Context, Body}
-use Rattle.limbo_local.specs.Points.{Point}
-use Rattle.limbo_local.specs.Local.{argument_types, ArePermitted, IsHeader}
+use Rattle.limbo_stmt_values.specs.limbo_local.Points.{Point}
+use Rattle.limbo_stmt_values.specs.limbo_local.Local.{argument_types, ArePermitted, IsHeader}
 use Rattle.limbo_bodies.specs.Bodies as bodies
 use Rattle.limbo_bodies.specs.Bodies.{with_parameter, with_parameters, begun}
-use Rattle.limbo_stating.specs.Functions.{Definition, parameter_names, parameter_meanings, parameters, outside, begins}
+use Rattle.limbo_stmt_values.specs.limbo_stating.Functions.{Definition, parameter_names, parameter_meanings, parameters, outside, begins}
 
 same_names : (ps : List decls.Param) → bodies.parameter_names ps ≡ parameter_names ps
 same_names [] = refl

@@ -5,9 +5,9 @@ use Rattle.std.proofs.lemmas.List.{map_more, map-append}
 use Rattle.limbo_typed.specs.Typed.{Function}
 use Rattle.limbo_scope.specs.Scopes.{Scope}
 use Rattle.limbo_context.specs.Context.{Context, Callee}
-use Rattle.limbo_stating.specs.Reasons.{Reason}
-use Rattle.limbo_stating.specs.Functions.{Definition, IsFunction, FailsFunction, AreFunctions}
-use Rattle.limbo_stating.specs.Functions.{FailsSomeFunction, this_function, later_function}
+use Rattle.limbo_stmt_values.specs.limbo_stating.Reasons.{Reason}
+use Rattle.limbo_stmt_values.specs.limbo_stating.Functions.{Definition, IsFunction, FailsFunction, AreFunctions}
+use Rattle.limbo_stmt_values.specs.limbo_stating.Functions.{FailsSomeFunction, this_function, later_function}
 use Rattle.limbo_functions.specs.First.{FailsFirst}
 
 -- ---- rows

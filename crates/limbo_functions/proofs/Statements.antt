@@ -9,12 +9,12 @@ use Rattle.limbo_typed.specs.Typed.{Stmt, Stmts}
 use Rattle.limbo_typed.specs.View.{view_stmt}
 use Rattle.limbo_paths.specs.Paths.{Answers}
 use Rattle.limbo_paths.proofs.Forms.{HasForm, has_form}
-use Rattle.limbo_local.specs.Points.{Point}
-use Rattle.limbo_stating.specs.Reasons.{NoReturn}
-use Rattle.limbo_stating.specs.Around.{Around}
-use Rattle.limbo_stating.specs.Stating.{StatesBlock, one}
-use Rattle.limbo_stating.specs.FailsToState.{FailsBlock}
-use Rattle.limbo_stating.specs.Functions.{body_of}
+use Rattle.limbo_stmt_values.specs.limbo_local.Points.{Point}
+use Rattle.limbo_stmt_values.specs.limbo_stating.Reasons.{NoReturn}
+use Rattle.limbo_stmt_values.specs.limbo_stating.Around.{Around}
+use Rattle.limbo_stmt_values.specs.limbo_stating.Stating.{StatesBlock, one}
+use Rattle.limbo_stmt_values.specs.limbo_stating.FailsToState.{FailsBlock}
+use Rattle.limbo_stmt_values.specs.limbo_stating.Functions.{body_of}
 use Rattle.limbo_stmt_values.specs.declared.fault.Why.{Why}
 use Rattle.limbo_stmt_values.specs.Whys.{FailsFor}
 use Rattle.limbo_stmt_values.proofs.Told.{reasons_weaker}

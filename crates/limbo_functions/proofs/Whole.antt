@@ -6,11 +6,11 @@ use Rattle.limbo_typed.specs.Typed.{Function, Stmts}
 use Rattle.limbo_scope.specs.Scopes.{Scope, entered, left}
 use Rattle.limbo_context.specs.Context.{Context, Callee}
 use Rattle.limbo_paths.specs.Paths.{Answers}
-use Rattle.limbo_local.specs.Points.{Point}
-use Rattle.limbo_stating.specs.Reasons.{Reason}
-use Rattle.limbo_stating.specs.Stating.{StatesBlock}
-use Rattle.limbo_stating.specs.Functions as functions
-use Rattle.limbo_stating.specs.Functions.{Definition, parameter_names, parameter_meanings, outside, begins, IsFunction, FailsFunction}
+use Rattle.limbo_stmt_values.specs.limbo_local.Points.{Point}
+use Rattle.limbo_stmt_values.specs.limbo_stating.Reasons.{Reason}
+use Rattle.limbo_stmt_values.specs.limbo_stating.Stating.{StatesBlock}
+use Rattle.limbo_stmt_values.specs.limbo_stating.Functions as functions
+use Rattle.limbo_stmt_values.specs.limbo_stating.Functions.{Definition, parameter_names, parameter_meanings, outside, begins, IsFunction, FailsFunction}
 use Rattle.limbo_stated_sound.specs.Growing.{around}
 use Rattle.limbo_stated_sound.proofs.Moving.{around_all}
 use Rattle.limbo_stated_sound.proofs.Rows.{block_leads}

@@ -5,12 +5,12 @@ use Rattle.limbo_types.specs.Types.{Nothing}
 use Rattle.limbo_typed.specs.Typed.{Function, Stmt, Stmts}
 use Rattle.limbo_paths.specs.Paths.{Answers}
 use Rattle.limbo_context.specs.Context.{Callee}
-use Rattle.limbo_local.specs.Points.{Point}
-use Rattle.limbo_stating.specs.Reasons.{Reason, NoReturn}
-use Rattle.limbo_stating.specs.Around.{Around}
-use Rattle.limbo_stating.specs.Stating.{StatesBlock}
-use Rattle.limbo_stating.specs.FailsToState.{FailsBlock}
-use Rattle.limbo_stating.specs.Functions.{Definition, body_of}
+use Rattle.limbo_stmt_values.specs.limbo_local.Points.{Point}
+use Rattle.limbo_stmt_values.specs.limbo_stating.Reasons.{Reason, NoReturn}
+use Rattle.limbo_stmt_values.specs.limbo_stating.Around.{Around}
+use Rattle.limbo_stmt_values.specs.limbo_stating.Stating.{StatesBlock}
+use Rattle.limbo_stmt_values.specs.limbo_stating.FailsToState.{FailsBlock}
+use Rattle.limbo_stmt_values.specs.limbo_stating.Functions.{Definition, body_of}
 
 -- A block is these statements, each path of which ends in an answer, if there is one to give.
 pub record IsBody (v : Around) (p : Point) (b : tree.Block) (zs : Stmts) (q : Point) : Type 0 where

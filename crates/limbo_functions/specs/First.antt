@@ -3,8 +3,8 @@ use Rattle.std.specs.Prelude.{◌≡◌, ℕ, List, take, Some, slice_get}
 use Rattle.limbo_typed.specs.Typed.{Function}
 use Rattle.limbo_scope.specs.Scopes.{Scope}
 use Rattle.limbo_context.specs.Context.{Context, Callee}
-use Rattle.limbo_stating.specs.Reasons.{Reason}
-use Rattle.limbo_stating.specs.Functions.{Definition, FailsFunction, AreFunctions}
+use Rattle.limbo_stmt_values.specs.limbo_stating.Reasons.{Reason}
+use Rattle.limbo_stmt_values.specs.limbo_stating.Functions.{Definition, FailsFunction, AreFunctions}
 
 -- The definition of this number fails, behind those before it, which are functions.
 pub record FailsFirst (m : List ℕ) (scopes : List Scope) (fs : List Callee) (ds : List Definition) (c : Context) (n : ℕ) (k : Reason)

@@ -6,11 +6,11 @@ use Rattle.limbo_scope.specs.Scopes.{Scope}
 use Rattle.limbo_declarations.specs.Scopes.{FnIsOnce}
 use Rattle.limbo_causes.specs.Causes.{Cause, Twice, nothing}
 use Rattle.limbo_context.specs.Context.{Context, Body}
-use Rattle.limbo_local.specs.Points.{Point}
-use Rattle.limbo_local.specs.Local.{IsHeader}
-use Rattle.limbo_local.specs.Failing.{FailsHeader}
-use Rattle.limbo_stating.specs.Reasons.{Reason, ByPart}
-use Rattle.limbo_stating.specs.Functions.{Definition, outside, begins}
+use Rattle.limbo_stmt_values.specs.limbo_local.Points.{Point}
+use Rattle.limbo_stmt_values.specs.limbo_local.Local.{IsHeader}
+use Rattle.limbo_stmt_values.specs.limbo_local.Failing.{FailsHeader}
+use Rattle.limbo_stmt_values.specs.limbo_stating.Reasons.{Reason, ByPart}
+use Rattle.limbo_stmt_values.specs.limbo_stating.Functions.{Definition, outside, begins}
 
 -- The block of a definition begins here, which is one of a function that is declared so. There is a scope around it.
 pub record Begins (c : Context) (scopes : List Scope) (d : Definition) (of : FnTy) (p : Point) : Type 0 where

@@ -2,8 +2,8 @@
 use Rattle.std.specs.Prelude.{◌≡◌, List, []}
 use Rattle.limbo_scope.specs.Scopes.{Scope}
 use Rattle.limbo_context.specs.Context.{Context}
-use Rattle.limbo_local.specs.Points.{Point}
-use Rattle.limbo_stating.specs.Functions.{outside}
+use Rattle.limbo_stmt_values.specs.limbo_local.Points.{Point}
+use Rattle.limbo_stmt_values.specs.limbo_stating.Functions.{outside}
 
 -- There are no variables of a function, and no handlers.
 pub record StandsOutside (p : Point) : Type 0 where

@@ -3,7 +3,7 @@ use Rattle.std.specs.Prelude.{ℕ, List, map, Option, None, Some}
 use Rattle.std.specs.Borrow.{Bor}
 use Rattle.limbo_tree.specs.declared.source.Function as code_function
 use Rattle.limbo_tree.specs.View.{name_of, view_fn, view_block}
-use Rattle.limbo_stating.specs.Functions.{Definition}
+use Rattle.limbo_stmt_values.specs.limbo_stating.Functions.{Definition}
 
 -- The name of a function itself: that of an adt's function stands behind the adt's.
 abbrev pub own_name : (name : List ℕ) → (part : Option (List ℕ)) → List ℕ

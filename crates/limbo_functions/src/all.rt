@@ -3,7 +3,7 @@
 ghost use Rattle.std.specs.Prelude.{◌≡◌, length, map, IfOk, IfErr};
 ghost use Rattle.limbo_typed.specs.View.{view_function};
 ghost use Rattle.limbo_context.specs.View.{view_context, view_callee};
-ghost use Rattle.limbo_stating.specs.Functions.{AreFunctions, FailsSomeFunction};
+ghost use Rattle.limbo_stmt_values.specs.limbo_stating.Functions.{AreFunctions, FailsSomeFunction};
 ghost use Rattle.limbo_stmt_values.specs.Whys.{FailsFor};
 ghost use Rattle.limbo_stmts.specs.View.{view_point};
 ghost use Rattle.limbo_functions.specs.View.{definitions_of};

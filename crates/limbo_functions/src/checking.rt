@@ -7,7 +7,7 @@ ghost use Rattle.limbo_typed.specs.View.{view_var, view_stmts, view_function};
 ghost use Rattle.limbo_scope.specs.Scopes.{left};
 ghost use Rattle.limbo_causes.specs.declared.fault.Cause.TheVariants.{NoMemory};
 ghost use Rattle.limbo_context.specs.View.{view_context, view_callee};
-ghost use Rattle.limbo_stating.specs.Functions.{IsFunction, FailsFunction};
+ghost use Rattle.limbo_stmt_values.specs.limbo_stating.Functions.{IsFunction, FailsFunction};
 ghost use Rattle.limbo_stmt_values.specs.Whys.{FailsFor};
 ghost use Rattle.limbo_stmt_values.specs.declared.fault.Why.TheVariants.{Part};
 ghost use Rattle.limbo_stmts.specs.View.{view_point};

@@ -17,3 +17,5 @@ mod sameness;
 
 pub use all::{FunctionFault, check_functions};
 pub use checking::check_function;
+pub use limbo_bodies;
+pub use limbo_stmts;

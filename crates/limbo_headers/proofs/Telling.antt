@@ -13,7 +13,7 @@ use Rattle.limbo_entries.specs.View.{entries_of}
 use Rattle.limbo_type_names.specs.declared.fault.TypeFault.{TypeFault}
 use Rattle.limbo_type_names.specs.declared.fault.TypeFault.TheVariants.{NoMemory, Unknown, NotAType}
 use Rattle.limbo_type_names.specs.Writes.{Fails}
-use Rattle.limbo_naming.proofs.Lists.{stands_push}
+use Rattle.limbo_type_names.proofs.limbo_naming_lemmas.Lists.{stands_push}
 use Rattle.limbo_type_names.proofs.Knowing.{one_entry}
 use Rattle.limbo_headers.specs.declared.header.Heading.{Heading}
 use Rattle.limbo_headers.specs.Headers.{has_heading, Heads}

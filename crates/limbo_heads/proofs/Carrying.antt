@@ -16,8 +16,8 @@ use Rattle.limbo_typed.specs.declared.stmt.HandlerPattern.{HandlerPattern}
 use Rattle.limbo_typed.specs.declared.stmt.HandlerPattern.TheVariants as handler
 use Rattle.limbo_typed.specs.Sound.{Each}
 use Rattle.limbo_context.specs.Context.{Context}
-use Rattle.limbo_stating.specs.Handlers as handlers
-use Rattle.limbo_stating.specs.Handlers.{Carries, AllCarry, IsCaught}
+use Rattle.limbo_stmt_values.specs.limbo_stating.Handlers as handlers
+use Rattle.limbo_stmt_values.specs.limbo_stating.Handlers.{Carries, AllCarry, IsCaught}
 
 module _ (c : Context) (ts : List Ty) where
   pub all_carry : (z : HandlerPattern) (zs : List HandlerPattern) → Carries c z ts → Each (λ y. Carries c y ts) zs → AllCarry c (z ∷ zs) ts

@@ -16,10 +16,10 @@ use Rattle.limbo_causes.proofs.Telling.{fails_weaker}
 use Rattle.limbo_scope.specs.Scopes.{seen}
 use Rattle.limbo_context.specs.Context.{Context, Body}
 use Rattle.limbo_things.specs.Things.{Thing, AnException, NameIs, type_named}
-use Rattle.limbo_typing.specs.Failing as failing
-use Rattle.limbo_typing.specs.Failing.{unfit}
-use Rattle.limbo_stating.specs.Handlers as handlers
-use Rattle.limbo_stating.specs.Handlers.{FailsHandled, AreHandled, FailsHandlerHead}
+use Rattle.limbo_stmt_values.specs.limbo_typing.Failing as failing
+use Rattle.limbo_stmt_values.specs.limbo_typing.Failing.{unfit}
+use Rattle.limbo_stmt_values.specs.limbo_stating.Handlers as handlers
+use Rattle.limbo_stmt_values.specs.limbo_stating.Handlers.{FailsHandled, AreHandled, FailsHandlerHead}
 use Rattle.limbo_typed.specs.declared.stmt.HandlerPattern.{HandlerPattern}
 use Rattle.limbo_stmt_values.specs.Leading.{point, From}
 use Rattle.limbo_heads.specs.Catching.{FailsVariable}

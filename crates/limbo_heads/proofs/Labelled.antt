@@ -19,7 +19,7 @@ use Rattle.limbo_typed.specs.declared.stmt.CasePattern.TheVariants as case
 use Rattle.limbo_typed.specs.declared.stmt.CaseArm as code_case_arm
 use Rattle.limbo_typed.specs.View.{Arm, view_case_arm, heads_of}
 use Rattle.limbo_typed.proofs.View.{view_case_arm-out}
-use Rattle.limbo_stating.specs.Cases.{all_patterns, labels, AtMost, is_star, AreApart}
+use Rattle.limbo_stmt_values.specs.limbo_stating.Cases.{all_patterns, labels, AtMost, is_star, AreApart}
 use Rattle.limbo_heads.specs.Labels.{number_in, text_in, label_of, label_in}
 
 -- ---- what some of a list give, by places

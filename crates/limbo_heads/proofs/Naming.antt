@@ -13,13 +13,13 @@ use Rattle.std.specs.Ordering.{nat_cmp}
 use Rattle.std.specs.Cmp.Lexicographic.{slice_cmp}
 use Rattle.limbo_causes.specs.Causes.{Cause}
 use Rattle.limbo_context.specs.Context.{Context, Body, HasVariantNamed}
-use Rattle.limbo_stating.specs.Reasons.{Reason}
-use Rattle.limbo_stating.specs.Cases as cases
-use Rattle.limbo_stating.specs.Cases.{IsPattern, ArePatterns, FailsPatterns}
-use Rattle.limbo_stating.specs.Picks as picks
-use Rattle.limbo_stating.specs.Picks.{AreVariants, HasNoVariant}
-use Rattle.limbo_stating.specs.Handlers as handlers
-use Rattle.limbo_stating.specs.Handlers.{IsHandled, AreHandled, FailsHandled, starred, text_pattern}
+use Rattle.limbo_stmt_values.specs.limbo_stating.Reasons.{Reason}
+use Rattle.limbo_stmt_values.specs.limbo_stating.Cases as cases
+use Rattle.limbo_stmt_values.specs.limbo_stating.Cases.{IsPattern, ArePatterns, FailsPatterns}
+use Rattle.limbo_stmt_values.specs.limbo_stating.Picks as picks
+use Rattle.limbo_stmt_values.specs.limbo_stating.Picks.{AreVariants, HasNoVariant}
+use Rattle.limbo_stmt_values.specs.limbo_stating.Handlers as handlers
+use Rattle.limbo_stmt_values.specs.limbo_stating.Handlers.{IsHandled, AreHandled, FailsHandled, starred, text_pattern}
 use Rattle.limbo_stmt_values.specs.Leading.{point, From, Leads}
 use Rattle.limbo_heads.specs.Entering.{DeclaresNothing}
 use Rattle.limbo_heads.proofs.Rows.{Rules}

@@ -3,7 +3,7 @@ use Rattle.std.proofs.Common.{◌≡◌, ◌<◌, ◌≤◌, ◌+◌, ◌⊎◌,
 use Rattle.std.proofs.Common.{map, Option, Some, None, option_map, refl, sym, ap, subst, ◌∙◌, arith}
 use Rattle.std.specs.Prelude.{slice_get}
 use Rattle.std.proofs.lemmas.Option.{none-some, same_Some, slice_get-map, slice_get_within}
-use Rattle.limbo_stating.specs.Around.{Turn, Innermost}
+use Rattle.limbo_stmt_values.specs.limbo_stating.Around.{Turn, Innermost}
 use Rattle.limbo_heads.specs.declared.around.Turn as code_turn
 use Rattle.limbo_heads.specs.Around.{view_turn}
 

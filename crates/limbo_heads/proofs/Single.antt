@@ -21,10 +21,10 @@ use Rattle.limbo_typed.specs.declared.stmt.PickArm as code_pick_arm
 use Rattle.limbo_typed.specs.View.{Arm, view_alt_arm, view_pick_arm, heads_of}
 use Rattle.limbo_typed.specs.Typed.{AltHead, PickHead}
 use Rattle.limbo_typed.proofs.View.{view_alt_arm-out, view_pick_arm-out}
-use Rattle.limbo_stating.specs.Alts as alts
-use Rattle.limbo_stating.specs.Alts.{HasOneStar}
-use Rattle.limbo_stating.specs.Picks as picks
-use Rattle.limbo_stating.specs.Picks.{PickOnce, all_variants}
+use Rattle.limbo_stmt_values.specs.limbo_stating.Alts as alts
+use Rattle.limbo_stmt_values.specs.limbo_stating.Alts.{HasOneStar}
+use Rattle.limbo_stmt_values.specs.limbo_stating.Picks as picks
+use Rattle.limbo_stmt_values.specs.limbo_stating.Picks.{PickOnce, all_variants}
 use Rattle.limbo_heads.specs.Singles.{singles, AreOnce, waits_not, names_none}
 
 -- ---- stars

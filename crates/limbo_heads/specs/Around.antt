@@ -2,7 +2,7 @@
 use Rattle.std.specs.Prelude.{map}
 use Rattle.limbo_types.specs.View.{view_ty}
 use Rattle.limbo_tree.specs.View.{name_of}
-use Rattle.limbo_stating.specs.Around.{Turn, Around}
+use Rattle.limbo_stmt_values.specs.limbo_stating.Around.{Turn, Around}
 use Rattle.limbo_heads.specs.declared.around.Turn as code_turn
 use Rattle.limbo_heads.specs.declared.around.Around as code_around
 

@@ -6,7 +6,7 @@ use Rattle.limbo_refusals.specs.Refusals.{Refusal}
 use Rattle.limbo_causes.specs.Causes.{Cause, Refused}
 use Rattle.limbo_context.specs.Context.{Context, Body, with_variable}
 use Rattle.limbo_permits.specs.Permits.{Permits, ForbidsType}
-use Rattle.limbo_stating.specs.Handlers.{IsCaught}
+use Rattle.limbo_stmt_values.specs.limbo_stating.Handlers.{IsCaught}
 
 -- It has what is caught, whose type is permitted.
 pub record IsVariable (c : Context) (zs : List HandlerPattern) (name : List ℕ) (number : ℕ) (b d : Body) : Type 0 where

@@ -4,8 +4,8 @@ use Rattle.limbo_cases.specs.declared.label.Label.{Label}
 use Rattle.limbo_typed.specs.declared.stmt.AltArm as code_alt_arm
 use Rattle.limbo_typed.specs.declared.stmt.PickArm as code_pick_arm
 use Rattle.limbo_typed.specs.View.{view_alt_head}
-use Rattle.limbo_stating.specs.Alts as alts
-use Rattle.limbo_stating.specs.Picks as picks
+use Rattle.limbo_stmt_values.specs.limbo_stating.Alts as alts
+use Rattle.limbo_stmt_values.specs.limbo_stating.Picks as picks
 
 -- a label of each number alone
 abbrev pub singles : List ℕ → List (Label ℕ)

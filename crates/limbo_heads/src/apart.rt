@@ -6,8 +6,8 @@ ghost use Rattle.limbo_cases.specs.Labels.{Apart};
 ghost use Rattle.limbo_cases.specs.Texts as texts;
 ghost use Rattle.limbo_cases.specs.Texts.{TextAtMost};
 ghost use Rattle.limbo_typed.specs.View.{view_case_arm, heads_of};
-ghost use Rattle.limbo_stating.specs.Cases as rules;
-ghost use Rattle.limbo_stating.specs.Cases.{all_patterns, AreApart};
+ghost use Rattle.limbo_stmt_values.specs.limbo_stating.Cases as rules;
+ghost use Rattle.limbo_stmt_values.specs.limbo_stating.Cases.{all_patterns, AreApart};
 ghost use Rattle.limbo_heads.specs.Labels as labels;
 ghost use Rattle.limbo_heads.specs.Labels.{label_in};
 

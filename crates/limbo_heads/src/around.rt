@@ -3,7 +3,7 @@
 ghost use Rattle.std.specs.Prelude.{◌≡◌, ◌∷◌, map, IfOk};
 ghost use Rattle.limbo_types.specs.View.{view_ty};
 ghost use Rattle.limbo_tree.specs.View.{name_of};
-ghost use Rattle.limbo_stating.specs.Around as around;
+ghost use Rattle.limbo_stmt_values.specs.limbo_stating.Around as around;
 ghost use Rattle.limbo_heads.specs.Around.{view_turn, view_around};
 
 use inf_text::Text;

@@ -4,7 +4,7 @@ ghost use Rattle.std.specs.Prelude.{map, IfOk, IfErr};
 ghost use Rattle.limbo_tree.specs.View as source;
 ghost use Rattle.limbo_types.specs.View.{view_ty};
 ghost use Rattle.limbo_context.specs.View.{view_context, view_body};
-ghost use Rattle.limbo_stating.specs.Cases.{ArePatterns, FailsPatterns};
+ghost use Rattle.limbo_stmt_values.specs.limbo_stating.Cases.{ArePatterns, FailsPatterns};
 ghost use Rattle.limbo_stmt_values.specs.Leading.{From, Leads};
 ghost use Rattle.limbo_stmt_values.specs.Whys.{FailsFor};
 

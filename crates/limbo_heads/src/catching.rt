@@ -6,7 +6,7 @@ ghost use Rattle.limbo_typed.specs.Sound.{Each};
 ghost use Rattle.limbo_typed.specs.View.{view_exception};
 ghost use Rattle.limbo_refusals.specs.Refusals.{NoneIs};
 ghost use Rattle.limbo_context.specs.View.{view_context};
-ghost use Rattle.limbo_stating.specs.Handlers.{Carries, AllCarry, IsCaught};
+ghost use Rattle.limbo_stmt_values.specs.limbo_stating.Handlers.{Carries, AllCarry, IsCaught};
 
 use limbo_context::Context;
 use limbo_typed::{HandlerPattern, TException};

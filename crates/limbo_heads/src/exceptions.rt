@@ -8,7 +8,7 @@ ghost use Rattle.limbo_causes.specs.Causes.{FailsBy};
 ghost use Rattle.limbo_context.specs.View.{view_context, view_body};
 ghost use Rattle.limbo_things.specs.Things.{AnException, NameIs, type_named};
 ghost use Rattle.limbo_things.specs.ThingView.{view_thing};
-ghost use Rattle.limbo_stating.specs.Handlers.{FailsHandled};
+ghost use Rattle.limbo_stmt_values.specs.limbo_stating.Handlers.{FailsHandled};
 
 use inf_text::{Span, Text};
 use limbo_causes::{Cause, TypingFault};

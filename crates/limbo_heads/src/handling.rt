@@ -5,8 +5,8 @@ ghost use Rattle.limbo_tree.specs.Stmts as stmts;
 ghost use Rattle.limbo_tree.specs.View as source;
 ghost use Rattle.limbo_causes.specs.Causes.{FailsBy};
 ghost use Rattle.limbo_context.specs.View.{view_context, view_body};
-ghost use Rattle.limbo_stating.specs.Handlers as rules;
-ghost use Rattle.limbo_stating.specs.Handlers.{IsHandled, AreHandled, FailsHandled};
+ghost use Rattle.limbo_stmt_values.specs.limbo_stating.Handlers as rules;
+ghost use Rattle.limbo_stmt_values.specs.limbo_stating.Handlers.{IsHandled, AreHandled, FailsHandled};
 
 use crate::exceptions::exception_named;
 use inf_text::Text;

@@ -2,9 +2,9 @@
 
 ghost use Rattle.std.specs.Prelude.{◌≡◌, ◌++◌, ◌↔◌, map, count_by, IsTrue, IfOk};
 ghost use Rattle.limbo_typed.specs.View.{view_alt_arm, view_pick_arm, view_alt_head, heads_of};
-ghost use Rattle.limbo_stating.specs.Alts as alts;
-ghost use Rattle.limbo_stating.specs.Alts.{HasOneStar};
-ghost use Rattle.limbo_stating.specs.Picks.{PickOnce, all_variants};
+ghost use Rattle.limbo_stmt_values.specs.limbo_stating.Alts as alts;
+ghost use Rattle.limbo_stmt_values.specs.limbo_stating.Alts.{HasOneStar};
+ghost use Rattle.limbo_stmt_values.specs.limbo_stating.Picks.{PickOnce, all_variants};
 ghost use Rattle.limbo_heads.specs.Singles.{singles, AreOnce, waits_not, names_none};
 
 use limbo_cases::{Label, overlap};

@@ -3,7 +3,7 @@
 ghost use Rattle.std.specs.Prelude.{◌≡◌, ◌↔◌, Some, map, IsTrue, IfSome, IfNone};
 ghost use Rattle.limbo_tree.specs.View.{name_of};
 ghost use Rattle.limbo_refusals.specs.Refusals.{NoneIs};
-ghost use Rattle.limbo_stating.specs.Around.{Innermost, IsLabelled, IsContinued};
+ghost use Rattle.limbo_stmt_values.specs.limbo_stating.Around.{Innermost, IsLabelled, IsContinued};
 ghost use Rattle.limbo_heads.specs.Around.{view_turn};
 
 use crate::around::Turn;

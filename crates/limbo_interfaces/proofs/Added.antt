@@ -13,11 +13,11 @@ use Rattle.limbo_causes.specs.Causes.{Cause, FailsBy}
 use Rattle.limbo_causes.proofs.Telling.{fails_weaker}
 use Rattle.limbo_context.specs.Context.{Context, Body}
 use Rattle.limbo_written.specs.Written.{MeansPermitted, FailsAsType}
-use Rattle.limbo_local.specs.Points.{Point}
-use Rattle.limbo_local.specs.Local.{IsHeader}
-use Rattle.limbo_local.specs.Members.{changed, showing_module, with_functions, IsAdt, AllAddToModule}
-use Rattle.limbo_local.specs.Failing as failing
-use Rattle.limbo_local.specs.Failing.{FailsHeader, FailsAdt, FailsAllInModule}
+use Rattle.limbo_locals.specs.limbo_local.Points.{Point}
+use Rattle.limbo_locals.specs.limbo_local.Local.{IsHeader}
+use Rattle.limbo_locals.specs.limbo_local.Members.{changed, showing_module, with_functions, IsAdt, AllAddToModule}
+use Rattle.limbo_locals.specs.limbo_local.Failing as failing
+use Rattle.limbo_locals.specs.limbo_local.Failing.{FailsHeader, FailsAdt, FailsAllInModule}
 use Rattle.limbo_locals.specs.Anywhere.{at, AddsConstants, AddsTypes, FailsConstantsAt}
 use Rattle.limbo_members.proofs.Untouched.{SameModules, constants_context}
 use Rattle.limbo_interfaces.specs.Modules.{IsBegun, AddsMember, AddsMembers, FailsMember, FailsMembers}

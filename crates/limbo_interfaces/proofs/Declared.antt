@@ -8,10 +8,10 @@ use Rattle.limbo_causes.specs.declared.fault.Cause as code
 use Rattle.limbo_causes.specs.Causes.{Twice, FailsBy}
 use Rattle.limbo_causes.proofs.Telling.{fails_weaker}
 use Rattle.limbo_context.specs.Context.{Context, Body}
-use Rattle.limbo_local.specs.Points.{Point, AreNew, leave}
-use Rattle.limbo_local.specs.Members.{open_module, AllAddToModule}
-use Rattle.limbo_local.specs.Failing as failing
-use Rattle.limbo_local.specs.Failing.{FailsAllInModule, FailsToDeclare}
+use Rattle.limbo_locals.specs.limbo_local.Points.{Point, AreNew, leave}
+use Rattle.limbo_locals.specs.limbo_local.Members.{open_module, AllAddToModule}
+use Rattle.limbo_locals.specs.limbo_local.Failing as failing
+use Rattle.limbo_locals.specs.limbo_local.Failing.{FailsAllInModule, FailsToDeclare}
 use Rattle.limbo_locals.specs.Anywhere.{at, DeclaresAt, FailsAt}
 use Rattle.limbo_interfaces.specs.Modules.{AddsMembers, FailsMembers}
 

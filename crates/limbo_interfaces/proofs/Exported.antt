@@ -6,8 +6,8 @@ use Rattle.limbo_scope.specs.Scopes.{Scope, entered}
 use Rattle.limbo_scope.specs.Laws.{declared_all}
 use Rattle.limbo_typed.specs.Typed.{Interface}
 use Rattle.limbo_context.specs.Context.{Context, Body}
-use Rattle.limbo_local.specs.Points.{Point}
-use Rattle.limbo_local.specs.Members.{changed, showing_module, open_module}
+use Rattle.limbo_locals.specs.limbo_local.Points.{Point}
+use Rattle.limbo_locals.specs.limbo_local.Members.{changed, showing_module, open_module}
 use Rattle.limbo_locals.specs.Anywhere.{at}
 use Rattle.limbo_members.proofs.Kept.{changed_same, one_longer}
 use Rattle.limbo_members.proofs.Shown.{shown_below, row_changed, row_there, last_of}

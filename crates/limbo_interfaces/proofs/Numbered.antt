@@ -10,8 +10,8 @@ use Rattle.limbo_typed.specs.declared.module.Interface as code_interface
 use Rattle.limbo_typed.specs.Typed.{Interface}
 use Rattle.limbo_typed.specs.View.{view_signature, view_interface}
 use Rattle.limbo_context.specs.Context.{Context, Body}
-use Rattle.limbo_local.specs.Points.{meaning_from}
-use Rattle.limbo_local.specs.Members.{changed, showing_module, with_signatures, functions_at, with_functions}
+use Rattle.limbo_locals.specs.limbo_local.Points.{meaning_from}
+use Rattle.limbo_locals.specs.limbo_local.Members.{changed, showing_module, with_signatures, functions_at, with_functions}
 use Rattle.limbo_locals.specs.Anywhere.{at}
 use Rattle.limbo_members.proofs.Kept.{length_changed}
 use Rattle.limbo_interfaces.specs.Modules.{IsBegun}

@@ -6,9 +6,9 @@ use Rattle.limbo_tree.specs.Decls.{Member, Members}
 use Rattle.limbo_scope.specs.Scopes.{entered}
 use Rattle.limbo_causes.specs.Causes.{Cause}
 use Rattle.limbo_context.specs.Context.{Context, Body}
-use Rattle.limbo_local.specs.Points.{Point}
-use Rattle.limbo_local.specs.Members.{showing_module, AddsToModule, AllAddToModule}
-use Rattle.limbo_local.specs.Failing.{FailsInModule, FailsAllInModule}
+use Rattle.limbo_locals.specs.limbo_local.Points.{Point}
+use Rattle.limbo_locals.specs.limbo_local.Members.{showing_module, AddsToModule, AllAddToModule}
+use Rattle.limbo_locals.specs.limbo_local.Failing.{FailsInModule, FailsAllInModule}
 use Rattle.limbo_locals.specs.Anywhere.{at}
 
 -- functions of these names, all of one type

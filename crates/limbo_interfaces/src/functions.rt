@@ -9,7 +9,7 @@ ghost use Rattle.limbo_typed.specs.View.{view_signature, view_interface};
 ghost use Rattle.limbo_causes.specs.declared.fault.Cause.TheVariants.{NoMemory};
 ghost use Rattle.limbo_causes.specs.Causes.{FailsBy};
 ghost use Rattle.limbo_context.specs.View.{view_context, view_body};
-ghost use Rattle.limbo_local.specs.Members.{with_signatures, with_functions, showing_module};
+ghost use Rattle.limbo_locals.specs.limbo_local.Members.{with_signatures, with_functions, showing_module};
 ghost use Rattle.limbo_locals.specs.Anywhere.{at};
 ghost use Rattle.limbo_interfaces.specs.Modules.{signatures_of, IsBegun, AddsMember, FailsMember};
 

@@ -15,4 +15,5 @@ mod modules;
 mod opening;
 
 pub use declaring::declare;
+pub use limbo_members;
 pub use modules::declare_module;

@@ -5,3 +5,4 @@ pub mod Tokens
 pub mod Pieces
 pub mod Causes
 pub mod Refusals
+pub use Rattle.inf_text.specs as inf_text

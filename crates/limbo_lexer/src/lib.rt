@@ -16,6 +16,7 @@ mod token;
 mod words;
 
 pub use fault::LexFault;
+pub use inf_text;
 pub use laws::one_token_list;
 pub use lexer::lex;
 pub use token::{Key, Kind, Mark, Token};

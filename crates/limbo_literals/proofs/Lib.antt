@@ -1,2 +1,3 @@
 pub mod Elements
 pub mod Literals
+pub use Rattle.limbo_arguments.proofs as limbo_arguments_lemmas

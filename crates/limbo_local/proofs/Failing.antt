@@ -15,16 +15,16 @@ use Rattle.limbo_typed.specs.Sound.{Each, type_of, IsSettled}
 use Rattle.limbo_standing.specs.Standing.{Settles}
 use Rattle.limbo_allowed.proofs.Decided.{refused_not_allowed}
 use Rattle.limbo_allowed.specs.Allowed.{IsUserModule}
-use Rattle.limbo_permits.specs.Permits.{nodes, most_nodes}
+use Rattle.limbo_typing.specs.limbo_permits.Permits.{nodes, most_nodes}
 use Rattle.limbo_refusals.specs.Refusals.{Refusal}
 use Rattle.limbo_causes.specs.Causes.{Cause}
 use Rattle.limbo_context.specs.declared.context.Imported.{Imported}
 use Rattle.limbo_context.specs.declared.context.Origin.{Origin}
 use Rattle.limbo_context.specs.Context.{Context, Body, Valued}
-use Rattle.limbo_body_types.specs.Means.{module_led}
-use Rattle.limbo_written.specs.Written.{MeansPermitted}
-use Rattle.limbo_written.proofs.Once.{one_written, fails_or_written}
-use Rattle.limbo_folding.specs.Folding.{value_of}
+use Rattle.limbo_typing.specs.limbo_body_types.Means.{module_led}
+use Rattle.limbo_typing.specs.limbo_written.Written.{MeansPermitted}
+use Rattle.limbo_typing.proofs.limbo_written_lemmas.Once.{one_written, fails_or_written}
+use Rattle.limbo_typing.specs.limbo_folding.Folding.{value_of}
 use Rattle.limbo_typing.specs.Laws.{OneValue, FailsOrValue}
 use Rattle.limbo_local.specs.Points.{Point, AreNew}
 use Rattle.limbo_local.specs.Local.{counting, seeing_iota, IsConstant, AreConstants, NamesModule, AreImported, ArePermitted}

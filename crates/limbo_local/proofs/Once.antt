@@ -16,9 +16,9 @@ use Rattle.limbo_standing.specs.Laws.{OneSettled}
 use Rattle.limbo_context.specs.declared.context.Imported.{Imported}
 use Rattle.limbo_context.specs.declared.context.Origin.{Origin}
 use Rattle.limbo_context.specs.Context.{Context, Body, Valued}
-use Rattle.limbo_body_types.specs.Means.{module_led}
-use Rattle.limbo_written.proofs.Once.{one_written}
-use Rattle.limbo_folding.specs.Folding.{value_of}
+use Rattle.limbo_typing.specs.limbo_body_types.Means.{module_led}
+use Rattle.limbo_typing.proofs.limbo_written_lemmas.Once.{one_written}
+use Rattle.limbo_typing.specs.limbo_folding.Folding.{value_of}
 use Rattle.limbo_typing.specs.Laws.{OneValue}
 use Rattle.limbo_local.specs.Points.{Point, ValueAt, with_body, next_numbers, with_variables, leave}
 use Rattle.limbo_local.specs.Local.{counting, seeing_iota, without_iota, IsConstant, AreConstants, with_constants, with_types}

@@ -13,7 +13,7 @@ use Rattle.limbo_declarations.specs.Scopes.{AdtIsOnce, ModuleIsOnce}
 use Rattle.limbo_context.specs.declared.context.Imported.{Imported}
 use Rattle.limbo_context.specs.declared.context.Origin.{Origin}
 use Rattle.limbo_context.specs.Context.{Valued}
-use Rattle.limbo_written.specs.Written.{MeansPermitted}
+use Rattle.limbo_typing.specs.limbo_written.Written.{MeansPermitted}
 use Rattle.limbo_local.specs.Points.{Point, ValueAt, AreNew, next_numbers, with_variables, leave}
 use Rattle.limbo_local.specs.Local.{AreConstants, with_constants, with_types, NamesModule, AreImported, with_imports, with_exceptions}
 use Rattle.limbo_local.specs.Members.{IsAdt, AllAddToModule, open_module}

@@ -13,16 +13,16 @@ use Rattle.limbo_scope.specs.declared.meaning.Meaning.{Meaning}
 use Rattle.limbo_scope.specs.Scopes.{seen}
 use Rattle.limbo_refusals.specs.Refusals.{Refusal, ModuleValue, TypeTooLarge}
 use Rattle.limbo_allowed.specs.Allowed.{IsUserModule, RefusesType}
-use Rattle.limbo_permits.specs.Permits.{nodes, most_nodes}
-use Rattle.limbo_arguments.specs.Failing.{FailsAt}
+use Rattle.limbo_typing.specs.limbo_permits.Permits.{nodes, most_nodes}
+use Rattle.limbo_typing.specs.limbo_arguments.Failing.{FailsAt}
 use Rattle.limbo_declarations.specs.Scopes.{AdtIsOnce, ModuleIsOnce}
 use Rattle.limbo_causes.specs.Causes.{Cause, Twice, Unknown, NotConstant, Refused, nothing}
 use Rattle.limbo_context.specs.declared.context.Origin.{Origin}
 use Rattle.limbo_context.specs.Context.{Context, Body, Valued, named_in}
-use Rattle.limbo_body_types.specs.Means.{module_led}
-use Rattle.limbo_written.specs.Written.{MeansPermitted, FailsAsType}
-use Rattle.limbo_folding.specs.Folding.{value_of}
-use Rattle.limbo_value_forms.specs.Forms.{itself}
+use Rattle.limbo_typing.specs.limbo_body_types.Means.{module_led}
+use Rattle.limbo_typing.specs.limbo_written.Written.{MeansPermitted, FailsAsType}
+use Rattle.limbo_typing.specs.limbo_folding.Folding.{value_of}
+use Rattle.limbo_typing.specs.limbo_value_forms.Forms.{itself}
 use Rattle.limbo_typing.specs.Typing.{HasValue}
 use Rattle.limbo_typing.specs.Failing.{FailsValue}
 use Rattle.limbo_local.specs.Points.{Point, ValueAt, AreNew}

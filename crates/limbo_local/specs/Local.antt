@@ -15,9 +15,9 @@ use Rattle.limbo_context.specs.declared.context.Imported.{Imported}
 use Rattle.limbo_context.specs.declared.context.Origin.{Origin}
 use Rattle.limbo_context.specs.declared.context.Origin.TheVariants as origin
 use Rattle.limbo_context.specs.Context.{Context, Body, Valued, named_in}
-use Rattle.limbo_body_types.specs.Means.{module_led}
-use Rattle.limbo_written.specs.Written.{MeansPermitted}
-use Rattle.limbo_folding.specs.Folding.{value_of}
+use Rattle.limbo_typing.specs.limbo_body_types.Means.{module_led}
+use Rattle.limbo_typing.specs.limbo_written.Written.{MeansPermitted}
+use Rattle.limbo_typing.specs.limbo_folding.Folding.{value_of}
 use Rattle.limbo_typing.specs.Typing.{HasValue}
 use Rattle.limbo_local.specs.Points.{Point, with_body, leading}
 

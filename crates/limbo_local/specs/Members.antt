@@ -11,9 +11,9 @@ use Rattle.limbo_typed.specs.Sound.{Each}
 use Rattle.limbo_scope.specs.declared.meaning.Meaning.TheVariants as meaning
 use Rattle.limbo_scope.specs.Scopes.{entered}
 use Rattle.limbo_allowed.specs.Allowed.{IsAllowed}
-use Rattle.limbo_permits.specs.Permits.{nodes, most_nodes}
+use Rattle.limbo_typing.specs.limbo_permits.Permits.{nodes, most_nodes}
 use Rattle.limbo_context.specs.Context.{Context, Body, Valued}
-use Rattle.limbo_written.specs.Written.{MeansPermitted}
+use Rattle.limbo_typing.specs.limbo_written.Written.{MeansPermitted}
 use Rattle.limbo_local.specs.Points.{Point, enter, leave, leading}
 use Rattle.limbo_local.specs.Local.{AreConstants, with_constants, with_types, IsHeader}
 

@@ -8,7 +8,7 @@ use Rattle.limbo_scope.specs.declared.meaning.Meaning.TheVariants as meaning
 use Rattle.limbo_scope.specs.Scopes.{entered, left}
 use Rattle.limbo_scope.specs.Laws.{declared_all}
 use Rattle.limbo_declarations.specs.Names.{AreOnce}
-use Rattle.limbo_defining.specs.Defining.{IsFree}
+use Rattle.limbo_typing.specs.limbo_defining.Defining.{IsFree}
 use Rattle.limbo_context.specs.Context.{Context, Body}
 use Rattle.limbo_typed.specs.Sound.{Each}
 use Rattle.limbo_typing.specs.Typing.{HasValue}

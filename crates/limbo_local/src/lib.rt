@@ -12,3 +12,4 @@
 mod laws;
 
 pub use laws::{fails_or_declares, one_declared};
+pub use limbo_typing;

@@ -10,11 +10,11 @@ use Rattle.limbo_scope.specs.Scopes.{Scope, declared, entered, left}
 use Rattle.limbo_scope.specs.Laws.{declared_all}
 use Rattle.limbo_scope.proofs.Stacks.{gives_back}
 use Rattle.limbo_context.specs.Context.{Context, Body}
-use Rattle.limbo_defining.specs.Defining as defining
-use Rattle.limbo_defining.specs.Defining.{Defines, DefineEach}
-use Rattle.limbo_things.specs.Things.{Thing, AValue, APrint}
-use Rattle.limbo_typing.specs.Typing as typing
-use Rattle.limbo_typing.specs.Typing.{Denotes, HasValue, Types, Has, HaveValues, MayHave, Fill, IsPattern, ArePatterns}
+use Rattle.limbo_exprs.specs.limbo_defining.Defining as defining
+use Rattle.limbo_exprs.specs.limbo_defining.Defining.{Defines, DefineEach}
+use Rattle.limbo_exprs.specs.limbo_things.Things.{Thing, AValue, APrint}
+use Rattle.limbo_exprs.specs.limbo_typing.Typing as typing
+use Rattle.limbo_exprs.specs.limbo_typing.Typing.{Denotes, HasValue, Types, Has, HaveValues, MayHave, Fill, IsPattern, ArePatterns}
 use Rattle.limbo_local.specs.Local.{iota, counting, seeing, seen_behind}
 
 -- These are declared in the innermost scope, a variable each.

@@ -22,7 +22,7 @@ use Rattle.limbo_context.specs.declared.context.Valued as code_valued
 use Rattle.limbo_context.specs.declared.body.Body as code_body
 use Rattle.limbo_context.specs.Context.{Context, Body, Valued}
 use Rattle.limbo_context.specs.View.{view_valued, view_body}
-use Rattle.limbo_typing.specs.Failing.{FailsValue}
+use Rattle.limbo_exprs.specs.limbo_typing.Failing.{FailsValue}
 use Rattle.limbo_tree.specs.Decls as decls
 use Rattle.limbo_scope.specs.declared.meaning.Meaning.TheVariants as meaning
 use Rattle.limbo_scope.specs.Laws.{declared_all}

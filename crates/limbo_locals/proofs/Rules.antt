@@ -26,9 +26,9 @@ use Rattle.limbo_arguments.specs.Failing as arguments
 use Rattle.limbo_standing.specs.Standing.{Settles}
 use Rattle.limbo_context.specs.Context.{Context, Body}
 use Rattle.limbo_written.specs.Written.{MeansPermitted, FailsAsType}
-use Rattle.limbo_value_forms.specs.Forms.{itself}
-use Rattle.limbo_typing.specs.Typing.{HasValue}
-use Rattle.limbo_typing.specs.Failing.{FailsValue}
+use Rattle.limbo_exprs.specs.limbo_value_forms.Forms.{itself}
+use Rattle.limbo_exprs.specs.limbo_typing.Typing.{HasValue}
+use Rattle.limbo_exprs.specs.limbo_typing.Failing.{FailsValue}
 use Rattle.limbo_local.specs.Points.{ValueAt, numbers}
 use Rattle.limbo_local.specs.Failing.{FailsToDeclare, FailsModule, HasNoMember}
 use Rattle.limbo_local.specs.Failing as failing

@@ -8,7 +8,7 @@ use Rattle.limbo_tree.specs.Decls.{Decl}
 use Rattle.limbo_typed.specs.Typed.{Expr, Stmt}
 use Rattle.limbo_causes.specs.Causes.{Cause}
 use Rattle.limbo_context.specs.Context.{Context, Body, Valued}
-use Rattle.limbo_typing.specs.Typing.{HasValue}
+use Rattle.limbo_exprs.specs.limbo_typing.Typing.{HasValue}
 use Rattle.limbo_local.specs.Points.{Point}
 use Rattle.limbo_local.specs.Local.{counting, seeing_iota, without_iota, IsConstant, AreConstants, with_constants, with_types}
 use Rattle.limbo_local.specs.Declaring.{Declares}

@@ -10,7 +10,7 @@ ghost use Rattle.limbo_standing.specs.Standing.{Settles};
 ghost use Rattle.limbo_causes.specs.declared.fault.Cause.TheVariants.{NoMemory};
 ghost use Rattle.limbo_causes.specs.Causes as causes;
 ghost use Rattle.limbo_causes.specs.Causes.{FailsBy, ByRefusal};
-ghost use Rattle.limbo_value_forms.specs.Forms.{itself};
+ghost use Rattle.limbo_exprs.specs.limbo_value_forms.Forms.{itself};
 
 use inf_text::Span;
 use limbo_arguments::settle_or_clash;

@@ -18,12 +18,12 @@ use Rattle.limbo_causes.specs.Causes.{Cause, FailsBy}
 use Rattle.limbo_causes.proofs.Telling.{fails_weaker}
 use Rattle.limbo_context.specs.Context.{Context, Body}
 use Rattle.limbo_written.specs.Written.{MeansPermitted, FailsAsType}
-use Rattle.limbo_local.specs.Points.{Point, leave}
-use Rattle.limbo_local.specs.Local.{IsHeader}
-use Rattle.limbo_local.specs.Members.{Inside, nothing_inside, beside, adt_inside, fields, variants_in, AreVariants, open_adt}
-use Rattle.limbo_local.specs.Members.{AllAddToAdt}
-use Rattle.limbo_local.specs.Failing as failing
-use Rattle.limbo_local.specs.Failing.{FailsInAdt, FailsAllInAdt, FailsHeader, FailsVariants}
+use Rattle.limbo_locals.specs.limbo_local.Points.{Point, leave}
+use Rattle.limbo_locals.specs.limbo_local.Local.{IsHeader}
+use Rattle.limbo_locals.specs.limbo_local.Members.{Inside, nothing_inside, beside, adt_inside, fields, variants_in, AreVariants, open_adt}
+use Rattle.limbo_locals.specs.limbo_local.Members.{AllAddToAdt}
+use Rattle.limbo_locals.specs.limbo_local.Failing as failing
+use Rattle.limbo_locals.specs.limbo_local.Failing.{FailsInAdt, FailsAllInAdt, FailsHeader, FailsVariants}
 use Rattle.limbo_locals.specs.Anywhere.{at, FailsConstantsAt}
 use Rattle.limbo_declarations.proofs.Apart.{drop_more}
 use Rattle.limbo_members.specs.Adding.{IsShown, AddsMember, AddsMembers, AddsAdt, FailsMember, FailsMembers}

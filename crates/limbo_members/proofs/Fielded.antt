@@ -10,9 +10,9 @@ use Rattle.limbo_causes.specs.Causes.{Cause, FailsBy}
 use Rattle.limbo_causes.proofs.Telling.{fails_weaker}
 use Rattle.limbo_context.specs.Context.{Context, Body}
 use Rattle.limbo_written.specs.Written.{MeansPermitted, FailsAsType}
-use Rattle.limbo_local.specs.Members.{fields, AreFields, AreVariants, bare, named_variants}
-use Rattle.limbo_local.specs.Failing as failing
-use Rattle.limbo_local.specs.Failing.{FailsFields, FailsVariants}
+use Rattle.limbo_locals.specs.limbo_local.Members.{fields, AreFields, AreVariants, bare, named_variants}
+use Rattle.limbo_locals.specs.limbo_local.Failing as failing
+use Rattle.limbo_locals.specs.limbo_local.Failing.{FailsFields, FailsVariants}
 use Rattle.limbo_members.specs.Written.{AddsFields, AddsVariants}
 
 -- ---- the next of a list, as it is viewed

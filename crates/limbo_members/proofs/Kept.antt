@@ -10,10 +10,10 @@ use Rattle.limbo_scope.specs.declared.meaning.Meaning.TheVariants as meaning
 use Rattle.limbo_scope.specs.Scopes.{Scope, seen, entered, declared, left}
 use Rattle.limbo_scope.specs.Laws.{declared_all}
 use Rattle.limbo_context.specs.Context.{Context, Valued}
-use Rattle.limbo_local.specs.Points.{Point, with_body, meaning_from}
-use Rattle.limbo_local.specs.Local.{iota, counting, seeing, seen_behind, IsConstant, AreConstants}
-use Rattle.limbo_local.specs.Members.{Inside, changed, showing_adt, variants_in, open_adt, AddsToAdt, AllAddToAdt}
-use Rattle.limbo_typing.specs.Typing.{HasValue}
+use Rattle.limbo_locals.specs.limbo_local.Points.{Point, with_body, meaning_from}
+use Rattle.limbo_locals.specs.limbo_local.Local.{iota, counting, seeing, seen_behind, IsConstant, AreConstants}
+use Rattle.limbo_locals.specs.limbo_local.Members.{Inside, changed, showing_adt, variants_in, open_adt, AddsToAdt, AllAddToAdt}
+use Rattle.limbo_locals.specs.limbo_typing.Typing.{HasValue}
 use Rattle.limbo_locals.proofs.Growing.{value_grows, declared_further, back}
 
 -- ---- lists

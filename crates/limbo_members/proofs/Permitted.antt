@@ -16,9 +16,9 @@ use Rattle.limbo_causes.specs.Causes.{Cause, Refused, FailsBy}
 use Rattle.limbo_causes.proofs.Telling.{fails_weaker}
 use Rattle.limbo_context.specs.Context.{Context, Body}
 use Rattle.limbo_written.specs.Written.{MeansPermitted, FailsAsType}
-use Rattle.limbo_local.specs.Local.{argument_types, ArePermitted}
-use Rattle.limbo_local.specs.Failing as failing
-use Rattle.limbo_local.specs.Failing.{FailsTypes, FailsHeader}
+use Rattle.limbo_locals.specs.limbo_local.Local.{argument_types, ArePermitted}
+use Rattle.limbo_locals.specs.limbo_local.Failing as failing
+use Rattle.limbo_locals.specs.limbo_local.Failing.{FailsTypes, FailsHeader}
 use Rattle.limbo_members.specs.Written as rules
 use Rattle.limbo_members.specs.Written.{of_each, FailsAnswer}
 

@@ -7,8 +7,8 @@ use Rattle.limbo_scope.specs.Scopes.{Scope, declared, entered}
 use Rattle.limbo_scope.specs.Laws.{declared_all}
 use Rattle.limbo_tree.specs.Decls as decls
 use Rattle.limbo_context.specs.Context.{Context, Body}
-use Rattle.limbo_local.specs.Points.{Point}
-use Rattle.limbo_local.specs.Members.{changed, showing_adt, open_adt}
+use Rattle.limbo_locals.specs.limbo_local.Points.{Point}
+use Rattle.limbo_locals.specs.limbo_local.Members.{changed, showing_adt, open_adt}
 use Rattle.limbo_locals.specs.Anywhere.{at}
 use Rattle.limbo_members.specs.Adding.{IsShown}
 use Rattle.limbo_members.proofs.Kept.{changed_same, changed_there}

@@ -5,11 +5,11 @@ use Rattle.limbo_tree.specs.Decls.{Member, VarMember, FnMember, ConMember, TypeM
 use Rattle.limbo_types.specs.Types.{Ty}
 use Rattle.limbo_layout.specs.Adts.{Field, Variant, Def, types_of, variant_types, field_types}
 use Rattle.limbo_typed.specs.Sound.{Each}
-use Rattle.limbo_permits.specs.Permits.{nodes, most_nodes}
+use Rattle.limbo_written.specs.limbo_permits.Permits.{nodes, most_nodes}
 use Rattle.limbo_context.specs.Context.{Context, Body}
-use Rattle.limbo_local.specs.Points.{Point}
-use Rattle.limbo_local.specs.Members.{Inside, nothing_inside, fields, showing_adt, variants_in, named_variants}
-use Rattle.limbo_local.specs.Members.{AreFields, AreVariants, open_adt, AddsToAdt, AllAddToAdt}
+use Rattle.limbo_locals.specs.limbo_local.Points.{Point}
+use Rattle.limbo_locals.specs.limbo_local.Members.{Inside, nothing_inside, fields, showing_adt, variants_in, named_variants}
+use Rattle.limbo_locals.specs.limbo_local.Members.{AreFields, AreVariants, open_adt, AddsToAdt, AllAddToAdt}
 use Rattle.limbo_members.proofs.Named.{each_both, types_both, variant_types_both}
 
 abbrev pub IsSmall : Ty → Type 0

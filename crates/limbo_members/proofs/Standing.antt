@@ -20,10 +20,10 @@ use Rattle.limbo_causes.specs.declared.fault.Cause as code
 use Rattle.limbo_causes.specs.Causes.{Twice, Refused, FailsBy, ByRefusal}
 use Rattle.limbo_causes.proofs.Telling.{fails_weaker}
 use Rattle.limbo_context.specs.Context.{Context, Body}
-use Rattle.limbo_local.specs.Points.{AreNew}
-use Rattle.limbo_local.specs.Members.{Inside, IsAdt}
-use Rattle.limbo_local.specs.Failing as failing
-use Rattle.limbo_local.specs.Failing.{FailsAdt, FailsToStand, FailsToDeclare}
+use Rattle.limbo_locals.specs.limbo_local.Points.{AreNew}
+use Rattle.limbo_locals.specs.limbo_local.Members.{Inside, IsAdt}
+use Rattle.limbo_locals.specs.limbo_local.Failing as failing
+use Rattle.limbo_locals.specs.limbo_local.Failing.{FailsAdt, FailsToStand, FailsToDeclare}
 use Rattle.limbo_locals.specs.Anywhere.{at, DeclaresAt, FailsAt}
 use Rattle.limbo_members.specs.Standing.{AreAllowed, with_adts_in}
 use Rattle.limbo_members.specs.Adding.{AddsAdt, FailsMember}

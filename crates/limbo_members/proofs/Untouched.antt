@@ -5,9 +5,9 @@ use Rattle.limbo_tree.specs.Exprs as tree
 use Rattle.limbo_tree.specs.Decls.{Member, VarMember, FnMember, ConMember, TypeMember, AdtMember, Members, NoMembers, MoreMembers}
 use Rattle.limbo_layout.specs.Adts.{Def}
 use Rattle.limbo_context.specs.Context.{Context, Valued}
-use Rattle.limbo_local.specs.Points.{Point}
-use Rattle.limbo_local.specs.Local.{AreConstants}
-use Rattle.limbo_local.specs.Members.{Inside, showing_adt, variants_in, open_adt, AddsToAdt, AllAddToAdt}
+use Rattle.limbo_locals.specs.limbo_local.Points.{Point}
+use Rattle.limbo_locals.specs.limbo_local.Local.{AreConstants}
+use Rattle.limbo_locals.specs.limbo_local.Members.{Inside, showing_adt, variants_in, open_adt, AddsToAdt, AllAddToAdt}
 use Rattle.limbo_members.specs.Standing.{with_adts_in}
 
 -- Constants are found where nothing is declared yet.

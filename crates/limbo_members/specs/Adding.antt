@@ -5,9 +5,9 @@ use Rattle.limbo_tree.specs.Decls.{Member, AdtMember, Members}
 use Rattle.limbo_layout.specs.View.{view_fields, view_defs}
 use Rattle.limbo_causes.specs.Causes.{Cause}
 use Rattle.limbo_context.specs.Context.{Context, Body}
-use Rattle.limbo_local.specs.Points.{Point}
-use Rattle.limbo_local.specs.Members.{Inside, showing_adt, AddsToAdt, AllAddToAdt}
-use Rattle.limbo_local.specs.Failing.{FailsInAdt, FailsAllInAdt}
+use Rattle.limbo_locals.specs.limbo_local.Points.{Point}
+use Rattle.limbo_locals.specs.limbo_local.Members.{Inside, showing_adt, AddsToAdt, AllAddToAdt}
+use Rattle.limbo_locals.specs.limbo_local.Failing.{FailsInAdt, FailsAllInAdt}
 use Rattle.limbo_locals.specs.Anywhere.{at}
 use Rattle.limbo_members.specs.declared.given.Given as code_given
 

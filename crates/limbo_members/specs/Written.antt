@@ -2,7 +2,7 @@
 use Rattle.std.specs.Prelude.{◌≡◌, ◌++◌, ℕ, List, map, Option, Some}
 use Rattle.limbo_tree.specs.Decls as decls
 use Rattle.limbo_layout.specs.Adts.{Field, Variant}
-use Rattle.limbo_local.specs.Members.{fields, AreFields, named_variants}
+use Rattle.limbo_locals.specs.limbo_local.Members.{fields, AreFields, named_variants}
 use Rattle.limbo_types.specs.Types.{Ty}
 use Rattle.limbo_tree.specs.Types as written
 use Rattle.limbo_allowed.specs.Allowed.{IsUserModule}

@@ -10,9 +10,9 @@ ghost use Rattle.limbo_scope.specs.Scopes.{declared};
 ghost use Rattle.limbo_causes.specs.Causes as causes;
 ghost use Rattle.limbo_causes.specs.Causes.{FailsBy};
 ghost use Rattle.limbo_context.specs.View.{view_context, view_body};
-ghost use Rattle.limbo_local.specs.Points.{AreNew};
-ghost use Rattle.limbo_local.specs.Members.{IsAdt};
-ghost use Rattle.limbo_local.specs.Failing.{FailsAdt};
+ghost use Rattle.limbo_locals.specs.limbo_local.Points.{AreNew};
+ghost use Rattle.limbo_locals.specs.limbo_local.Members.{IsAdt};
+ghost use Rattle.limbo_locals.specs.limbo_local.Failing.{FailsAdt};
 ghost use Rattle.limbo_locals.specs.Anywhere.{at, DeclaresAt, FailsAt};
 
 use crate::adding::add_adt;

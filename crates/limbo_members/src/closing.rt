@@ -10,7 +10,7 @@ ghost use Rattle.limbo_allowed.specs.Allowed.{RefusesType};
 ghost use Rattle.limbo_causes.specs.Causes as causes;
 ghost use Rattle.limbo_causes.specs.Causes.{FailsBy, ByRefusal};
 ghost use Rattle.limbo_context.specs.View.{view_context};
-ghost use Rattle.limbo_local.specs.Failing.{FailsToStand};
+ghost use Rattle.limbo_locals.specs.limbo_local.Failing.{FailsToStand};
 ghost use Rattle.limbo_members.specs.Standing.{AreAllowed, IsAllowedIn, with_adts_in};
 ghost use Rattle.limbo_members.specs.Adding.{view_given};
 

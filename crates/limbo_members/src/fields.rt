@@ -8,9 +8,9 @@ ghost use Rattle.limbo_layout.specs.View.{view_fields, view_variant};
 ghost use Rattle.limbo_causes.specs.Causes.{FailsBy};
 ghost use Rattle.limbo_written.specs.Written.{FailsAsType};
 ghost use Rattle.limbo_context.specs.View.{view_context, view_body};
-ghost use Rattle.limbo_local.specs.Members as members;
-ghost use Rattle.limbo_local.specs.Members.{AreFields, AreVariants, variants_in, bare, named_variants};
-ghost use Rattle.limbo_local.specs.Failing.{FailsFields, FailsVariants};
+ghost use Rattle.limbo_locals.specs.limbo_local.Members as members;
+ghost use Rattle.limbo_locals.specs.limbo_local.Members.{AreFields, AreVariants, variants_in, bare, named_variants};
+ghost use Rattle.limbo_locals.specs.limbo_local.Failing.{FailsFields, FailsVariants};
 ghost use Rattle.limbo_members.specs.Written.{AddsFields, AddsVariants};
 
 use crate::copying::copy_fields;

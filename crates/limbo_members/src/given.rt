@@ -4,7 +4,7 @@ ghost use Rattle.std.specs.Prelude.{◌≡◌, [], map, IfOk, OnOk};
 ghost use Rattle.limbo_tree.specs.View.{names_of};
 ghost use Rattle.limbo_types.specs.View.{view_ty};
 ghost use Rattle.limbo_layout.specs.View.{view_variant};
-ghost use Rattle.limbo_local.specs.Members as members;
+ghost use Rattle.limbo_locals.specs.limbo_local.Members as members;
 ghost use Rattle.limbo_members.specs.Adding.{view_given};
 
 use crate::fields::push_fields;

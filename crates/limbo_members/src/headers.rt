@@ -10,8 +10,8 @@ ghost use Rattle.limbo_causes.specs.Causes as causes;
 ghost use Rattle.limbo_causes.specs.Causes.{FailsBy};
 ghost use Rattle.limbo_written.specs.Written.{FailsAsType};
 ghost use Rattle.limbo_context.specs.View.{view_context, view_body};
-ghost use Rattle.limbo_local.specs.Local.{argument_types, ArePermitted, IsAnswer, IsHeader};
-ghost use Rattle.limbo_local.specs.Failing.{FailsTypes, FailsHeader};
+ghost use Rattle.limbo_locals.specs.limbo_local.Local.{argument_types, ArePermitted, IsAnswer, IsHeader};
+ghost use Rattle.limbo_locals.specs.limbo_local.Failing.{FailsTypes, FailsHeader};
 ghost use Rattle.limbo_members.specs.Written.{of_each, FailsAnswer};
 
 use inf_text::Span;

@@ -8,8 +8,8 @@ ghost use Rattle.limbo_causes.specs.declared.fault.Cause.TheVariants.{NoMemory};
 ghost use Rattle.limbo_causes.specs.Causes as causes;
 ghost use Rattle.limbo_causes.specs.Causes.{FailsBy};
 ghost use Rattle.limbo_context.specs.View.{view_context, view_body};
-ghost use Rattle.limbo_local.specs.Members as members;
-ghost use Rattle.limbo_local.specs.Members.{variants_in};
+ghost use Rattle.limbo_locals.specs.limbo_local.Members as members;
+ghost use Rattle.limbo_locals.specs.limbo_local.Members.{variants_in};
 ghost use Rattle.limbo_locals.specs.Anywhere.{at};
 ghost use Rattle.limbo_members.specs.Tables.{with_table};
 

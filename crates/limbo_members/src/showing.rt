@@ -5,8 +5,8 @@ ghost use Rattle.limbo_tree.specs.View.{names_of};
 ghost use Rattle.limbo_scope.specs.declared.meaning.Meaning.TheVariants as meaning;
 ghost use Rattle.limbo_scope.specs.Laws.{declared_all};
 ghost use Rattle.limbo_causes.specs.declared.fault.Cause.TheVariants.{NoMemory};
-ghost use Rattle.limbo_local.specs.Points.{meaning_from};
-ghost use Rattle.limbo_local.specs.Members.{changed};
+ghost use Rattle.limbo_locals.specs.limbo_local.Points.{meaning_from};
+ghost use Rattle.limbo_locals.specs.limbo_local.Members.{changed};
 ghost use Rattle.limbo_locals.specs.Named.{means};
 
 use limbo_causes::{Cause, TypingFault};

@@ -12,9 +12,9 @@ use Rattle.limbo_top.specs.Tops.{Placed}
 use Rattle.limbo_entries.specs.Entries.{Entry}
 use Rattle.limbo_context.specs.Context.{Context, Callee}
 use Rattle.limbo_context.specs.View.{view_context, view_callee}
-use Rattle.limbo_stating.specs.Functions.{Definition, AreFunctions, FailsSomeFunction}
-use Rattle.limbo_stating.specs.Reasons.{ByPart}
-use Rattle.limbo_stated_sound.specs.Named.{IsMadeOf}
+use Rattle.limbo_stmt_values.specs.limbo_stating.Functions.{Definition, AreFunctions, FailsSomeFunction}
+use Rattle.limbo_stmt_values.specs.limbo_stating.Reasons.{ByPart}
+use Rattle.limbo_functions.specs.limbo_stated_sound.Named.{IsMadeOf}
 use Rattle.limbo_causes.specs.Causes.{Unknown}
 use Rattle.limbo_causes.specs.declared.fault.Cause.TheVariants as told_cause
 use Rattle.limbo_stmt_values.specs.declared.fault.Why.TheVariants.{Part}

@@ -17,9 +17,9 @@ use Rattle.limbo_entries.specs.Entries.{Entry, IsEntry, AreOnce}
 use Rattle.limbo_scope.specs.declared.meaning.Meaning.{Meaning}
 use Rattle.limbo_scope.specs.declared.meaning.Meaning.TheVariants as meaning
 use Rattle.limbo_meanings.specs.Meanings.{meaning_of}
-use Rattle.limbo_bodies.specs.Definitions.{IsOf, IsUndeclared}
-use Rattle.limbo_bodies.proofs.Declaring.{one_of}
-use Rattle.limbo_stating.specs.Functions.{Definition}
+use Rattle.limbo_functions.specs.limbo_bodies.Definitions.{IsOf, IsUndeclared}
+use Rattle.limbo_functions.proofs.limbo_bodies_lemmas.Declaring.{one_of}
+use Rattle.limbo_stmt_values.specs.limbo_stating.Functions.{Definition}
 use Rattle.limbo_functions.specs.View.{own_name, definition_of}
 use Rattle.limbo_modules.specs.declared.finding.Found as code_found
 use Rattle.limbo_modules.specs.Definitions.{Defines, HasNone, IsDefinition, AreDefinitions}

@@ -37,7 +37,7 @@ use Rattle.limbo_source_adts.proofs.Counts.{adt_counts, count_yes, count_no}
 use Rattle.limbo_scope.specs.Scopes.{Scope}
 use Rattle.limbo_meanings.specs.Kinds.{has_kind}
 use Rattle.limbo_meanings.proofs.Lists.{listed_at}
-use Rattle.limbo_outline.specs.Outline.{IsType, TypesAre}
+use Rattle.limbo_source_context.specs.limbo_outline.Outline.{IsType, TypesAre}
 use Rattle.limbo_context.specs.Context.{Context}
 use Rattle.limbo_source_context.specs.SourceContext.{IsContext, AllFit, HaveParams}
 use Rattle.limbo_source_context.specs.declared.fault.ContextFault.{ContextFault}
@@ -45,8 +45,8 @@ use Rattle.limbo_source_context.specs.declared.fault.ContextFault.TheVariants as
 use Rattle.limbo_source_context.specs.Laws.{OneContext, FailsOrContext}
 use Rattle.limbo_declared_types.specs.Permitted.{AllPermitted, IsForbiddenAt}
 use Rattle.limbo_declared_types.specs.Laws.{ForbiddenOrAllPermitted}
-use Rattle.limbo_stating.specs.Functions.{Definition, FailsSomeFunction}
-use Rattle.limbo_stating.specs.Laws as stating
+use Rattle.limbo_stmt_values.specs.limbo_stating.Functions.{Definition, FailsSomeFunction}
+use Rattle.limbo_stmt_values.specs.limbo_stating.Laws as stating
 use Rattle.limbo_modules.specs.Definitions.{HasNone, AreDefinitions}
 use Rattle.limbo_modules.specs.Failing.{by_type, by_context, forbidden, undefined, in_function, type_cause, context_cause}
 use Rattle.limbo_modules.specs.Laws.{FailsOrModule}

@@ -19,8 +19,8 @@ use Rattle.limbo_context.specs.Context.{Context, Callee}
 use Rattle.limbo_source_context.specs.SourceContext.{AreOutermost}
 use Rattle.limbo_source_context.specs.Laws.{OneContext, OneBeginnings}
 use Rattle.limbo_source_context.proofs.Ones.{one_list}
-use Rattle.limbo_stating.specs.Functions.{Definition, AreFunctions}
-use Rattle.limbo_stating.specs.Laws as stating
+use Rattle.limbo_stmt_values.specs.limbo_stating.Functions.{Definition, AreFunctions}
+use Rattle.limbo_stmt_values.specs.limbo_stating.Laws as stating
 use Rattle.limbo_functions.specs.View.{own_name}
 use Rattle.limbo_modules.specs.Definitions.{Defines, IsDefinition, AreDefinitions}
 use Rattle.limbo_modules.specs.Declaring.{IsDeclared, AreDeclared}

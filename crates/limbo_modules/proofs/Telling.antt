@@ -26,7 +26,7 @@ use Rattle.limbo_context.specs.Context.{Context, Callee}
 use Rattle.limbo_context.specs.View.{view_callee}
 use Rattle.limbo_source_context.specs.declared.fault.ContextFault.{ContextFault}
 use Rattle.limbo_source_context.specs.SourceContext as source
-use Rattle.limbo_stating.specs.Reasons.{Reason, ByPart}
+use Rattle.limbo_stmt_values.specs.limbo_stating.Reasons.{Reason, ByPart}
 use Rattle.limbo_stmt_values.specs.declared.fault.Why.{Why}
 use Rattle.limbo_stmt_values.specs.declared.fault.Why.TheVariants.{Part}
 use Rattle.limbo_stmt_values.specs.Whys.{FailsFor}

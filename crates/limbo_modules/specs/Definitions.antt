@@ -8,8 +8,8 @@ use Rattle.limbo_top.specs.Tops.{Placed}
 use Rattle.limbo_entries.specs.Entries.{Entry, IsEntry}
 use Rattle.limbo_scope.specs.declared.meaning.Meaning.TheVariants as meaning
 use Rattle.limbo_meanings.specs.Meanings.{meaning_of}
-use Rattle.limbo_bodies.specs.Definitions.{IsOf}
-use Rattle.limbo_stating.specs.Functions.{Definition}
+use Rattle.limbo_functions.specs.limbo_bodies.Definitions.{IsOf}
+use Rattle.limbo_stmt_values.specs.limbo_stating.Functions.{Definition}
 use Rattle.limbo_functions.specs.View.{own_name}
 
 -- What stands there defines the function of this number, so.

@@ -16,8 +16,8 @@ use Rattle.limbo_source_context.specs.SourceContext.{IsContext}
 use Rattle.limbo_source_context.specs.declared.fault.ContextFault.{ContextFault}
 use Rattle.limbo_source_context.specs.declared.fault.ContextFault.TheVariants as fault
 use Rattle.limbo_declared_types.specs.Permitted.{IsForbiddenAt}
-use Rattle.limbo_stating.specs.Reasons.{Reason, ByPart}
-use Rattle.limbo_stating.specs.Functions.{Definition, FailsSomeFunction}
+use Rattle.limbo_stmt_values.specs.limbo_stating.Reasons.{Reason, ByPart}
+use Rattle.limbo_stmt_values.specs.limbo_stating.Functions.{Definition, FailsSomeFunction}
 use Rattle.limbo_modules.specs.Definitions.{HasNone, AreDefinitions}
 use Rattle.limbo_modules.specs.Modules.{IsAround}
 

@@ -1,6 +1,6 @@
 -- What is told of a source that is no typed module.
 use Rattle.std.specs.Prelude.{◌≡◌, ℕ, Option, None, option_map}
-use Rattle.limbo_stating.specs.Reasons.{Reason, number_of}
+use Rattle.limbo_stmt_values.specs.limbo_stating.Reasons.{Reason, number_of}
 use Rattle.limbo_stmt_values.specs.declared.fault.Why.{Why}
 use Rattle.limbo_stmt_values.specs.Whys.{FailsFor, reason_told}
 use Rattle.limbo_modules.specs.declared.fault.ModuleFault.{ModuleFault}

@@ -5,7 +5,7 @@ use Rattle.limbo_tree.specs.declared.source.Function as code_function
 use Rattle.limbo_tree.specs.Sources.{Defined}
 use Rattle.limbo_top.specs.Tops.{Placed}
 use Rattle.limbo_entries.specs.Entries.{Entry}
-use Rattle.limbo_stating.specs.Functions.{Definition}
+use Rattle.limbo_stmt_values.specs.limbo_stating.Functions.{Definition}
 use Rattle.limbo_functions.specs.View.{definition_of}
 use Rattle.limbo_modules.specs.declared.finding.Found as code_found
 use Rattle.limbo_modules.specs.Definitions.{HasNone, IsDefinition}

@@ -5,7 +5,7 @@ use Rattle.limbo_top.specs.Tops.{Placed}
 use Rattle.limbo_entries.specs.Entries.{Entry, IsTable, AreOnce}
 use Rattle.limbo_typed.specs.Typed.{Module}
 use Rattle.limbo_source_context.specs.SourceContext.{HaveParams}
-use Rattle.limbo_stating.specs.Reasons.{Reason}
+use Rattle.limbo_stmt_values.specs.limbo_stating.Reasons.{Reason}
 use Rattle.limbo_modules.specs.Modules.{IsModule}
 use Rattle.limbo_modules.specs.Failing.{FailsModule}
 

@@ -10,8 +10,8 @@ use Rattle.limbo_typed.specs.Typed.{Function, Module}
 use Rattle.limbo_source_context.specs.SourceContext.{IsContext, AreOutermost}
 use Rattle.limbo_source_context.specs.Beginning.{AreBeginnings, AllBeginSo}
 use Rattle.limbo_declared_types.specs.Permitted.{AllPermitted}
-use Rattle.limbo_stating.specs.Functions.{Definition, AreFunctions}
-use Rattle.limbo_stated_sound.specs.Named.{IsMadeOf}
+use Rattle.limbo_stmt_values.specs.limbo_stating.Functions.{Definition, AreFunctions}
+use Rattle.limbo_functions.specs.limbo_stated_sound.Named.{IsMadeOf}
 use Rattle.limbo_modules.specs.Definitions.{AreDefinitions}
 use Rattle.limbo_modules.specs.Declaring.{AreDeclared}
 

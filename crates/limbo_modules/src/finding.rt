@@ -12,8 +12,8 @@ ghost use Rattle.limbo_modules.specs.declared.finding.FindFault.TheVariants as f
 ghost use Rattle.limbo_modules.specs.Found.{standing, IsNoted, AreFound, view_found};
 
 use inf_text::Text;
-use limbo_bodies::function_of;
 use limbo_entries::Table;
+use limbo_functions::limbo_bodies::function_of;
 use limbo_includes::Standing;
 use limbo_scope::Meaning;
 use limbo_tree::{Function, Top};

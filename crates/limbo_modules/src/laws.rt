@@ -8,7 +8,7 @@ pub fn one_module()
 {
     limbo_source_context::one_context();
     limbo_source_context::one_beginnings();
-    limbo_stating::one_statement();
+    limbo_stmt_values::limbo_stating::one_statement();
 }
 
 /// A source that fails, by whatever reason, is no typed module.
@@ -20,5 +20,5 @@ pub fn fails_or_module()
     limbo_source_context::one_context();
     limbo_source_context::fails_or_context();
     limbo_declared_types::forbidden_or_all_permitted();
-    limbo_stating::fails_or_states();
+    limbo_stmt_values::limbo_stating::fails_or_states();
 }

@@ -1,2 +1,3 @@
 mod Nodes
 pub mod Refused
+pub use Rattle.limbo_standing.proofs as limbo_standing_lemmas

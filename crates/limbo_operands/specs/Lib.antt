@@ -1,1 +1,2 @@
 pub mod Operands
+pub use Rattle.limbo_standing.specs as limbo_standing

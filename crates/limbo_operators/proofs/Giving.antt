@@ -1,7 +1,7 @@
 -- The rows give what operations give.
 use Rattle.std.proofs.Common.{ℕ, List, [], ◌∷◌, refl, inl, inr}
 use Rattle.limbo_types.specs.Types.{Ty, Int, RefAdt, RefPick}
-use Rattle.limbo_layout.specs.Adts.{Def}
+use Rattle.limbo_typed.specs.limbo_layout.Adts.{Def}
 use Rattle.limbo_typed.specs.declared.operation.Operation.{Operation}
 use Rattle.limbo_typed.specs.Fitting.{Gives, IsReference, IsRefOf, ComparesTwo}
 use Rattle.limbo_typed.specs.Sound.{IsSettled}

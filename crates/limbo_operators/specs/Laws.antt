@@ -1,7 +1,7 @@
 -- What holds of the table of operators between two operands.
 use Rattle.std.specs.Prelude.{◌≡◌, List, [], ◌∷◌}
 use Rattle.limbo_types.specs.Types.{Ty}
-use Rattle.limbo_layout.specs.Adts.{Def}
+use Rattle.limbo_typed.specs.limbo_layout.Adts.{Def}
 use Rattle.limbo_typed.specs.Fitting.{Gives}
 use Rattle.limbo_typed.specs.Sound.{IsSettled}
 use Rattle.limbo_operators.specs.declared.signs.Binary.{Binary}

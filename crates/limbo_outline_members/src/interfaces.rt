@@ -4,7 +4,7 @@ ghost use Rattle.std.specs.Prelude.{◌≡◌, ◌<◌, ◌+◌, ℕ, length, ma
 ghost use Rattle.limbo_types.specs.View.{view_fn};
 ghost use Rattle.limbo_typed.specs.View.{view_signature, view_interface};
 ghost use Rattle.limbo_entries.specs.View.{entries_of};
-ghost use Rattle.limbo_source_adts.specs.Definitions.{AreHeaded};
+ghost use Rattle.limbo_outline.specs.limbo_source_adts.Definitions.{AreHeaded};
 ghost use Rattle.limbo_outline_members.specs.Members.{SignaturesTo, SignaturesAre, InterfacesTo, InterfacesAre};
 
 use inf_text::Text;

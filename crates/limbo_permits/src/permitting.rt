@@ -4,7 +4,7 @@ ghost use Rattle.std.specs.Prelude.{IfOk, IfErr};
 ghost use Rattle.limbo_types.specs.View.{view_ty};
 ghost use Rattle.limbo_typed.specs.View.{view_expr, view_node};
 ghost use Rattle.limbo_refusals.specs.Refusals.{Refuses, NoneIs};
-ghost use Rattle.limbo_adts.specs.Table.{defs_of};
+ghost use Rattle.limbo_allowed.specs.limbo_adts.Table.{defs_of};
 ghost use Rattle.limbo_stores.specs.Stores.{RefusesStore};
 ghost use Rattle.limbo_context.specs.View.{view_context};
 ghost use Rattle.limbo_permits.specs.Permits.{Permits, ForbidsType, IsPermitted, Forbids};

@@ -13,7 +13,7 @@ use Rattle.limbo_forms.proofs.Tests.{not_settled}
 use Rattle.limbo_fields.specs.Fields.{Names}
 use Rattle.limbo_fields.specs.Fields as names
 use Rattle.limbo_fields.proofs.Named.{one}
-use Rattle.limbo_operators.proofs.Table.{ref_is, ref_found}
+use Rattle.limbo_prefixes.proofs.limbo_operators_lemmas.Table.{ref_is, ref_found}
 use Rattle.limbo_refusals.specs.Refusals.{NoneIs}
 use Rattle.limbo_places.specs.Places.{read, IsNoPlace}
 use Rattle.limbo_places.specs.Targets.{Dereferences, HasParts, Selects}

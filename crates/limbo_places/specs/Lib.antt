@@ -5,3 +5,4 @@ pub mod Targets
 pub mod Steps
 pub mod Choosing
 pub mod Laws
+pub use Rattle.limbo_prefixes.specs as limbo_prefixes

@@ -18,8 +18,8 @@ use Rattle.limbo_refusals.specs.Refusals.{NoneIs}
 use Rattle.limbo_context.specs.Context.{Context, Body}
 use Rattle.limbo_things.specs.Things.{AnException, NameIs, meant}
 use Rattle.limbo_scope.specs.declared.meaning.Meaning.{Meaning}
-use Rattle.limbo_stating.specs.Raising as rules
-use Rattle.limbo_stating.specs.Raising.{NamesException, Raises, FailsToRaise, RaisesNone, raised_name}
+use Rattle.limbo_stmt_values.specs.limbo_stating.Raising as rules
+use Rattle.limbo_stmt_values.specs.limbo_stating.Raising.{NamesException, Raises, FailsToRaise, RaisesNone, raised_name}
 use Rattle.limbo_stmt_values.specs.Leading.{point, From, Leads}
 use Rattle.limbo_stmt_values.specs.Answering as answering
 use Rattle.limbo_stmt_values.specs.Answering.{FailsToAnswer}

@@ -10,8 +10,8 @@ use Rattle.limbo_arguments.specs.Failing.{FailsEach}
 use Rattle.limbo_causes.specs.Causes.{Cause, Refused, nothing}
 use Rattle.limbo_context.specs.Context.{Context, Body}
 use Rattle.limbo_things.specs.Things.{Thing, AnException}
-use Rattle.limbo_typing.specs.Typing.{HaveValues}
-use Rattle.limbo_typing.specs.Failing.{FailsSome}
+use Rattle.limbo_stmt_values.specs.limbo_typing.Typing.{HaveValues}
+use Rattle.limbo_stmt_values.specs.limbo_typing.Failing.{FailsSome}
 
 -- the exception that a thing is
 abbrev pub exception_in : Thing → Option ℕ

@@ -7,7 +7,7 @@ ghost use Rattle.limbo_causes.specs.declared.fault.Cause.TheVariants.{NoMemory};
 ghost use Rattle.limbo_context.specs.View.{view_context, view_body};
 ghost use Rattle.limbo_things.specs.Things.{AnException, NameIs};
 ghost use Rattle.limbo_things.specs.ThingView.{view_thing};
-ghost use Rattle.limbo_stating.specs.Raising as rules;
+ghost use Rattle.limbo_stmt_values.specs.limbo_stating.Raising as rules;
 ghost use Rattle.limbo_raising.specs.Exceptions.{exception_in};
 
 use inf_text::Text;

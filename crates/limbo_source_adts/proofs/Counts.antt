@@ -6,8 +6,8 @@ use Rattle.limbo_declarations.specs.Rows as rows
 use Rattle.limbo_declarations.specs.Rows.{Declared}
 use Rattle.limbo_entries.specs.Entries.{Entry}
 use Rattle.limbo_naming.specs.Naming.{is_adt, is_module, is_variant}
-use Rattle.limbo_type_names.specs.Numbers.{are_alike, number_of}
-use Rattle.limbo_type_names.specs.Counts.{is_adt_entry, is_module_entry, is_variant_in}
+use Rattle.limbo_headers.specs.limbo_type_names.Numbers.{are_alike, number_of}
+use Rattle.limbo_headers.specs.limbo_type_names.Counts.{is_adt_entry, is_module_entry, is_variant_in}
 
 -- 1 where a test holds
 abbrev one_if : (Entry → Bool) → Entry → ℕ

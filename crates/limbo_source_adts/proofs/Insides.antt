@@ -4,7 +4,7 @@ use Rattle.std.proofs.Math.ListN.{set}
 use Rattle.std.proofs.lemmas.List.{append-nil}
 use Rattle.limbo_entries.specs.Entries.{Entry}
 use Rattle.limbo_order.specs.View.{rows}
-use Rattle.limbo_type_names.specs.Numbers.{is_inside}
+use Rattle.limbo_headers.specs.limbo_type_names.Numbers.{is_inside}
 use Rattle.limbo_source_adts.specs.Inside.{inside_from, numbers_inside, AreInside, with_number}
 use Rattle.limbo_source_adts.specs.Empty.{none_each}
 

@@ -7,11 +7,11 @@ use Rattle.limbo_declarations.specs.Rows.{Row}
 use Rattle.limbo_entries.specs.Entries.{Entry, IsEntry, IsTable}
 use Rattle.limbo_naming.specs.Naming.{is_adt, is_module, is_variant}
 use Rattle.limbo_layout.specs.Adts.{Field, Variant, Def, Names, AllName, AreNamed, HasVariant, Has, types_of, variant_types}
-use Rattle.limbo_type_names.specs.Numbers.{number_of, is_inside}
-use Rattle.limbo_type_names.specs.Counts.{is_adt_entry, is_module_entry, is_variant_in}
-use Rattle.limbo_type_names.specs.Means as means
-use Rattle.limbo_type_names.specs.Means.{Means, AllMean, Stands, RefersTo, IsVariant}
-use Rattle.limbo_type_names.proofs.Knowing.{one_entry}
+use Rattle.limbo_headers.specs.limbo_type_names.Numbers.{number_of, is_inside}
+use Rattle.limbo_headers.specs.limbo_type_names.Counts.{is_adt_entry, is_module_entry, is_variant_in}
+use Rattle.limbo_headers.specs.limbo_type_names.Means as means
+use Rattle.limbo_headers.specs.limbo_type_names.Means.{Means, AllMean, Stands, RefersTo, IsVariant}
+use Rattle.limbo_headers.proofs.limbo_type_names_lemmas.Knowing.{one_entry}
 use Rattle.limbo_source_adts.specs.Inside.{inside_from, numbers_inside}
 use Rattle.limbo_source_adts.specs.Definitions as defs
 use Rattle.limbo_source_adts.specs.Definitions.{FieldsAre, VariantsAre, IsAdt, AdtsAre}

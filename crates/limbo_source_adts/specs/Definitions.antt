@@ -6,7 +6,7 @@ use Rattle.limbo_declarations.specs.Rows as rows
 use Rattle.limbo_entries.specs.Entries.{Entry, IsEntry}
 use Rattle.limbo_naming.specs.Naming.{is_adt, is_variant, is_variable}
 use Rattle.limbo_layout.specs.Adts.{Field, Variant, Def}
-use Rattle.limbo_type_names.specs.Means.{Means}
+use Rattle.limbo_headers.specs.limbo_type_names.Means.{Means}
 use Rattle.limbo_headers.specs.declared.header.Heading.{Heading}
 use Rattle.limbo_headers.specs.Headers.{Heads}
 use Rattle.limbo_source_adts.specs.Inside.{numbers_inside}

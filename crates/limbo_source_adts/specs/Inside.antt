@@ -1,7 +1,7 @@
 -- The declarations that stand inside one.
 use Rattle.std.specs.Prelude.{◌≡◌, ℕ, zero, suc, if◌then◌else◌, List, [], ◌∷◌, ◌++◌, Some, length, slice_get}
 use Rattle.limbo_entries.specs.Entries.{Entry}
-use Rattle.limbo_type_names.specs.Numbers.{is_inside}
+use Rattle.limbo_headers.specs.limbo_type_names.Numbers.{is_inside}
 
 -- The numbers of those that stand inside declaration a, in order, where the first of the list has the number k.
 abbrev pub inside_from : ℕ → List Entry → (a : ℕ) → List ℕ

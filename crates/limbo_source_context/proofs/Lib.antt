@@ -5,3 +5,4 @@ pub mod Suiting
 pub mod Ones
 pub mod Contexts
 pub mod Failing
+pub use Rattle.limbo_outline.proofs as limbo_outline_lemmas

@@ -7,7 +7,7 @@ use Rattle.limbo_scope.specs.declared.meaning.Meaning.{Meaning}
 use Rattle.limbo_scope.specs.declared.meaning.Meaning.TheVariants as meaning
 use Rattle.limbo_scope.specs.Scopes.{Scope, seen}
 use Rattle.limbo_typed.specs.Sound.{Each}
-use Rattle.limbo_typed_sound.proofs.Lists.{each_at}
+use Rattle.limbo_stated_sound.proofs.limbo_typed_sound_lemmas.Lists.{each_at}
 use Rattle.limbo_context.specs.Context.{Context}
 use Rattle.limbo_context.specs.declared.context.Imported.{Imported}
 use Rattle.limbo_context.specs.declared.context.Origin.TheVariants as origin

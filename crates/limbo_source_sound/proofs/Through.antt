@@ -31,7 +31,7 @@ use Rattle.limbo_outline.proofs.Numbers.{global_of, modules_by}
 use Rattle.limbo_imports.specs.Imports.{origin_of, meaning_at, IsImport}
 use Rattle.limbo_typed.specs.Typed.{Var}
 use Rattle.limbo_typed.specs.Sound.{Each}
-use Rattle.limbo_typed_sound.specs.Describing.{IsThrough}
+use Rattle.limbo_stated_sound.specs.limbo_typed_sound.Describing.{IsThrough}
 use Rattle.limbo_source_context.specs.SourceContext.{IsContext}
 use Rattle.limbo_source_context.proofs.Beginnings.{meant_at}
 use Rattle.limbo_source_sound.proofs.Alike.{meant_module}

@@ -8,8 +8,8 @@ use Rattle.limbo_typed.specs.Fitting.{IsConstant}
 use Rattle.limbo_typed.specs.Sound.{Each, SoundInitial, SoundDeclaration, IsSound}
 use Rattle.limbo_scope.specs.Scopes.{Scope}
 use Rattle.limbo_context.specs.Context.{Context}
-use Rattle.limbo_stating.specs.Functions.{Definition, AreFunctions}
-use Rattle.limbo_typed_sound.specs.Describing.{IsThrough}
+use Rattle.limbo_stated_sound.specs.limbo_stating.Functions.{Definition, AreFunctions}
+use Rattle.limbo_stated_sound.specs.limbo_typed_sound.Describing.{IsThrough}
 use Rattle.limbo_source_context.specs.SourceContext.{IsContext, AreOutermost}
 use Rattle.limbo_source_context.specs.Beginning.{AreBeginnings, AllBeginSo}
 use Rattle.limbo_stated_sound.specs.Named.{IsNamedThroughout, IsMadeOf, OwnerIn, IsReady}

@@ -3,7 +3,7 @@ use Rattle.std.proofs.Common.{◌≡◌, ◌+◌, ◌<◌, ℕ, zero, suc, ◌�
 use Rattle.std.proofs.Common.{Bool, true, false, ◌≢◌, ◌==◌, subst, get_or-set_other, rules, tests}
 use Rattle.limbo_types.specs.declared.ty.Ty as code_ty
 use Rattle.limbo_types.specs.View.{tys_of, view_ty}
-use Rattle.limbo_layout.specs.Adts.{listed}
+use Rattle.limbo_typed.specs.limbo_layout.Adts.{listed}
 use Rattle.std.proofs.Math.ListN.{set}
 use Rattle.std.proofs.Math.Seq.{drop-cons}
 use Rattle.std.proofs.lemmas.List.{take_more_set, drop-set-lt, take_all, drop_all}

@@ -6,7 +6,7 @@ use Rattle.limbo_types.specs.Types as ty
 use Rattle.limbo_types.specs.Types.{Ty, Tys, Byte, Int, Big, Chars, Nothing, ArrayOf, ListOf, ChanOf, Tuple, Adt, RefAdt, RefPick, Module}
 use Rattle.limbo_types.specs.Same.{same}
 use Rattle.limbo_types.proofs.Same.{only, itself}
-use Rattle.limbo_layout.specs.Adts.{listed}
+use Rattle.limbo_typed.specs.limbo_layout.Adts.{listed}
 use Rattle.limbo_typed.specs.declared.operation.Operation.{Operation}
 use Rattle.limbo_typed.specs.declared.operation.Operation.TheVariants as op
 use Rattle.limbo_typed.specs.Typed.{Expr, Of, Node, Exprs, NoExprs, MoreExprs, Optional, Absent, Present, Items, NoItems, MoreItems}

@@ -2,7 +2,7 @@
 use Rattle.std.specs.Prelude.{ℕ, ◌≡◌, Bool, true, false, List, [], ◌∷◌, Option, None, Some, option_map, ◌==◌, ◌&&◌, if◌then◌else◌}
 use Rattle.limbo_types.specs.Types.{Ty, Chars, ListOf, Tuple, RefAdt, RefPick}
 use Rattle.limbo_types.specs.Same.{same}
-use Rattle.limbo_layout.specs.Adts.{listed}
+use Rattle.limbo_typed.specs.limbo_layout.Adts.{listed}
 use Rattle.limbo_typed.specs.declared.operation.Operation.{Operation}
 use Rattle.limbo_typed.specs.declared.operation.Operation.TheVariants as op
 use Rattle.limbo_typed.specs.Typed.{Expr, Of, Node, Exprs, NoExprs, MoreExprs, Optional, Absent, Present, Items, NoItems, MoreItems}

@@ -4,7 +4,7 @@
 use Rattle.std.specs.Prelude.{ℕ, ℤ, ◌≡◌, List, [], ◌∷◌}
 use Rattle.limbo_types.specs.Types as ty
 use Rattle.limbo_types.specs.Types.{Ty, Tys, ArrayOf, ListOf, Tuple, RefAdt, RefPick}
-use Rattle.limbo_layout.specs.Adts.{listed}
+use Rattle.limbo_typed.specs.limbo_layout.Adts.{listed}
 use Rattle.limbo_typed.specs.declared.operation.Operation.TheVariants as op
 use Rattle.limbo_typed.specs.Typed.{Expr, Of, Node, Exprs, NoExprs, MoreExprs, Optional, Absent, Present, Items, NoItems, MoreItems}
 use Rattle.limbo_typed.specs.Typed.{Nil, OpenNil, Apply, Filled}

@@ -13,8 +13,8 @@ use Rattle.limbo_typed.specs.Typed.{Expr, AltHead, PickHead, HandlerHead, Stmt, 
 use Rattle.limbo_typed.specs.Fitting.{IsPick}
 use Rattle.limbo_typed.specs.Sound.{type_of, picked, IsSettled, AllSettled, IsNamed, NamesAll}
 use Rattle.limbo_context.specs.Context.{Context, Body, HasVariantNamed}
-use Rattle.limbo_typing.specs.Typing.{Types}
-use Rattle.limbo_local.specs.Points.{Point, ValueAt, with_body, enter, leave, with_variables}
+use Rattle.limbo_typed_sound.specs.limbo_typing.Typing.{Types}
+use Rattle.limbo_stating.specs.limbo_local.Points.{Point, ValueAt, with_body, enter, leave, with_variables}
 use Rattle.limbo_stating.specs.Around.{Around, in_loop, in_branch, in_arm_of, Evaluates, MayEvaluate, MayTest}
 use Rattle.limbo_stating.specs.Cases as cases
 use Rattle.limbo_stating.specs.Cases.{Chooses, ArePatterns, IsLabel}

@@ -15,8 +15,8 @@ use Rattle.limbo_context.specs.declared.context.Origin.{Origin}
 use Rattle.limbo_context.specs.declared.context.Origin.TheVariants as origin
 use Rattle.limbo_context.specs.Context.{Context, Body}
 use Rattle.limbo_body_types.specs.Means.{module_of, module_led}
-use Rattle.limbo_local.specs.Points.{Point}
-use Rattle.limbo_local.specs.Local.{origin_of, NamesModule, AreImported}
+use Rattle.limbo_stating.specs.limbo_local.Points.{Point}
+use Rattle.limbo_stating.specs.limbo_local.Local.{origin_of, NamesModule, AreImported}
 use Rattle.limbo_typed_sound.specs.Describing.{Begins}
 use Rattle.limbo_typed_sound.specs.Laws.{Grows}
 use Rattle.limbo_typed_sound.proofs.Lists.{each_at, begins_with}

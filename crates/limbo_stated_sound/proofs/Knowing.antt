@@ -24,8 +24,8 @@ use Rattle.limbo_context.specs.Context.{Context, Body, Valued}
 use Rattle.limbo_permits.specs.Permits.{Permits}
 use Rattle.limbo_defining.specs.Defining as defining
 use Rattle.limbo_defining.specs.Defining.{Defines, DefineEach}
-use Rattle.limbo_typing.specs.Typing.{HasValue, Types, HaveValues}
-use Rattle.limbo_local.specs.Points.{meaning_from, with_names}
+use Rattle.limbo_typed_sound.specs.limbo_typing.Typing.{HasValue, Types, HaveValues}
+use Rattle.limbo_stating.specs.limbo_local.Points.{meaning_from, with_names}
 use Rattle.limbo_typed_sound.specs.Describing.{Begins, Describes, IsWell, IsThrough}
 use Rattle.limbo_typed_sound.specs.Laws.{Grows}
 use Rattle.limbo_typed_sound.proofs.Lists.{each_and, begins_with}

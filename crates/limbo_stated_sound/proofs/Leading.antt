@@ -12,11 +12,11 @@ use Rattle.limbo_scope.specs.declared.meaning.Meaning.TheVariants as meaning
 use Rattle.limbo_scope.specs.Scopes.{seen, entered}
 use Rattle.limbo_context.specs.declared.context.Imported.{Imported}
 use Rattle.limbo_context.specs.Context.{Context, Body, Valued}
-use Rattle.limbo_local.specs.Points.{Point, with_body, ValueAt, enter, leave, leading, meaning_from, with_variables}
-use Rattle.limbo_local.specs.Local.{iota, counting, seeing_iota, without_iota, IsConstant, AreConstants, with_constants, with_types}
-use Rattle.limbo_local.specs.Local.{with_imports, with_exceptions}
-use Rattle.limbo_local.specs.Members.{Inside, variants_in, bare, showing_adt, AddsToAdt, AllAddToAdt}
-use Rattle.limbo_local.specs.Members.{with_adts, IsAdt}
+use Rattle.limbo_stating.specs.limbo_local.Points.{Point, with_body, ValueAt, enter, leave, leading, meaning_from, with_variables}
+use Rattle.limbo_stating.specs.limbo_local.Local.{iota, counting, seeing_iota, without_iota, IsConstant, AreConstants, with_constants, with_types}
+use Rattle.limbo_stating.specs.limbo_local.Local.{with_imports, with_exceptions}
+use Rattle.limbo_stating.specs.limbo_local.Members.{Inside, variants_in, bare, showing_adt, AddsToAdt, AllAddToAdt}
+use Rattle.limbo_stating.specs.limbo_local.Members.{with_adts, IsAdt}
 use Rattle.limbo_typed_sound.proofs.Bodies as bodies
 use Rattle.limbo_typed_sound.proofs.Lists.{begins_with}
 use Rattle.limbo_stated_sound.specs.Growing.{Extends, AreThrough, LeadsTo}

@@ -19,3 +19,4 @@ pub mod Whole
 pub mod Naming
 pub mod Modules
 pub mod Spelled
+pub use Rattle.limbo_typed_sound.proofs as limbo_typed_sound_lemmas

@@ -11,12 +11,12 @@ use Rattle.limbo_typed.specs.Typed.{Stmt, Interface}
 use Rattle.limbo_typed.specs.Sound.{type_of}
 use Rattle.limbo_scope.specs.declared.meaning.Meaning.TheVariants as meaning
 use Rattle.limbo_scope.specs.Scopes.{entered}
-use Rattle.limbo_local.specs.Points.{Point, enter, leave, leading, meaning_from, with_variables}
-use Rattle.limbo_local.specs.Local.{with_constants, with_types}
-use Rattle.limbo_local.specs.Local.{with_imports, with_exceptions}
-use Rattle.limbo_local.specs.Members.{changed, functions_at, showing_module}
-use Rattle.limbo_local.specs.Members.{open_module, with_functions, with_signatures, AddsToModule, AllAddToModule}
-use Rattle.limbo_local.specs.Declaring.{Declares}
+use Rattle.limbo_stating.specs.limbo_local.Points.{Point, enter, leave, leading, meaning_from, with_variables}
+use Rattle.limbo_stating.specs.limbo_local.Local.{with_constants, with_types}
+use Rattle.limbo_stating.specs.limbo_local.Local.{with_imports, with_exceptions}
+use Rattle.limbo_stating.specs.limbo_local.Members.{changed, functions_at, showing_module}
+use Rattle.limbo_stating.specs.limbo_local.Members.{open_module, with_functions, with_signatures, AddsToModule, AllAddToModule}
+use Rattle.limbo_stating.specs.limbo_local.Declaring.{Declares}
 use Rattle.limbo_typed_sound.specs.Describing.{Begins}
 use Rattle.limbo_typed_sound.specs.Laws.{Grows}
 use Rattle.limbo_typed_sound.proofs.Bodies as bodies

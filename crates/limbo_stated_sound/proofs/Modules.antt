@@ -13,7 +13,7 @@ use Rattle.limbo_typed.specs.Typed.{Exception}
 use Rattle.limbo_typed.specs.Sound.{Each, type_of, IsNamed, SoundFunction, HasOwner, HasSystem, SoundInitial, SoundDeclaration, IsSound}
 use Rattle.limbo_scope.specs.Scopes.{Scope}
 use Rattle.limbo_context.specs.Context.{Context, Callee}
-use Rattle.limbo_local.specs.Points.{Point, ValueAt, with_body, enter, leave, with_variables}
+use Rattle.limbo_stating.specs.limbo_local.Points.{Point, ValueAt, with_body, enter, leave, with_variables}
 use Rattle.limbo_stating.specs.Around.{Around, in_loop, in_branch, in_arm_of, MayEvaluate, MayTest}
 use Rattle.limbo_stating.specs.Cases as cases
 use Rattle.limbo_stating.specs.Cases.{ArePatterns}

@@ -9,8 +9,8 @@ use Rattle.limbo_scope.specs.Laws.{declared_all}
 use Rattle.limbo_context.specs.Context.{Context, Body}
 use Rattle.limbo_defining.specs.Defining as defining
 use Rattle.limbo_defining.specs.Defining.{Defines, DefineEach}
-use Rattle.limbo_typing.specs.Typing.{HasValue, Types, HaveValues}
-use Rattle.limbo_local.specs.Local.{seeing, seen_behind}
+use Rattle.limbo_typed_sound.specs.limbo_typing.Typing.{HasValue, Types, HaveValues}
+use Rattle.limbo_stating.specs.limbo_local.Local.{seeing, seen_behind}
 use Rattle.limbo_typed_sound.specs.Laws.{Grows}
 use Rattle.limbo_typed_sound.proofs.Bodies as bodies
 use Rattle.limbo_typed_sound.proofs.Bodies.{defines_grows}

@@ -13,14 +13,14 @@ use Rattle.limbo_tree.specs.Decls.{Decl, Member, VarMember, FnMember, ConMember,
 use Rattle.limbo_typed.specs.Typed.{Var, Stmt, Interface, Signature, Exception}
 use Rattle.limbo_typed.specs.Sound.{Each, type_of, IsSettled, AllSettled}
 use Rattle.limbo_context.specs.Context.{Context, Body, Valued, Callee}
-use Rattle.limbo_written.specs.Written.{MeansPermitted}
-use Rattle.limbo_local.specs.Points.{Point, with_body, enter, leave, with_variables}
-use Rattle.limbo_local.specs.Local.{AreConstants, with_constants, with_types, with_imports, with_exceptions}
-use Rattle.limbo_local.specs.Local.{argument_types, ArePermitted, IsAnswer, IsHeader}
-use Rattle.limbo_local.specs.Members.{Inside, beside, adt_inside, fields, changed, variants_in, named_variants, bare, showing_adt}
-use Rattle.limbo_local.specs.Members.{showing_module, AreFields, AreVariants, AddsToAdt, AllAddToAdt, with_adts}
-use Rattle.limbo_local.specs.Members.{AllMayStand, IsAdt, with_functions, with_signatures, AddsToModule, AllAddToModule}
-use Rattle.limbo_local.specs.Declaring.{Declares}
+use Rattle.limbo_typed_sound.specs.limbo_written.Written.{MeansPermitted}
+use Rattle.limbo_stating.specs.limbo_local.Points.{Point, with_body, enter, leave, with_variables}
+use Rattle.limbo_stating.specs.limbo_local.Local.{AreConstants, with_constants, with_types, with_imports, with_exceptions}
+use Rattle.limbo_stating.specs.limbo_local.Local.{argument_types, ArePermitted, IsAnswer, IsHeader}
+use Rattle.limbo_stating.specs.limbo_local.Members.{Inside, beside, adt_inside, fields, changed, variants_in, named_variants, bare, showing_adt}
+use Rattle.limbo_stating.specs.limbo_local.Members.{showing_module, AreFields, AreVariants, AddsToAdt, AllAddToAdt, with_adts}
+use Rattle.limbo_stating.specs.limbo_local.Members.{AllMayStand, IsAdt, with_functions, with_signatures, AddsToModule, AllAddToModule}
+use Rattle.limbo_stating.specs.limbo_local.Declaring.{Declares}
 use Rattle.limbo_typed_sound.specs.Describing.{Begins}
 use Rattle.limbo_typed_sound.proofs.Lists.{each_and, begins_with}
 use Rattle.limbo_typed_sound.proofs.More.{more_names, means_settled}

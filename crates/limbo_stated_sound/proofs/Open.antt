@@ -34,8 +34,8 @@ use Rattle.limbo_operators.specs.declared.signs.Binary.{Binary}
 use Rattle.limbo_operators.specs.Rows as two
 use Rattle.limbo_operators.specs.Rows.{Row, BinaryRow, Identifies, binary_of}
 use Rattle.limbo_prefixes.specs.Rows.{OneRow, UnaryRow, BytesRow}
-use Rattle.limbo_combining.specs.Combining as combining
-use Rattle.limbo_combining.specs.Combining.{ByRow, Combines, ByOneRow, Operates, BytesOf}
+use Rattle.limbo_typed_sound.specs.limbo_combining.Combining as combining
+use Rattle.limbo_typed_sound.specs.limbo_combining.Combining.{ByRow, Combines, ByOneRow, Operates, BytesOf}
 use Rattle.limbo_updating.specs.Updating as updating
 use Rattle.limbo_updating.specs.Updating.{Updates}
 use Rattle.limbo_assigning.specs.Assigning as assigning
@@ -55,19 +55,19 @@ use Rattle.limbo_channels.specs.Loading as loading
 use Rattle.limbo_channels.specs.Loading.{Loads}
 use Rattle.limbo_literals.specs.Literals as literals
 use Rattle.limbo_literals.specs.Literals.{Lists, Fills}
-use Rattle.limbo_things.specs.Things as things
-use Rattle.limbo_things.specs.Things.{Thing, AnException, AValue, AType, AVariant, AFunction, AMethod, AMember, APrint, NameIs, MemberIs}
-use Rattle.limbo_things.specs.Things.{PartIs}
-use Rattle.limbo_things.specs.Things.{PartOfValue, PartOfAdt, declared, variable, printed_at, is_number, print_at, function_among}
-use Rattle.limbo_things.specs.Things.{function_at}
-use Rattle.limbo_things.specs.Things.{function_through, export, exported, through_of, export_from, imported, meant, adt_member, member_at}
-use Rattle.limbo_things.specs.Things.{constant_value}
+use Rattle.limbo_stating.specs.limbo_things.Things as things
+use Rattle.limbo_stating.specs.limbo_things.Things.{Thing, AnException, AValue, AType, AVariant, AFunction, AMethod, AMember, APrint, NameIs, MemberIs}
+use Rattle.limbo_stating.specs.limbo_things.Things.{PartIs}
+use Rattle.limbo_stating.specs.limbo_things.Things.{PartOfValue, PartOfAdt, declared, variable, printed_at, is_number, print_at, function_among}
+use Rattle.limbo_stating.specs.limbo_things.Things.{function_at}
+use Rattle.limbo_stating.specs.limbo_things.Things.{function_through, export, exported, through_of, export_from, imported, meant, adt_member, member_at}
+use Rattle.limbo_stating.specs.limbo_things.Things.{constant_value}
 use Rattle.limbo_context.specs.declared.context.Imported.{Imported}
 use Rattle.limbo_context.specs.Context.{Context, Body, Valued, named_in}
-use Rattle.limbo_applying.specs.Applying.{Applies}
-use Rattle.limbo_value_forms.specs.Forms.{Before, Gives, AssignForms, Forms}
-use Rattle.limbo_typing.specs.Typing as typing
-use Rattle.limbo_typing.specs.Typing.{Denotes, HasValue, Types, Has}
+use Rattle.limbo_typed_sound.specs.limbo_applying.Applying.{Applies}
+use Rattle.limbo_typed_sound.specs.limbo_value_forms.Forms.{Before, Gives, AssignForms, Forms}
+use Rattle.limbo_typed_sound.specs.limbo_typing.Typing as typing
+use Rattle.limbo_typed_sound.specs.limbo_typing.Typing.{Denotes, HasValue, Types, Has}
 use Rattle.limbo_typed_sound.proofs.Ready.{Ready, ReadyNode}
 use Rattle.limbo_typed_sound.proofs.Rows.{one_settled, bytes_named}
 

@@ -10,12 +10,12 @@ use Rattle.limbo_tree.specs.Decls as decls
 use Rattle.limbo_tree.specs.Decls.{Decl, Member, VarMember, FnMember, ConMember, TypeMember, AdtMember, Members, NoMembers, MoreMembers}
 use Rattle.limbo_typed.specs.Typed.{Interface, Signature}
 use Rattle.limbo_context.specs.Context.{Context, Body, Valued}
-use Rattle.limbo_local.specs.Points.{Point}
-use Rattle.limbo_local.specs.Local.{AreConstants}
-use Rattle.limbo_local.specs.Local.{with_constants, with_types}
-use Rattle.limbo_local.specs.Members.{Inside, changed, variants_in, named_variants, bare, showing_adt}
-use Rattle.limbo_local.specs.Members.{showing_module, AreVariants, open_adt, AddsToAdt, AllAddToAdt, with_adts}
-use Rattle.limbo_local.specs.Members.{with_functions, with_signatures, AddsToModule, AllAddToModule}
+use Rattle.limbo_stating.specs.limbo_local.Points.{Point}
+use Rattle.limbo_stating.specs.limbo_local.Local.{AreConstants}
+use Rattle.limbo_stating.specs.limbo_local.Local.{with_constants, with_types}
+use Rattle.limbo_stating.specs.limbo_local.Members.{Inside, changed, variants_in, named_variants, bare, showing_adt}
+use Rattle.limbo_stating.specs.limbo_local.Members.{showing_module, AreVariants, open_adt, AddsToAdt, AllAddToAdt, with_adts}
+use Rattle.limbo_stating.specs.limbo_local.Members.{with_functions, with_signatures, AddsToModule, AllAddToModule}
 use Rattle.limbo_stated_sound.specs.Growing.{LeadsTo}
 use Rattle.limbo_stated_sound.proofs.Leading as leads
 use Rattle.limbo_stated_sound.proofs.Seen.{Grown, GrownDef, GrownInterface}

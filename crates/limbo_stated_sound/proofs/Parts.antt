@@ -31,10 +31,10 @@ use Rattle.limbo_arguments.proofs.Each.{each_stand}
 use Rattle.limbo_folding.specs.Folding.{value_of}
 use Rattle.limbo_scope.specs.declared.meaning.Meaning.{Meaning}
 use Rattle.limbo_context.specs.Context.{Context, Body}
-use Rattle.limbo_typing.specs.Typing as typing
-use Rattle.limbo_typing.specs.Typing.{Types, HasValue, HaveValues}
-use Rattle.limbo_local.specs.Points.{Point, ValueAt, with_body, numbers, next_numbers, with_variables}
-use Rattle.limbo_local.specs.Declaring.{Declares}
+use Rattle.limbo_typed_sound.specs.limbo_typing.Typing as typing
+use Rattle.limbo_typed_sound.specs.limbo_typing.Typing.{Types, HasValue, HaveValues}
+use Rattle.limbo_stating.specs.limbo_local.Points.{Point, ValueAt, with_body, numbers, next_numbers, with_variables}
+use Rattle.limbo_stating.specs.limbo_local.Declaring.{Declares}
 use Rattle.limbo_stating.specs.Around.{Evaluates, MayEvaluate, Tests, MayTest, always}
 use Rattle.limbo_stating.specs.Cases as cases
 use Rattle.limbo_stating.specs.Cases.{Chooses, IsChosenFrom, ArePatterns, IsLabel}

@@ -8,8 +8,8 @@ use Rattle.limbo_types.specs.Types.{Ty}
 use Rattle.limbo_typed.specs.Typed.{Expr, AltHead, HandlerHead, Stmt, Stmts, Bodies}
 use Rattle.limbo_typed.specs.Sound.{type_of, picked}
 use Rattle.limbo_context.specs.Context.{Body}
-use Rattle.limbo_typing.specs.Typing.{Types}
-use Rattle.limbo_local.specs.Points.{Point, with_body, enter, leave, with_variables}
+use Rattle.limbo_typed_sound.specs.limbo_typing.Typing.{Types}
+use Rattle.limbo_stating.specs.limbo_local.Points.{Point, with_body, enter, leave, with_variables}
 use Rattle.limbo_stating.specs.Around.{Around, in_loop, in_branch, in_arm_of, Evaluates, MayEvaluate, Tests, MayTest}
 use Rattle.limbo_stating.specs.Cases as cases
 use Rattle.limbo_stating.specs.Cases.{Chooses, ArePatterns, IsLabel}

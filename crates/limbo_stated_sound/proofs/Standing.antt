@@ -1,7 +1,7 @@
 -- What is known of a point that stands in a module, and the other way round.
 use Rattle.limbo_typed.specs.Typed.{Module}
 use Rattle.limbo_context.specs.Context.{Context, Body}
-use Rattle.limbo_local.specs.Points.{Point}
+use Rattle.limbo_stating.specs.limbo_local.Points.{Point}
 use Rattle.limbo_typed_sound.specs.Describing.{Describes, IsWell}
 use Rattle.limbo_stated_sound.specs.Standing.{Covers, StandsIn}
 use Rattle.limbo_stated_sound.proofs.Seen.{Known}

@@ -12,7 +12,7 @@ use Rattle.limbo_typed.specs.Sound.{type_of, IsSettled, SoundStmt, SoundStmts}
 use Rattle.limbo_standing.proofs.Settled.{settled_stands}
 use Rattle.limbo_typed.specs.Fitting.{Stands}
 use Rattle.limbo_types.specs.Types.{Ty}
-use Rattle.limbo_local.specs.Points.{Point, enter, leave}
+use Rattle.limbo_stating.specs.limbo_local.Points.{Point, enter, leave}
 use Rattle.limbo_stating.specs.Around.{Turn, Around, in_loop, in_branch, in_arm_of}
 use Rattle.limbo_stating.specs.Stating.{Branch, OfCase, OfAlt, OfPick, OfHandler, HeadOf, Spawns, one, with_catch}
 use Rattle.limbo_stating.specs.Stating.{States, StatesAll, StatesBlock, StatesArms}

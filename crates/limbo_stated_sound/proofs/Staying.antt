@@ -19,14 +19,14 @@ use Rattle.limbo_scope.specs.declared.meaning.Meaning.{Meaning}
 use Rattle.limbo_scope.specs.declared.meaning.Meaning.TheVariants as meaning
 use Rattle.limbo_scope.specs.Scopes.{Scope, seen, entered}
 use Rattle.limbo_context.specs.Context.{Context, Body, Valued}
-use Rattle.limbo_written.specs.Written.{MeansPermitted}
-use Rattle.limbo_local.specs.Points.{Point, with_body, ValueAt, enter, leave, with_names, with_variables}
-use Rattle.limbo_local.specs.Local.{iota, counting, seeing, seeing_iota, seen_behind, without_iota, IsConstant, AreConstants}
-use Rattle.limbo_local.specs.Local.{with_constants, with_types, with_imports, with_exceptions}
-use Rattle.limbo_local.specs.Members.{Inside, variants_in, functions_at, showing_adt}
-use Rattle.limbo_local.specs.Members.{showing_module, AddsToAdt, AllAddToAdt, with_adts, IsAdt}
-use Rattle.limbo_local.specs.Members.{open_module, with_functions, AddsToModule, AllAddToModule}
-use Rattle.limbo_local.specs.Declaring.{Declares}
+use Rattle.limbo_typed_sound.specs.limbo_written.Written.{MeansPermitted}
+use Rattle.limbo_stating.specs.limbo_local.Points.{Point, with_body, ValueAt, enter, leave, with_names, with_variables}
+use Rattle.limbo_stating.specs.limbo_local.Local.{iota, counting, seeing, seeing_iota, seen_behind, without_iota, IsConstant, AreConstants}
+use Rattle.limbo_stating.specs.limbo_local.Local.{with_constants, with_types, with_imports, with_exceptions}
+use Rattle.limbo_stating.specs.limbo_local.Members.{Inside, variants_in, functions_at, showing_adt}
+use Rattle.limbo_stating.specs.limbo_local.Members.{showing_module, AddsToAdt, AllAddToAdt, with_adts, IsAdt}
+use Rattle.limbo_stating.specs.limbo_local.Members.{open_module, with_functions, AddsToModule, AllAddToModule}
+use Rattle.limbo_stating.specs.limbo_local.Declaring.{Declares}
 use Rattle.limbo_typed_sound.specs.Describing.{HasTypes}
 use Rattle.limbo_typed_sound.proofs.Leading.{value_permitted}
 use Rattle.limbo_typed_sound.proofs.More.{means_settled}

@@ -17,8 +17,8 @@ use Rattle.limbo_scope.proofs.Stacks.{innermost_counts}
 use Rattle.limbo_context.specs.declared.context.Imported.{Imported}
 use Rattle.limbo_context.specs.declared.context.Origin.TheVariants as origin
 use Rattle.limbo_context.specs.Context.{Context, Body, Callee}
-use Rattle.limbo_written.specs.Written.{MeansPermitted}
-use Rattle.limbo_local.specs.Local.{argument_types, ArePermitted, IsAnswer, IsHeader}
+use Rattle.limbo_typed_sound.specs.limbo_written.Written.{MeansPermitted}
+use Rattle.limbo_stating.specs.limbo_local.Local.{argument_types, ArePermitted, IsAnswer, IsHeader}
 use Rattle.limbo_stating.specs.Functions.{Definition, parameter_names, parameters, parameter_meanings, outside, begins, around}
 use Rattle.limbo_stating.specs.Functions.{body_of, function, IsFunction, AreFunctions}
 use Rattle.limbo_typed_sound.specs.Describing.{Describes}

@@ -11,8 +11,8 @@ use Rattle.limbo_typed.specs.Sound.{SoundDeclaration, IsSound}
 use Rattle.limbo_typed.specs.Sound.{SoundCasePattern, SoundAltHead, SoundPickHead, SoundHandlerHead}
 use Rattle.limbo_scope.specs.Scopes.{Scope}
 use Rattle.limbo_context.specs.Context.{Context, Callee}
-use Rattle.limbo_local.specs.Points.{Point}
-use Rattle.limbo_local.specs.Declaring.{Declares}
+use Rattle.limbo_stating.specs.limbo_local.Points.{Point}
+use Rattle.limbo_stating.specs.limbo_local.Declaring.{Declares}
 use Rattle.limbo_stating.specs.Around.{Around}
 use Rattle.limbo_stating.specs.Stating.{Branch, OfCase, OfAlt, OfPick, OfHandler, HeadOf, States, StatesAll, StatesBlock, StatesArms}
 use Rattle.limbo_stating.specs.Functions.{Definition, IsFunction, AreFunctions}

@@ -7,7 +7,7 @@ use Rattle.limbo_scope.specs.Scopes.{Scope, seen}
 use Rattle.limbo_context.specs.declared.context.Imported.{Imported}
 use Rattle.limbo_context.specs.declared.context.Origin.TheVariants as origin
 use Rattle.limbo_context.specs.Context.{Context}
-use Rattle.limbo_local.specs.Points.{Point}
+use Rattle.limbo_stating.specs.limbo_local.Points.{Point}
 use Rattle.limbo_stating.specs.Around.{Around}
 use Rattle.limbo_typed_sound.specs.Describing.{Begins, HasTypes, Describes, IsWell}
 

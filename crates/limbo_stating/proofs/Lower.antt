@@ -2,7 +2,7 @@
 use Rattle.limbo_standing.specs.Laws.{OneSettled}
 use Rattle.limbo_arguments.specs.Laws.{OneEach, EachOrFails}
 use Rattle.limbo_things.specs.Laws.{OneName}
-use Rattle.limbo_typing.specs.Laws.{OneTyped, OneValue, FailsOrTypes, FailsOrValue}
+use Rattle.limbo_local.specs.limbo_typing.Laws.{OneTyped, OneValue, FailsOrTypes, FailsOrValue}
 use Rattle.limbo_local.specs.Laws.{OneDeclared, FailsOrDeclares}
 
 -- Each is one at most.

@@ -18,13 +18,13 @@ use Rattle.limbo_typed.specs.Typed.{Expr, Exprs, NoExprs, MoreExprs, AltHead, Pi
 use Rattle.limbo_typed.specs.Sound.{type_of, picked, IsCased}
 use Rattle.limbo_standing.specs.Standing.{Settles, SettleEach}
 use Rattle.limbo_context.specs.Context.{Context, Body, IsFirstNamed, HasVariantAt}
-use Rattle.limbo_folding.specs.Folding.{value_of}
+use Rattle.limbo_local.specs.limbo_folding.Folding.{value_of}
 use Rattle.limbo_things.specs.Things.{Thing, AValue, APrint, AnException, NameIs}
-use Rattle.limbo_applying.specs.Applying.{Applies}
-use Rattle.limbo_typing.specs.Typing.{HasValue, HaveValues}
-use Rattle.limbo_typing.specs.Typing as typing
-use Rattle.limbo_typing.proofs.Forms as form
-use Rattle.limbo_typing.proofs.Forms.{Called, a_call, a_print}
+use Rattle.limbo_local.specs.limbo_applying.Applying.{Applies}
+use Rattle.limbo_local.specs.limbo_typing.Typing.{HasValue, HaveValues}
+use Rattle.limbo_local.specs.limbo_typing.Typing as typing
+use Rattle.limbo_local.proofs.limbo_typing_lemmas.Forms as form
+use Rattle.limbo_local.proofs.limbo_typing_lemmas.Forms.{Called, a_call, a_print}
 use Rattle.limbo_local.specs.Points.{Point, with_body, with_variables}
 use Rattle.limbo_local.proofs.Once.{same_two, value_once}
 use Rattle.limbo_stating.specs.Around.{Turn, Innermost, Evaluates, MayEvaluate, Tests, MayTest, condition}

@@ -13,14 +13,14 @@ use Rattle.limbo_typed.specs.Sound.{type_of, IsSettled, is_call}
 use Rattle.limbo_standing.specs.Standing.{Settles, SettleEach}
 use Rattle.limbo_causes.specs.Causes.{Cause}
 use Rattle.limbo_context.specs.Context.{Context, Body}
-use Rattle.limbo_folding.specs.Folding.{value_of}
-use Rattle.limbo_permits.specs.Permits.{ForbidsType}
-use Rattle.limbo_permits.proofs.Standing.{type_forbidden}
+use Rattle.limbo_local.specs.limbo_folding.Folding.{value_of}
+use Rattle.limbo_local.specs.limbo_permits.Permits.{ForbidsType}
+use Rattle.limbo_local.proofs.limbo_permits_lemmas.Standing.{type_forbidden}
 use Rattle.limbo_things.specs.Things.{Thing, AnException, NameIs}
-use Rattle.limbo_typing.specs.Typing.{HaveValues}
-use Rattle.limbo_typing.specs.Failing.{FailsName, FailsSome}
-use Rattle.limbo_typing.specs.Failing as row
-use Rattle.limbo_typing.proofs.Forms as form
+use Rattle.limbo_local.specs.limbo_typing.Typing.{HaveValues}
+use Rattle.limbo_local.specs.limbo_typing.Failing.{FailsName, FailsSome}
+use Rattle.limbo_local.specs.limbo_typing.Failing as row
+use Rattle.limbo_local.proofs.limbo_typing_lemmas.Forms as form
 use Rattle.limbo_local.specs.Points.{Point, ValueAt}
 use Rattle.limbo_local.proofs.Once.{value_once}
 use Rattle.limbo_stating.specs.Reasons.{Reason}

@@ -7,8 +7,8 @@ use Rattle.limbo_tree.specs.Exprs as tree
 use Rattle.limbo_typed.specs.Typed.{Expr, Of, Receive, Assign, Send, AltHead, Receives, Sends, WaitsNot}
 use Rattle.limbo_causes.specs.Causes.{Cause}
 use Rattle.limbo_context.specs.Context.{Body}
-use Rattle.limbo_typing.specs.Typing.{Types}
-use Rattle.limbo_typing.specs.Failing.{Fails}
+use Rattle.limbo_local.specs.limbo_typing.Typing.{Types}
+use Rattle.limbo_local.specs.limbo_typing.Failing.{Fails}
 use Rattle.limbo_local.specs.Points.{Point, with_body}
 use Rattle.limbo_stating.specs.Reasons.{Reason, ByPart, BadAlt}
 

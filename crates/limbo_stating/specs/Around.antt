@@ -10,10 +10,10 @@ use Rattle.limbo_typed.specs.Sound.{type_of, IsSettled}
 use Rattle.limbo_refusals.specs.Refusals.{Clash}
 use Rattle.limbo_causes.specs.Causes.{Cause, Refused}
 use Rattle.limbo_context.specs.Context.{Body}
-use Rattle.limbo_folding.specs.Folding.{value_of}
-use Rattle.limbo_value_forms.specs.Forms.{itself}
-use Rattle.limbo_typing.specs.Typing.{Types}
-use Rattle.limbo_typing.specs.Failing.{Fails, FailsValue}
+use Rattle.limbo_local.specs.limbo_folding.Folding.{value_of}
+use Rattle.limbo_local.specs.limbo_value_forms.Forms.{itself}
+use Rattle.limbo_local.specs.limbo_typing.Typing.{Types}
+use Rattle.limbo_local.specs.limbo_typing.Failing.{Fails, FailsValue}
 use Rattle.limbo_local.specs.Points.{Point, ValueAt, with_body}
 
 -- A loop or a branch, with its label where it has one. Branches are `case`, `alt` and `pick`.

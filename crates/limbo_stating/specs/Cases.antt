@@ -12,9 +12,9 @@ use Rattle.limbo_typed.specs.Sound.{type_of, IsCased}
 use Rattle.limbo_standing.specs.Standing.{Settles}
 use Rattle.limbo_refusals.specs.Refusals.{Clash, NoneIs}
 use Rattle.limbo_causes.specs.Causes.{Cause, Refused}
-use Rattle.limbo_folding.specs.Folding.{value_of}
-use Rattle.limbo_value_forms.specs.Forms.{itself}
-use Rattle.limbo_typing.specs.Failing.{FailsValue}
+use Rattle.limbo_local.specs.limbo_folding.Folding.{value_of}
+use Rattle.limbo_local.specs.limbo_value_forms.Forms.{itself}
+use Rattle.limbo_local.specs.limbo_typing.Failing.{FailsValue}
 use Rattle.limbo_cases.specs.declared.label.Label.{Label}
 use Rattle.limbo_cases.specs.Labels.{Apart}
 use Rattle.limbo_cases.specs.Texts.{TextAtMost}

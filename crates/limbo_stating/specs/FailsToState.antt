@@ -13,8 +13,8 @@ use Rattle.limbo_refusals.specs.Refusals.{Refusal, Clash, NoneIs}
 use Rattle.limbo_arguments.specs.Failing.{FailsAt}
 use Rattle.limbo_causes.specs.Causes.{Cause, Refused, nothing}
 use Rattle.limbo_context.specs.Context.{Body}
-use Rattle.limbo_typing.specs.Typing.{Types}
-use Rattle.limbo_typing.specs.Failing.{Fails, FailsValue}
+use Rattle.limbo_local.specs.limbo_typing.Typing.{Types}
+use Rattle.limbo_local.specs.limbo_typing.Failing.{Fails, FailsValue}
 use Rattle.limbo_local.specs.Points.{Point, ValueAt, enter, leave}
 use Rattle.limbo_local.specs.Failing.{FailsToDeclare}
 use Rattle.limbo_stating.specs.Reasons.{Reason, ByPart, CaseOverlap, BadAlt, BadPick, NoReturn, BadLabel}

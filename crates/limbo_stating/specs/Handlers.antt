@@ -10,8 +10,8 @@ use Rattle.limbo_refusals.specs.Refusals.{Refusal, NoneIs}
 use Rattle.limbo_causes.specs.Causes.{Cause, Refused}
 use Rattle.limbo_context.specs.Context.{Context, Body}
 use Rattle.limbo_things.specs.Things.{Thing, AnException, NameIs}
-use Rattle.limbo_permits.specs.Permits.{Permits, ForbidsType}
-use Rattle.limbo_typing.specs.Failing.{FailsName, unfit}
+use Rattle.limbo_local.specs.limbo_permits.Permits.{Permits, ForbidsType}
+use Rattle.limbo_local.specs.limbo_typing.Failing.{FailsName, unfit}
 use Rattle.limbo_local.specs.Points.{Point, with_variables}
 
 -- ---- patterns

@@ -9,3 +9,5 @@ pub mod Stating
 pub mod FailsToState
 pub mod Functions
 pub mod Laws
+pub use Rattle.limbo_local.specs as limbo_local
+pub use Rattle.limbo_things.specs as limbo_things

@@ -8,7 +8,7 @@ use Rattle.limbo_typed.specs.Sound.{type_of, picked}
 use Rattle.limbo_refusals.specs.Refusals.{NoneIs}
 use Rattle.limbo_causes.specs.Causes.{Cause}
 use Rattle.limbo_context.specs.Context.{Context, HasVariantNamed}
-use Rattle.limbo_typing.specs.Failing.{FailsValue}
+use Rattle.limbo_local.specs.limbo_typing.Failing.{FailsValue}
 use Rattle.limbo_local.specs.Points.{Point, ValueAt, with_variables}
 use Rattle.limbo_stating.specs.Reasons.{Reason, ByPart, BadPick}
 

@@ -9,8 +9,8 @@ use Rattle.limbo_arguments.specs.Failing.{FailsAt, FailsEach}
 use Rattle.limbo_causes.specs.Causes.{Cause, Refused, nothing}
 use Rattle.limbo_context.specs.Context.{Context, Body}
 use Rattle.limbo_things.specs.Things.{AnException, NameIs}
-use Rattle.limbo_typing.specs.Typing.{HaveValues}
-use Rattle.limbo_typing.specs.Failing.{FailsValue, FailsSome}
+use Rattle.limbo_local.specs.limbo_typing.Typing.{HaveValues}
+use Rattle.limbo_local.specs.limbo_typing.Failing.{FailsValue, FailsSome}
 use Rattle.limbo_local.specs.Points.{Point, ValueAt, with_body}
 
 -- A name is that of a declared exception.

@@ -12,7 +12,7 @@ use Rattle.limbo_typed.specs.Typed.{RaiseAgain, Handle}
 use Rattle.limbo_typed.specs.Sound.{type_of, is_call}
 use Rattle.limbo_standing.specs.Standing.{Settles}
 use Rattle.limbo_context.specs.Context.{Body}
-use Rattle.limbo_typing.specs.Typing.{Types}
+use Rattle.limbo_local.specs.limbo_typing.Typing.{Types}
 use Rattle.limbo_local.specs.Points.{Point, ValueAt, with_body, enter, leave}
 use Rattle.limbo_local.specs.Declaring.{Declares}
 use Rattle.limbo_stating.specs.Around.{Around, in_loop, in_branch, in_arm_of, Innermost, IsLabelled, IsContinued}

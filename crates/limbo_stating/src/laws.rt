@@ -9,7 +9,7 @@ pub fn one_statement()
     ensures block { OneBlock }
     ensures functions { OneModule }
 {
-    limbo_typing::one_typed();
+    limbo_local::limbo_typing::one_typed();
     limbo_standing::settled_values();
     limbo_arguments::one_settled();
     limbo_things::one_thing();
@@ -22,8 +22,8 @@ pub fn fails_or_states()
     ensures block { FailsOrBlock }
     ensures functions { FailsOrModule }
 {
-    limbo_typing::one_typed();
-    limbo_typing::fails_or_types();
+    limbo_local::limbo_typing::one_typed();
+    limbo_local::limbo_typing::fails_or_types();
     limbo_standing::settled_values();
     limbo_arguments::one_settled();
     limbo_arguments::failing_values();

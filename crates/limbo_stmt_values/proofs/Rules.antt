@@ -21,11 +21,11 @@ use Rattle.limbo_layout.specs.Adts.{Def, Variant}
 use Rattle.limbo_forms.specs.Forms.{ref_of, choose}
 use Rattle.limbo_typed.specs.Fitting.{IsPick}
 use Rattle.limbo_folding.specs.Folding.{value_of}
-use Rattle.limbo_prefixes.specs.Choosing.{has_variants, is_pick}
-use Rattle.limbo_value_forms.specs.Forms.{itself}
-use Rattle.limbo_typing.specs.Typing.{HasValue, Types}
-use Rattle.limbo_typing.specs.Failing.{Fails, FailsValue}
-use Rattle.limbo_local.specs.Points.{ValueAt}
+use Rattle.limbo_exprs.specs.limbo_prefixes.Choosing.{has_variants, is_pick}
+use Rattle.limbo_exprs.specs.limbo_value_forms.Forms.{itself}
+use Rattle.limbo_exprs.specs.limbo_typing.Typing.{HasValue, Types}
+use Rattle.limbo_exprs.specs.limbo_typing.Failing.{Fails, FailsValue}
+use Rattle.limbo_stating.specs.limbo_local.Points.{ValueAt}
 use Rattle.limbo_stating.specs.Around as around
 use Rattle.limbo_stating.specs.Around.{FailsToEvaluate, FailsToTest}
 use Rattle.limbo_stating.specs.Cases as cases

@@ -6,8 +6,8 @@ use Rattle.limbo_standing.specs.Standing.{Settles}
 use Rattle.limbo_refusals.specs.Refusals.{Refusal}
 use Rattle.limbo_arguments.specs.Failing.{FailsAt}
 use Rattle.limbo_causes.specs.Causes.{Cause, Refused}
-use Rattle.limbo_typing.specs.Failing.{FailsValue}
-use Rattle.limbo_local.specs.Points.{Point, ValueAt}
+use Rattle.limbo_exprs.specs.limbo_typing.Failing.{FailsValue}
+use Rattle.limbo_stating.specs.limbo_local.Points.{Point, ValueAt}
 
 pub record Answers (asked : Ty) (p : Point) (e : tree.Expr) (y : Expr) (q : Point) : Type 0 where
   pub value : Expr

@@ -1,7 +1,7 @@
 -- What expressions in statements are where a body has come to, however many handlers the function has.
 use Rattle.std.specs.Prelude.{ℕ}
 use Rattle.limbo_context.specs.Context.{Context, Body}
-use Rattle.limbo_local.specs.Points.{Point}
+use Rattle.limbo_stating.specs.limbo_local.Points.{Point}
 
 abbrev pub point : Context → Body → ℕ → Point
 point c b n = record { context = c; body = b; catches = n }

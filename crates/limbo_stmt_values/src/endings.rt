@@ -11,7 +11,7 @@ ghost use Rattle.limbo_arguments.specs.Failing.{FailsAt};
 ghost use Rattle.limbo_standing.specs.Standing.{Settles};
 ghost use Rattle.limbo_causes.specs.Causes as causes;
 ghost use Rattle.limbo_causes.specs.Causes.{FailsBy, ByRefusal};
-ghost use Rattle.limbo_value_forms.specs.Forms.{itself};
+ghost use Rattle.limbo_exprs.specs.limbo_value_forms.Forms.{itself};
 ghost use Rattle.limbo_stating.specs.Cases.{IsChosenFrom};
 ghost use Rattle.limbo_stmt_values.specs.Choosing.{IsChoice};
 

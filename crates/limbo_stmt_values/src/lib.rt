@@ -17,5 +17,7 @@ mod picks;
 pub use expressions::{choose, evaluate, returned, spawned, test};
 pub use fault::{StmtFault, Why, part_fault};
 pub use labels::{case_pattern, label};
+pub use limbo_exprs;
+pub use limbo_stating;
 pub use loops::{may_evaluate, may_test};
 pub use picks::{Picked, pick_value};

@@ -4,7 +4,7 @@ ghost use Rattle.std.specs.Prelude.{◌≡◌, IfOk, IfErr, IfSome, IfNone};
 ghost use Rattle.limbo_tree.specs.View as source;
 ghost use Rattle.limbo_typed.specs.View.{view_expr};
 ghost use Rattle.limbo_layout.specs.View.{view_defs};
-ghost use Rattle.limbo_prefixes.specs.Choosing as choosing;
+ghost use Rattle.limbo_exprs.specs.limbo_prefixes.Choosing as choosing;
 ghost use Rattle.limbo_refusals.specs.Refusals.{NoneIs};
 ghost use Rattle.limbo_context.specs.View.{view_context, view_body};
 ghost use Rattle.limbo_stating.specs.Picks.{IsPicked, Picks, FailsToPick};

@@ -5,15 +5,15 @@ use Rattle.limbo_tree.specs.Stmts as tree
 use Rattle.limbo_tree.specs.View as source
 use Rattle.limbo_typed.specs.Typed as typed
 use Rattle.limbo_causes.specs.Causes.{Cause}
-use Rattle.limbo_local.specs.Points.{Point, enter, leave}
-use Rattle.limbo_stating.specs.Reasons.{Reason, ByPart}
-use Rattle.limbo_stating.specs.Around.{Around, in_arm_of}
-use Rattle.limbo_stating.specs.Stating.{OfHandler, StatesAll, with_catch}
-use Rattle.limbo_stating.specs.FailsToState as fails
-use Rattle.limbo_stating.specs.FailsToState.{FailsToState, FailsAll, FailsBlock, FailsArms}
+use Rattle.limbo_stmt_values.specs.limbo_local.Points.{Point, enter, leave}
+use Rattle.limbo_stmt_values.specs.limbo_stating.Reasons.{Reason, ByPart}
+use Rattle.limbo_stmt_values.specs.limbo_stating.Around.{Around, in_arm_of}
+use Rattle.limbo_stmt_values.specs.limbo_stating.Stating.{OfHandler, StatesAll, with_catch}
+use Rattle.limbo_stmt_values.specs.limbo_stating.FailsToState as fails
+use Rattle.limbo_stmt_values.specs.limbo_stating.FailsToState.{FailsToState, FailsAll, FailsBlock, FailsArms}
 use Rattle.limbo_typed.specs.View as made
-use Rattle.limbo_stating.specs.Stating.{Branch, HeadOf, IsHead}
-use Rattle.limbo_stating.specs.FailsToState.{FailsHead}
+use Rattle.limbo_stmt_values.specs.limbo_stating.Stating.{Branch, HeadOf, IsHead}
+use Rattle.limbo_stmt_values.specs.limbo_stating.FailsToState.{FailsHead}
 use Rattle.limbo_stmts.specs.Stated as stated
 use Rattle.limbo_stmts.specs.Stated.{StatesInside, StatesArm, FailsArm}
 use Rattle.limbo_stmts.specs.Turns as turns

@@ -7,12 +7,12 @@ use Rattle.limbo_tree.specs.View as source
 use Rattle.limbo_typed.specs.declared.stmt.TStmt as code_typed
 use Rattle.limbo_typed.specs.Typed as typed
 use Rattle.limbo_typed.specs.View.{view_stmt, view_stmts, Arm, heads_of, bodies_of}
-use Rattle.limbo_local.specs.Points.{Point}
-use Rattle.limbo_stating.specs.Reasons.{Reason}
-use Rattle.limbo_stating.specs.Around.{Around}
-use Rattle.limbo_stating.specs.Stating.{Branch, HeadOf, States, StatesAll, StatesArms}
-use Rattle.limbo_stating.specs.FailsToState as fails
-use Rattle.limbo_stating.specs.FailsToState.{FailsToState, FailsAll, FailsArms}
+use Rattle.limbo_stmt_values.specs.limbo_local.Points.{Point}
+use Rattle.limbo_stmt_values.specs.limbo_stating.Reasons.{Reason}
+use Rattle.limbo_stmt_values.specs.limbo_stating.Around.{Around}
+use Rattle.limbo_stmt_values.specs.limbo_stating.Stating.{Branch, HeadOf, States, StatesAll, StatesArms}
+use Rattle.limbo_stmt_values.specs.limbo_stating.FailsToState as fails
+use Rattle.limbo_stmt_values.specs.limbo_stating.FailsToState.{FailsToState, FailsAll, FailsArms}
 use Rattle.limbo_stmt_values.specs.declared.fault.Why.{Why}
 use Rattle.limbo_stmt_values.specs.Whys.{FailsFor}
 use Rattle.limbo_stmt_values.proofs.Told.{reasons_weaker}

@@ -8,13 +8,13 @@ use Rattle.limbo_causes.specs.declared.fault.Cause as code
 use Rattle.limbo_causes.specs.declared.fault.Cause.TheVariants.{NoMemory}
 use Rattle.limbo_causes.specs.Causes.{Cause, FailsBy}
 use Rattle.limbo_causes.proofs.Telling.{fails_weaker}
-use Rattle.limbo_stating.specs.Reasons.{Reason, ByPart}
+use Rattle.limbo_stmt_values.specs.limbo_stating.Reasons.{Reason, ByPart}
 use Rattle.limbo_tree.specs.Exprs.{Expr}
 use Rattle.limbo_tree.specs.Stmts as tree
-use Rattle.limbo_local.specs.Points.{Point}
-use Rattle.limbo_stating.specs.Around.{Around}
-use Rattle.limbo_stating.specs.FailsToState as fails
-use Rattle.limbo_stating.specs.FailsToState.{FailsToState}
+use Rattle.limbo_stmt_values.specs.limbo_local.Points.{Point}
+use Rattle.limbo_stmt_values.specs.limbo_stating.Around.{Around}
+use Rattle.limbo_stmt_values.specs.limbo_stating.FailsToState as fails
+use Rattle.limbo_stmt_values.specs.limbo_stating.FailsToState.{FailsToState}
 use Rattle.limbo_stmt_values.specs.Answering as answering
 use Rattle.limbo_stmt_values.specs.Answering.{FailsToAnswer}
 use Rattle.limbo_stmt_values.specs.declared.fault.StmtFault as code_fault

@@ -6,11 +6,11 @@ use Rattle.limbo_typed.specs.Typed.{Stmts}
 use Rattle.limbo_typed.specs.View.{view_stmt}
 use Rattle.limbo_typed.specs.View as typed
 use Rattle.limbo_typed.specs.declared.stmt.TStmt as code_stmt
-use Rattle.limbo_local.specs.Points.{Point, enter, leave}
-use Rattle.limbo_stating.specs.Reasons.{Reason}
-use Rattle.limbo_stating.specs.Around.{Around}
-use Rattle.limbo_stating.specs.Stating.{Branch, HeadOf, IsHead, States, StatesAll}
-use Rattle.limbo_stating.specs.FailsToState.{FailsToState, FailsAll, FailsHead}
+use Rattle.limbo_stmt_values.specs.limbo_local.Points.{Point, enter, leave}
+use Rattle.limbo_stmt_values.specs.limbo_stating.Reasons.{Reason}
+use Rattle.limbo_stmt_values.specs.limbo_stating.Around.{Around}
+use Rattle.limbo_stmt_values.specs.limbo_stating.Stating.{Branch, HeadOf, IsHead, States, StatesAll}
+use Rattle.limbo_stmt_values.specs.limbo_stating.FailsToState.{FailsToState, FailsAll, FailsHead}
 use Rattle.limbo_stmt_values.specs.Whys.{FailsFor}
 use Rattle.limbo_stmt_values.specs.declared.fault.Why.{Why}
 use Rattle.limbo_heads.specs.Around.{view_around}

@@ -6,10 +6,10 @@ use Rattle.limbo_typed.specs.Typed.{Expr}
 use Rattle.limbo_typed.specs.View.{view_stmt}
 use Rattle.limbo_typed.specs.declared.stmt.TStmt as code_stmt
 use Rattle.limbo_causes.specs.Causes.{Cause}
-use Rattle.limbo_local.specs.Points.{Point}
-use Rattle.limbo_stating.specs.Around.{in_loop, MayEvaluate, MayFailToEvaluate, MayTest, MayFailToTest}
-use Rattle.limbo_stating.specs.Stating.{States}
-use Rattle.limbo_stating.specs.FailsToState.{FailsToState}
+use Rattle.limbo_stmt_values.specs.limbo_local.Points.{Point}
+use Rattle.limbo_stmt_values.specs.limbo_stating.Around.{in_loop, MayEvaluate, MayFailToEvaluate, MayTest, MayFailToTest}
+use Rattle.limbo_stmt_values.specs.limbo_stating.Stating.{States}
+use Rattle.limbo_stmt_values.specs.limbo_stating.FailsToState.{FailsToState}
 use Rattle.limbo_stmt_values.specs.Whys.{FailsFor}
 use Rattle.limbo_stmt_values.specs.declared.fault.Why.{Why}
 use Rattle.limbo_heads.specs.Around.{view_around}

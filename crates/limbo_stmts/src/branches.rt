@@ -5,10 +5,10 @@ ghost use Rattle.limbo_tree.specs.Stmts as tree;
 ghost use Rattle.limbo_tree.specs.View as source;
 ghost use Rattle.limbo_typed.specs.Typed as typed;
 ghost use Rattle.limbo_typed.specs.View.{view_expr, view_stmt, view_case_arm, view_alt_arm, view_pick_arm, heads_of, bodies_of};
-ghost use Rattle.limbo_stating.specs.Reasons as reasons;
-ghost use Rattle.limbo_stating.specs.Cases.{AreApart};
-ghost use Rattle.limbo_stating.specs.Alts.{HasOneStar};
-ghost use Rattle.limbo_stating.specs.Picks.{PickOnce};
+ghost use Rattle.limbo_stmt_values.specs.limbo_stating.Reasons as reasons;
+ghost use Rattle.limbo_stmt_values.specs.limbo_stating.Cases.{AreApart};
+ghost use Rattle.limbo_stmt_values.specs.limbo_stating.Alts.{HasOneStar};
+ghost use Rattle.limbo_stmt_values.specs.limbo_stating.Picks.{PickOnce};
 ghost use Rattle.limbo_stmt_values.specs.Whys.{FailsFor};
 ghost use Rattle.limbo_stmts.specs.Stated.{IsStated, IsNone};
 

@@ -19,5 +19,7 @@ mod point;
 mod statements;
 
 pub use blocks::block;
+pub use limbo_heads;
+pub use limbo_interfaces::limbo_members;
 pub use point::Point;
 pub use statements::{state, state_all};

@@ -5,7 +5,7 @@ ghost use Rattle.limbo_typed.specs.Typed as typed;
 ghost use Rattle.limbo_typed.specs.View.{view_expr, view_boxed, view_stmt, view_stmts};
 ghost use Rattle.limbo_causes.specs.declared.fault.Cause.TheVariants.{NoMemory};
 ghost use Rattle.limbo_stmt_values.specs.declared.fault.Why.TheVariants.{Part};
-ghost use Rattle.limbo_stating.specs.Stating.{one};
+ghost use Rattle.limbo_stmt_values.specs.limbo_stating.Stating.{one};
 
 use crate::faults::{boxed, no_memory};
 use limbo_stmt_values::StmtFault;

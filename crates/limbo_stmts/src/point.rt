@@ -3,8 +3,8 @@
 ghost use Rattle.std.specs.Prelude.{◌≡◌, IfOk, IfErr};
 ghost use Rattle.limbo_causes.specs.declared.fault.Cause.TheVariants.{NoMemory};
 ghost use Rattle.limbo_stmt_values.specs.declared.fault.Why.TheVariants.{Part};
-ghost use Rattle.limbo_local.specs.Points as points;
-ghost use Rattle.limbo_stating.specs.Stating as stating;
+ghost use Rattle.limbo_stmt_values.specs.limbo_local.Points as points;
+ghost use Rattle.limbo_stmt_values.specs.limbo_stating.Stating as stating;
 ghost use Rattle.limbo_stmts.specs.View.{view_point};
 
 use crate::faults::no_memory;

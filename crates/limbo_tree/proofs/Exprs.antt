@@ -1,13 +1,13 @@
 -- The equations of the views of types and of expressions, one for each variant.
 use Rattle.std.proofs.Common.{◌≡◌, ℤ, Bool, map, Option, Some, None, Vec, Box, Global, sym, ap, ◌∙◌}
-use Rattle.inf_text.specs.declared.span.Span.{Span}
+use Rattle.limbo_lexer.specs.inf_text.declared.span.Span.{Span}
 use Rattle.limbo_tree.specs.declared.name.Name as code_name
 use Rattle.limbo_tree.specs.declared.name.Qual as code_qual
 use Rattle.limbo_tree.specs.declared.types.TypeTree as code_type
 use Rattle.limbo_tree.specs.declared.types.TypeTree.{TypeTree-F, fold-roll-TypeTree}
 use Rattle.limbo_tree.specs.declared.types.TypeTree.TheVariants as make_type
 use Rattle.limbo_tree.specs.Types as types
-use Rattle.inf_text.specs.declared.text.Text.{Text}
+use Rattle.limbo_lexer.specs.inf_text.declared.text.Text.{Text}
 use Rattle.limbo_tree.specs.declared.operators.AssignOp.{AssignOp}
 use Rattle.limbo_tree.specs.declared.operators.BinaryOp.{BinaryOp}
 use Rattle.limbo_tree.specs.declared.operators.UnaryOp.{UnaryOp}

@@ -1,7 +1,7 @@
 -- Which form of the code an expression has, told by its view, and what is absent where it has another.
 use Rattle.std.proofs.Common.{◌≡◌, ℕ, ℤ, List, [], ◌∷◌, map, length, get_or, Bool, None, Some, Vec, Box, Global, refl, sym, ap, ◌∙◌, subst, arith}
-use Rattle.inf_text.specs.declared.span.Span.{Span}
-use Rattle.inf_text.specs.declared.text.Text.{Text}
+use Rattle.limbo_lexer.specs.inf_text.declared.span.Span.{Span}
+use Rattle.limbo_lexer.specs.inf_text.declared.text.Text.{Text}
 use Rattle.limbo_tree.specs.declared.name.Name as code_name
 use Rattle.limbo_tree.specs.declared.operators.AssignOp.{AssignOp}
 use Rattle.limbo_tree.specs.declared.operators.AssignOp.TheVariants as assign

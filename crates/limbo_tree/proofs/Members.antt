@@ -1,6 +1,6 @@
 -- The equations of `view_member`, one for each variant.
 use Rattle.std.proofs.Common.{◌≡◌, map, Option, option_map, Vec, Box, Global, sym, ap, ◌∙◌}
-use Rattle.inf_text.specs.declared.span.Span as span
+use Rattle.limbo_lexer.specs.inf_text.declared.span.Span as span
 use Rattle.limbo_tree.specs.declared.name.Name as code_name
 use Rattle.limbo_tree.specs.declared.types.TypeTree as code_type
 use Rattle.limbo_tree.specs.declared.expr.Expr as code_expr

@@ -1,7 +1,7 @@
 -- What is of no form of these is viewed as none of them: one fact in place of a case for each other form.
 use Rattle.std.proofs.Common.{◌≡◌, ℤ, Bool, true, false, Option, None, Some, Vec, Box, Global, sym, ap, ◌∙◌}
-use Rattle.inf_text.specs.declared.span.Span.{Span}
-use Rattle.inf_text.specs.declared.text.Text.{Text}
+use Rattle.limbo_lexer.specs.inf_text.declared.span.Span.{Span}
+use Rattle.limbo_lexer.specs.inf_text.declared.text.Text.{Text}
 use Rattle.limbo_tree.specs.declared.name.Name as code_name
 use Rattle.limbo_tree.specs.declared.name.Qual as code_qual
 use Rattle.limbo_tree.specs.declared.types.TypeTree as code_type

@@ -1,7 +1,7 @@
 -- The equations of where trees stand, one for each form.
 use Rattle.std.proofs.Common.{◌≡◌, ℤ, Bool, Option, Vec, Box, Global, sym, ap, ◌∙◌}
-use Rattle.inf_text.specs.declared.span.Span.{Span}
-use Rattle.inf_text.specs.declared.text.Text.{Text}
+use Rattle.limbo_lexer.specs.inf_text.declared.span.Span.{Span}
+use Rattle.limbo_lexer.specs.inf_text.declared.text.Text.{Text}
 use Rattle.limbo_tree.specs.declared.name.Name as code_name
 use Rattle.limbo_tree.specs.declared.name.Qual as code_qual
 use Rattle.limbo_tree.specs.declared.operators.AssignOp.{AssignOp}

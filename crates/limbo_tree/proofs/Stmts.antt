@@ -1,7 +1,7 @@
 -- The equations of the views of statements, blocks and arms.
 use Rattle.std.proofs.Common.{◌≡◌, map, Option, Some, None, Vec, Box, Global, sym, ap, ◌∙◌}
 use Rattle.std.specs.Prelude.{option_map}
-use Rattle.inf_text.specs.declared.span.Span.{Span}
+use Rattle.limbo_lexer.specs.inf_text.declared.span.Span.{Span}
 use Rattle.limbo_tree.specs.declared.name.Name as code_name
 use Rattle.limbo_tree.specs.declared.expr.Expr as code_expr
 use Rattle.limbo_tree.specs.declared.decl.Decl as code_decl

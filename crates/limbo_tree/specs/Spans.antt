@@ -1,5 +1,5 @@
 -- Where trees of the code stand.
-use Rattle.inf_text.specs.declared.span.Span.{Span}
+use Rattle.limbo_lexer.specs.inf_text.declared.span.Span.{Span}
 use Rattle.limbo_tree.specs.declared.types.TypeTree as code_type
 use Rattle.limbo_tree.specs.declared.types.TypeTree.{TypeTree-F, out-TypeTree}
 use Rattle.limbo_tree.specs.declared.expr.Expr as code_expr

@@ -1,7 +1,7 @@
 use crate::expr::Expr;
 use crate::name::Name;
 use crate::types::TypeTree;
-use inf_text::Span;
+use limbo_lexer::inf_text::Span;
 
 /// A declaration (Limbo Language Reference, declarations).
 #[derive(Drop)]

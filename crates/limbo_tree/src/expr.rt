@@ -1,7 +1,7 @@
 use crate::name::Name;
 use crate::operators::{AssignOp, BinaryOp, PostfixOp, UnaryOp};
 use crate::types::TypeTree;
-use inf_text::{Span, Text};
+use limbo_lexer::inf_text::{Span, Text};
 
 /// An expression (Limbo Language Reference, expressions).
 #[derive(Drop)]

@@ -1,4 +1,4 @@
-use inf_text::{Span, Text};
+use limbo_lexer::inf_text::{Span, Text};
 
 /// A name, where it stands.
 #[derive(Drop)]

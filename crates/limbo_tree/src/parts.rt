@@ -8,7 +8,7 @@ use crate::decl::{Decl, Member};
 use crate::expr::Expr;
 use crate::name::Name;
 use crate::operators::{AssignOp, BinaryOp, UnaryOp};
-use inf_text::Text;
+use limbo_lexer::inf_text::Text;
 use std::slice;
 
 /// The name that an expression is.

@@ -1,7 +1,7 @@
 use crate::decl::{Decl, FnType};
 use crate::name::Name;
 use crate::stmt::Block;
-use inf_text::{Span, Text};
+use limbo_lexer::inf_text::{Span, Text};
 
 /// A source, or an included text.
 #[derive(Drop)]

@@ -7,7 +7,7 @@ use crate::decl::Decl;
 use crate::expr::Expr;
 use crate::stmt::Stmt;
 use crate::types::TypeTree;
-use inf_text::Span;
+use limbo_lexer::inf_text::Span;
 
 /// Where a type stands.
 #[tactic(auto, using(crate::proofs::Standing::the_type_spans))]

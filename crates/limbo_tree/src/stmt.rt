@@ -1,7 +1,7 @@
 use crate::decl::Decl;
 use crate::expr::Expr;
 use crate::name::Name;
-use inf_text::{Span, Text};
+use limbo_lexer::inf_text::{Span, Text};
 
 /// A statement (Limbo Language Reference, statements).
 #[derive(Drop)]

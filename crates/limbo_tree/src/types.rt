@@ -1,5 +1,5 @@
 use crate::name::Qual;
-use inf_text::Span;
+use limbo_lexer::inf_text::Span;
 
 /// A type (Limbo Language Reference, types).
 #[derive(Drop)]

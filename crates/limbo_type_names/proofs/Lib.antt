@@ -8,3 +8,4 @@ pub mod Filling
 pub mod Unique
 pub mod Failing
 pub mod Circles
+pub use Rattle.limbo_naming.proofs as limbo_naming_lemmas

@@ -5,7 +5,7 @@ use Rattle.limbo_values.specs.declared.number.Kind.TheVariants as kind
 use Rattle.limbo_values.specs.Numbers.{InRange}
 use Rattle.limbo_types.specs.Types.{Ty, Tys, Byte, Int, Big, Chars, ArrayOf, ListOf, ChanOf, Tuple, Adt, RefAdt, RefPick, Module}
 use Rattle.limbo_types.specs.Types.{NoTys, MoreTys}
-use Rattle.limbo_layout.specs.Adts.{Def, Variant, types_of, parts, listed}
+use Rattle.limbo_adts.specs.limbo_layout.Adts.{Def, Variant, types_of, parts, listed}
 use Rattle.limbo_typed.specs.declared.operation.Sequence.{Sequence}
 use Rattle.limbo_typed.specs.declared.operation.Sequence.TheVariants as sequence
 use Rattle.limbo_typed.specs.declared.operation.Operation.{Operation}

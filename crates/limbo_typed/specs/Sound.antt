@@ -6,7 +6,7 @@ use Rattle.std.specs.Prelude.{ℕ, ◌≡◌, ◌<◌, ◌+◌, ◌⊎◌, Bool,
 use Rattle.std.specs.Prelude.{◌∷◌, ◌++◌, map, take, length, Option, Some, None, slice_get}
 use Rattle.limbo_types.specs.Types as ty
 use Rattle.limbo_types.specs.Types.{Ty, Tys, FnTy}
-use Rattle.limbo_layout.specs.Adts.{Names, AreNamed, listed}
+use Rattle.limbo_adts.specs.limbo_layout.Adts.{Names, AreNamed, listed}
 use Rattle.limbo_typed.specs.declared.print.Printed.{Printed}
 use Rattle.limbo_typed.specs.declared.print.Printed.TheVariants as printed
 use Rattle.limbo_typed.specs.declared.print.Hole.{Hole}

@@ -2,7 +2,7 @@
 -- code holds no type and no tree is the code's own: operations, pieces of formats, constants, patterns of arms.
 use Rattle.std.specs.Prelude.{ℕ, ℤ, List, Option}
 use Rattle.limbo_types.specs.Types.{Ty, FnTy}
-use Rattle.limbo_layout.specs.Adts.{Def}
+use Rattle.limbo_adts.specs.limbo_layout.Adts.{Def}
 use Rattle.limbo_typed.specs.declared.operation.Operation.{Operation}
 use Rattle.limbo_typed.specs.declared.operation.Connective.{Connective}
 use Rattle.limbo_typed.specs.declared.operation.Given.{Given}

@@ -39,10 +39,10 @@ use Rattle.limbo_standing.specs.Standing.{Settles}
 use Rattle.limbo_standing.proofs.Settled.{settled_itself, settled_stands}
 use Rattle.limbo_arguments.proofs.Each.{all_stand}
 use Rattle.limbo_arguments.specs.Parts.{SoundMaybe}
-use Rattle.limbo_combining.specs.Combining as combining
-use Rattle.limbo_combining.specs.Combining.{ByRow, Combines, ByOneRow, Operates, BytesOf, applied}
-use Rattle.limbo_updating.specs.Updating as updating
-use Rattle.limbo_updating.specs.Updating.{Updates}
+use Rattle.limbo_typing.specs.limbo_combining.Combining as combining
+use Rattle.limbo_typing.specs.limbo_combining.Combining.{ByRow, Combines, ByOneRow, Operates, BytesOf, applied}
+use Rattle.limbo_typing.specs.limbo_updating.Updating as updating
+use Rattle.limbo_typing.specs.limbo_updating.Updating.{Updates}
 use Rattle.limbo_assigning.specs.Assigning as assigning
 use Rattle.limbo_assigning.specs.Assigning.{Assigns, Copies, IsKnownArray, assignment}
 use Rattle.limbo_places.specs.Elements as elements
@@ -68,10 +68,10 @@ use Rattle.limbo_calls.specs.Prints.{Output, PrintsTo, Prints}
 use Rattle.limbo_calls.specs.Laws.{IsFit}
 use Rattle.limbo_calls.proofs.Calls.{call_fits, through_fits, construct_fits}
 use Rattle.limbo_calls.proofs.Prints.{print_fits}
-use Rattle.limbo_things.specs.Things.{Thing, AValue, AType, AVariant, AFunction, AMethod, AMember, APrint}
-use Rattle.limbo_applying.specs.Applying.{with_object, CallsFunction, CallsMember, Applies}
+use Rattle.limbo_typing.specs.limbo_things.Things.{Thing, AValue, AType, AVariant, AFunction, AMethod, AMember, APrint}
+use Rattle.limbo_typing.specs.limbo_applying.Applying.{with_object, CallsFunction, CallsMember, Applies}
 use Rattle.limbo_context.specs.Context.{Context}
-use Rattle.limbo_value_forms.specs.Forms.{Before, Gives as GivesForm, AssignForms, Forms}
+use Rattle.limbo_typing.specs.limbo_value_forms.Forms.{Before, Gives as GivesForm, AssignForms, Forms}
 use Rattle.limbo_typed_sound.specs.Describing.{HasTypes, Describes, HasFunctionOf, IsNamedFunction}
 use Rattle.limbo_typed_sound.specs.Proper.{number_type, IsInRange}
 use Rattle.limbo_typed_sound.proofs.Lists.{each_at, each_and}

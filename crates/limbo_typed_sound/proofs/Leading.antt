@@ -4,7 +4,7 @@ use Rattle.limbo_types.specs.Types.{Ty}
 use Rattle.limbo_tree.specs.Exprs as tree
 use Rattle.limbo_typed.specs.Typed.{Expr, Of, Exprs, Optional, Absent, Present, Items, Read, Pattern, Patterns}
 use Rattle.limbo_typed.specs.Sound.{type_of, IsSettled}
-use Rattle.limbo_things.specs.Things.{Thing, AValue, APrint}
+use Rattle.limbo_typing.specs.limbo_things.Things.{Thing, AValue, APrint}
 use Rattle.limbo_context.specs.Context.{Context, Body}
 use Rattle.limbo_permits.specs.Permits.{Permits}
 use Rattle.limbo_defining.specs.Defining.{Defines}

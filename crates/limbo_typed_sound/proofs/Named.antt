@@ -27,11 +27,11 @@ use Rattle.limbo_places.specs.Targets as targets
 use Rattle.limbo_places.specs.Targets.{Selects}
 use Rattle.limbo_places.proofs.Sound.{parts_sound}
 use Rattle.limbo_places.proofs.Targets.{parts_settled, ref_settled}
-use Rattle.limbo_things.specs.Things as things
-use Rattle.limbo_things.specs.Things.{Thing, AValue, AType, AVariant, AMember, APrint, NameIs, MemberIs, PartIs, PartOfValue, PartOfAdt}
-use Rattle.limbo_things.specs.Things.{declared, variable, printed_at, is_number, print_at, function_among, function_at}
-use Rattle.limbo_things.specs.Things.{function_through, export, exported, through_of, export_from, imported, meant}
-use Rattle.limbo_things.specs.Things.{adt_member, member_at, constant_value}
+use Rattle.limbo_typing.specs.limbo_things.Things as things
+use Rattle.limbo_typing.specs.limbo_things.Things.{Thing, AValue, AType, AVariant, AMember, APrint, NameIs, MemberIs, PartIs, PartOfValue, PartOfAdt}
+use Rattle.limbo_typing.specs.limbo_things.Things.{declared, variable, printed_at, is_number, print_at, function_among, function_at}
+use Rattle.limbo_typing.specs.limbo_things.Things.{function_through, export, exported, through_of, export_from, imported, meant}
+use Rattle.limbo_typing.specs.limbo_things.Things.{adt_member, member_at, constant_value}
 use Rattle.limbo_typed_sound.specs.Describing.{Begins, HasTypes, Describes, IsWell, IsThrough}
 use Rattle.limbo_typed_sound.proofs.Lists.{each_at}
 use Rattle.limbo_typed_sound.proofs.Ready.{Ready, ReadyMaybe, as_ready, sound, is_named, all_named}

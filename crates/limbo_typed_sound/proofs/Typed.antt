@@ -11,12 +11,12 @@ use Rattle.limbo_typed.specs.Typed.{Expr, Of, Exprs, NoExprs, MoreExprs, Optiona
 use Rattle.limbo_typed.specs.Typed.{Pattern, ToPlace, ToNothing, ToParts, Patterns}
 use Rattle.limbo_typed.specs.Sound.{type_of, IsSettled, SoundExpr, SoundPattern}
 use Rattle.limbo_calls.specs.Prints.{Output}
-use Rattle.limbo_things.specs.Things.{Thing, AValue, APrint}
+use Rattle.limbo_typing.specs.limbo_things.Things.{Thing, AValue, APrint}
 use Rattle.limbo_assigning.specs.Assigning.{assignment}
 use Rattle.limbo_context.specs.Context.{Context, Body}
 use Rattle.limbo_permits.specs.Permits.{Permits}
 use Rattle.limbo_defining.specs.Defining.{Defines}
-use Rattle.limbo_value_forms.specs.Forms.{values_in, copied, given_by, tupled}
+use Rattle.limbo_typing.specs.limbo_value_forms.Forms.{values_in, copied, given_by, tupled}
 use Rattle.limbo_typing.specs.Typing as typing
 use Rattle.limbo_typing.specs.Typing.{literal_first, behind_file, format_in, OutputIs}
 use Rattle.limbo_typing.specs.Typing.{Denotes, HasValue, Types, Has, HaveValues, MayHave, Fill, IsPattern, ArePatterns}

@@ -46,7 +46,7 @@ use Rattle.limbo_things.specs.Things.{Thing, AType, AVariant, AFunction, AMethod
 use Rattle.limbo_applying.specs.Applying.{with_object, CallsFunction, Applies}
 use Rattle.limbo_permits.specs.Permits.{node_of}
 use Rattle.limbo_context.specs.Context.{Context}
-use Rattle.limbo_value_forms.specs.Forms.{Before, Gives, AssignForms, Forms}
+use Rattle.limbo_typing.specs.limbo_value_forms.Forms.{Before, Gives, AssignForms, Forms}
 use Rattle.limbo_typed_stores.specs.Nodes.{AllNodes, InNode, InEach, InOptional, InItems, InPattern, InThing}
 use Rattle.limbo_typed_stores.proofs.Settled.{StoresNothing, inner_same, settled, settled_each, settled_all, settled_items, settled_rest}
 

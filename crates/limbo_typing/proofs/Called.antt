@@ -3,9 +3,9 @@ use Rattle.std.proofs.Common.{◌≡◌, sym, subst, ℕ, List, Some}
 use Rattle.limbo_tree.specs.Exprs as tree
 use Rattle.limbo_typed.specs.declared.print.Printed.{Printed}
 use Rattle.limbo_typed.specs.Typed.{Expr, Exprs}
-use Rattle.limbo_context.specs.Context.{Context, Body}
-use Rattle.limbo_calls.specs.Prints.{Prints, Output}
-use Rattle.limbo_things.specs.Things.{Thing, APrint}
+use Rattle.limbo_defining.specs.limbo_context.Context.{Context, Body}
+use Rattle.limbo_applying.specs.limbo_calls.Prints.{Prints, Output}
+use Rattle.limbo_applying.specs.limbo_things.Things.{Thing, APrint}
 use Rattle.limbo_applying.specs.Applying.{Applies}
 use Rattle.limbo_typing.specs.Typing.{format_in, OutputIs, Denotes, HaveValues}
 use Rattle.limbo_typing.specs.Failing.{IsNoPrint}

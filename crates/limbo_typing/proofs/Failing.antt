@@ -6,20 +6,20 @@ use Rattle.limbo_tree.specs.Exprs as tree
 use Rattle.limbo_typed.specs.Typed.{Expr, Of, Exprs, Optional, Absent, Present, Items, Read, Place, Pattern, ToNothing, Patterns}
 use Rattle.limbo_typed.specs.Sound.{type_of, IsSettled}
 use Rattle.limbo_refusals.specs.Refusals.{NoneIs}
-use Rattle.limbo_context.specs.Context.{Context, Body}
+use Rattle.limbo_defining.specs.limbo_context.Context.{Context, Body}
 use Rattle.limbo_folding.specs.Folding.{value_of}
-use Rattle.limbo_operands.specs.Operands.{IsPlace}
-use Rattle.limbo_operands.specs.Operands as operand
+use Rattle.limbo_assigning.specs.limbo_operands.Operands.{IsPlace}
+use Rattle.limbo_assigning.specs.limbo_operands.Operands as operand
 use Rattle.limbo_assigning.specs.Assigning.{Assigns}
-use Rattle.limbo_places.specs.Slices.{Slices}
-use Rattle.limbo_channels.specs.Loading.{Loads}
-use Rattle.limbo_literals.specs.Literals.{Fills, Sizes}
-use Rattle.limbo_calls.specs.Prints.{Prints, Output}
-use Rattle.limbo_things.specs.Things.{Thing, AValue, AType, APrint, NameIs, MemberIs, PartIs}
+use Rattle.limbo_value_forms.specs.limbo_places.Slices.{Slices}
+use Rattle.limbo_value_forms.specs.limbo_channels.Loading.{Loads}
+use Rattle.limbo_value_forms.specs.limbo_literals.Literals.{Fills, Sizes}
+use Rattle.limbo_applying.specs.limbo_calls.Prints.{Prints, Output}
+use Rattle.limbo_applying.specs.limbo_things.Things.{Thing, AValue, AType, APrint, NameIs, MemberIs, PartIs}
 use Rattle.limbo_applying.specs.Applying.{Applies}
 use Rattle.limbo_causes.specs.Causes.{Cause}
-use Rattle.limbo_permits.specs.Permits.{Forbids}
-use Rattle.limbo_permits.proofs.Standing.{expression_forbidden}
+use Rattle.limbo_written.specs.limbo_permits.Permits.{Forbids}
+use Rattle.limbo_written.proofs.limbo_permits_lemmas.Standing.{expression_forbidden}
 use Rattle.limbo_written.proofs.Once.{one_written, fails_or_written}
 use Rattle.limbo_value_forms.specs.Forms.{one, Forms}
 use Rattle.limbo_defining.specs.Defining.{Defines}

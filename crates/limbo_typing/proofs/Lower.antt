@@ -4,10 +4,10 @@ use Rattle.std.proofs.lemmas.Option.{same_Some}
 use Rattle.limbo_types.specs.Types.{Module}
 use Rattle.limbo_typed.specs.Typed.{Absent, Present}
 use Rattle.limbo_scope.specs.declared.meaning.Meaning.{Meaning}
-use Rattle.limbo_context.specs.Context.{Context, Body}
+use Rattle.limbo_defining.specs.limbo_context.Context.{Context, Body}
 use Rattle.limbo_assigning.specs.Laws.{OneAssigned}
 use Rattle.limbo_value_forms.specs.Laws.{OneForm}
-use Rattle.limbo_things.specs.Things.{Thing, AValue, AType, NameIs, MemberIs, exported, meant}
+use Rattle.limbo_applying.specs.limbo_things.Things.{Thing, AValue, AType, NameIs, MemberIs, exported, meant}
 
 -- Two of their laws.
 pub record OneBelow : Type 0 where

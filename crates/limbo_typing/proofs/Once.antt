@@ -10,19 +10,19 @@ use Rattle.limbo_typed.specs.declared.print.Printed.TheVariants as printed
 use Rattle.limbo_typed.specs.Typed.{Expr, Of, Exprs, NoExprs, MoreExprs, Optional, Absent, Present, Items, MoreItems, Read, Place}
 use Rattle.limbo_typed.specs.Typed.{Pattern, ToPlace, ToParts, Patterns, MorePatterns, Channel}
 use Rattle.limbo_typed.specs.Sound.{type_of}
-use Rattle.limbo_context.specs.Context.{Context, Body}
+use Rattle.limbo_defining.specs.limbo_context.Context.{Context, Body}
 use Rattle.limbo_folding.specs.Folding.{value_of}
 use Rattle.limbo_assigning.specs.Assigning.{Assigns, assignment}
-use Rattle.limbo_places.specs.Slices.{Slices}
-use Rattle.limbo_places.proofs.Slices.{sliced_once}
-use Rattle.limbo_channels.specs.Loading.{Loads}
-use Rattle.limbo_channels.proofs.Channels.{loads_once}
-use Rattle.limbo_literals.specs.Literals.{Fills, Sizes, Makes}
-use Rattle.limbo_literals.proofs.Literals as literals
-use Rattle.limbo_calls.specs.Prints.{Prints, Output}
-use Rattle.limbo_calls.proofs.Prints.{one_print}
-use Rattle.limbo_things.specs.Things.{Thing, AValue, AType, APrint, MemberIs, PartIs}
-use Rattle.limbo_things.proofs.Choices as things
+use Rattle.limbo_value_forms.specs.limbo_places.Slices.{Slices}
+use Rattle.limbo_value_forms.proofs.limbo_places_lemmas.Slices.{sliced_once}
+use Rattle.limbo_value_forms.specs.limbo_channels.Loading.{Loads}
+use Rattle.limbo_value_forms.proofs.limbo_channels_lemmas.Channels.{loads_once}
+use Rattle.limbo_value_forms.specs.limbo_literals.Literals.{Fills, Sizes, Makes}
+use Rattle.limbo_value_forms.proofs.limbo_literals_lemmas.Literals as literals
+use Rattle.limbo_applying.specs.limbo_calls.Prints.{Prints, Output}
+use Rattle.limbo_applying.proofs.limbo_calls_lemmas.Prints.{one_print}
+use Rattle.limbo_applying.specs.limbo_things.Things.{Thing, AValue, AType, APrint, MemberIs, PartIs}
+use Rattle.limbo_applying.proofs.limbo_things_lemmas.Choices as things
 use Rattle.limbo_applying.specs.Applying.{Applies}
 use Rattle.limbo_applying.proofs.Once.{applied_once}
 use Rattle.limbo_written.specs.Written.{MeansPermitted}

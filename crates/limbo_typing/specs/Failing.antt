@@ -15,21 +15,21 @@ use Rattle.limbo_scope.specs.declared.meaning.Meaning.{Meaning}
 use Rattle.limbo_scope.specs.Scopes.{seen}
 use Rattle.limbo_refusals.specs.Refusals as refusals
 use Rattle.limbo_refusals.specs.Refusals.{Refusal, Clash, NoneIs}
-use Rattle.limbo_context.specs.Context.{Context, Body}
+use Rattle.limbo_defining.specs.limbo_context.Context.{Context, Body}
 use Rattle.limbo_folding.specs.Folding.{value_of}
-use Rattle.limbo_operands.specs.Operands.{IsPlace}
+use Rattle.limbo_assigning.specs.limbo_operands.Operands.{IsPlace}
 use Rattle.limbo_assigning.specs.Assigning.{Assigns, type_in}
-use Rattle.limbo_places.specs.Slices.{Slices, Hinders}
-use Rattle.limbo_channels.specs.Loading.{Loads}
-use Rattle.limbo_literals.specs.Literals.{Fills, Sizes}
-use Rattle.limbo_literals.specs.Refusing.{RefusesFill, NoLength}
-use Rattle.limbo_calls.specs.Prints.{Prints, Output}
-use Rattle.limbo_calls.specs.Refusing.{RefusesPrint}
-use Rattle.limbo_things.specs.Things.{Thing, AValue, AType, APrint, NameIs, MemberIs, PartIs, type_named}
+use Rattle.limbo_value_forms.specs.limbo_places.Slices.{Slices, Hinders}
+use Rattle.limbo_value_forms.specs.limbo_channels.Loading.{Loads}
+use Rattle.limbo_value_forms.specs.limbo_literals.Literals.{Fills, Sizes}
+use Rattle.limbo_value_forms.specs.limbo_literals.Refusing.{RefusesFill, NoLength}
+use Rattle.limbo_applying.specs.limbo_calls.Prints.{Prints, Output}
+use Rattle.limbo_applying.specs.limbo_calls.Refusing.{RefusesPrint}
+use Rattle.limbo_applying.specs.limbo_things.Things.{Thing, AValue, AType, APrint, NameIs, MemberIs, PartIs, type_named}
 use Rattle.limbo_applying.specs.Applying.{Applies}
 use Rattle.limbo_applying.specs.Refusing.{RefusesApply}
 use Rattle.limbo_causes.specs.Causes.{Cause, Twice, Unknown, NotConstant, Refused, nothing}
-use Rattle.limbo_permits.specs.Permits.{Forbids}
+use Rattle.limbo_written.specs.limbo_permits.Permits.{Forbids}
 use Rattle.limbo_written.specs.Written.{MeansPermitted, FailsAsType}
 use Rattle.limbo_value_forms.specs.Forms.{one, itself, values_in, copied, Forms, RefusesForm}
 use Rattle.limbo_defining.specs.Defining.{FailsDefine}

@@ -2,8 +2,8 @@
 use Rattle.std.specs.Prelude.{◌≡◌}
 use Rattle.limbo_tree.specs.Exprs as tree
 use Rattle.limbo_typed.specs.Typed.{Expr, Pattern}
-use Rattle.limbo_context.specs.Context.{Context, Body}
-use Rattle.limbo_things.specs.Things.{Thing}
+use Rattle.limbo_defining.specs.limbo_context.Context.{Context, Body}
+use Rattle.limbo_applying.specs.limbo_things.Things.{Thing}
 use Rattle.limbo_causes.specs.Causes.{Cause}
 use Rattle.limbo_typing.specs.Typing.{Denotes, HasValue, Types, IsPattern}
 use Rattle.limbo_typing.specs.Failing.{FailsThing, FailsValue, Fails, FailsPattern}

@@ -12,17 +12,17 @@ use Rattle.limbo_typed.specs.declared.print.Printed.TheVariants as printed
 use Rattle.limbo_typed.specs.Typed.{Expr, Of, Exprs, NoExprs, MoreExprs, Optional, Absent, Present, Items, NoItems, MoreItems, Read, Place}
 use Rattle.limbo_typed.specs.Typed.{Pattern, ToPlace, ToNothing, ToParts, Patterns, NoPatterns, MorePatterns}
 use Rattle.limbo_typed.specs.Sound.{type_of, IsSettled}
-use Rattle.limbo_context.specs.Context.{Context, Body}
+use Rattle.limbo_defining.specs.limbo_context.Context.{Context, Body}
 use Rattle.limbo_folding.specs.Folding.{value_of}
 use Rattle.limbo_assigning.specs.Assigning.{Assigns, assignment}
-use Rattle.limbo_places.specs.Slices.{Slices}
-use Rattle.limbo_channels.specs.Loading.{Loads}
-use Rattle.limbo_literals.specs.Literals.{Fills, Sizes, Makes}
-use Rattle.limbo_calls.specs.Prints.{Prints, Output}
-use Rattle.limbo_calls.specs.Prints as output
-use Rattle.limbo_things.specs.Things.{Thing, AValue, AType, APrint, NameIs, MemberIs, PartIs}
+use Rattle.limbo_value_forms.specs.limbo_places.Slices.{Slices}
+use Rattle.limbo_value_forms.specs.limbo_channels.Loading.{Loads}
+use Rattle.limbo_value_forms.specs.limbo_literals.Literals.{Fills, Sizes, Makes}
+use Rattle.limbo_applying.specs.limbo_calls.Prints.{Prints, Output}
+use Rattle.limbo_applying.specs.limbo_calls.Prints as output
+use Rattle.limbo_applying.specs.limbo_things.Things.{Thing, AValue, AType, APrint, NameIs, MemberIs, PartIs}
 use Rattle.limbo_applying.specs.Applying.{Applies}
-use Rattle.limbo_permits.specs.Permits.{IsPermitted}
+use Rattle.limbo_written.specs.limbo_permits.Permits.{IsPermitted}
 use Rattle.limbo_written.specs.Written.{MeansPermitted}
 use Rattle.limbo_value_forms.specs.Forms.{one, values_in, copied, Forms}
 use Rattle.limbo_defining.specs.Defining.{Defines}

@@ -11,3 +11,6 @@
 mod laws;
 
 pub use laws::{fails_or_types, one_typed};
+pub use limbo_applying;
+pub use limbo_value_forms;
+pub use limbo_value_forms::limbo_combining;

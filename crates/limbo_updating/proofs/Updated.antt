@@ -11,8 +11,8 @@ use Rattle.limbo_typed.specs.declared.expr.TExpr as code_expr
 use Rattle.limbo_typed.specs.View.{view_expr}
 use Rattle.limbo_typed.specs.Sound.{type_of}
 use Rattle.limbo_typed.proofs.View.{view_expr-out}
-use Rattle.limbo_standing.specs.Standing.{Settles}
-use Rattle.limbo_standing.proofs.Settled.{settled_once}
+use Rattle.limbo_operands.specs.limbo_standing.Standing.{Settles}
+use Rattle.limbo_operands.proofs.limbo_standing_lemmas.Settled.{settled_once}
 use Rattle.limbo_refusals.specs.declared.fault.ExprFault.{ExprFault}
 use Rattle.limbo_refusals.specs.Refusals.{Refusal, NotPlace, Refuses, NoneIs}
 use Rattle.limbo_operands.specs.Operands.{IsPlace, place}

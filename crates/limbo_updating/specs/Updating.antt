@@ -4,7 +4,7 @@ use Rattle.limbo_types.specs.Types.{Ty}
 use Rattle.limbo_tree.specs.declared.operators.AssignOp.{AssignOp}
 use Rattle.limbo_typed.specs.Typed.{Expr, Of, Place, Read, Update}
 use Rattle.limbo_typed.specs.Sound.{type_of}
-use Rattle.limbo_standing.specs.Standing.{Settles}
+use Rattle.limbo_operands.specs.limbo_standing.Standing.{Settles}
 use Rattle.limbo_operators.specs.Rows.{Row, UpdateRow}
 use Rattle.limbo_operands.specs.Operands.{IsPlace}
 use Rattle.limbo_refusals.specs.Refusals.{Refusal, Clash, NotPlace}

@@ -14,7 +14,7 @@ use Rattle.limbo_typed.specs.View.{view_expr}
 use Rattle.limbo_typed.specs.Sound.{type_of}
 use Rattle.limbo_refusals.specs.declared.fault.ExprFault.{ExprFault}
 use Rattle.limbo_refusals.specs.Refusals.{Refusal, Clash, Refuses, NoneIs}
-use Rattle.limbo_arguments.proofs.Faults.{refuses_weaker}
+use Rattle.limbo_literals.proofs.limbo_arguments_lemmas.Faults.{refuses_weaker}
 use Rattle.limbo_context.specs.Context.{Context}
 use Rattle.limbo_channels.specs.Channels.{Sends}
 use Rattle.limbo_combining.specs.Combining.{Operates, OperandClashes, HasOneRow}

@@ -12,3 +12,4 @@ mod laws;
 
 pub use giving::{before, give};
 pub use laws::one_form;
+pub use limbo_combining;

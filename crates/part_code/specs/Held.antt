@@ -1,12 +1,13 @@
--- What the machine's instructions can hold of three-address code: the operand in the middle has 16 bits, and the text of a format is a string.
+-- What the machine's instructions can hold of three-address code: the operand in the middle has 16 bits, and the text of a format is
+-- a string.
 use Rattle.std.specs.Prelude.{◌≡◌, ◌≤◌, true, List, [], ◌∷◌, length}
 use Rattle.limbo_values.specs.Texts.{longest}
 use Rattle.limbo_typed.specs.declared.operation.Operation.TheVariants as operation
 use Rattle.slot_code.specs.Code.{Global, Operand, In, Number, Inst, Operate, Branch, Format}
 use Rattle.dis_objects.specs.Code.{fits_middle, format_text}
 
--- An operand in the middle: a place of the function, or a number that is an immediate there. What stands further behind in the module's data
--- than 65,535 bytes can't be there.
+-- An operand in the middle: a place of the function, or a number that is an immediate there. What stands further behind in the
+-- module's data than 65,535 bytes can't be there.
 abbrev pub IsMiddle : Operand → Type 0
 IsMiddle (In (Global k x)) = ⊥
 IsMiddle (In s) = Unit {0}

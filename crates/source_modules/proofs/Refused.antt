@@ -9,7 +9,7 @@ use Rattle.limbo_top.specs.Tops.{Placed}
 use Rattle.limbo_entries.specs.Entries.{Entry}
 use Rattle.limbo_declare.specs.Declares.{Declares, numbered}
 use Rattle.limbo_typed.specs.Typed.{Module}
-use Rattle.limbo_source_context.specs.SourceContext.{HaveParams}
+use Rattle.limbo_modules.specs.limbo_source_context.SourceContext.{HaveParams}
 use Rattle.limbo_modules.specs.Failing.{FailsModule}
 use Rattle.limbo_modules.specs.Laws.{FailsOrModule}
 use Rattle.source_names.specs.Included.{AreTold, Flattens, nothing, declaration, text}

@@ -5,8 +5,8 @@ use Rattle.limbo_tree.specs.Sources.{Source}
 use Rattle.limbo_top.specs.Tops.{Placed}
 use Rattle.limbo_entries.specs.Entries.{Entry}
 use Rattle.limbo_declare.specs.Declares.{Declares}
-use Rattle.limbo_stating.specs.Reasons as reasons
-use Rattle.limbo_stating.specs.Reasons.{Reason}
+use Rattle.limbo_modules.specs.limbo_stating.Reasons as reasons
+use Rattle.limbo_modules.specs.limbo_stating.Reasons.{Reason}
 use Rattle.limbo_modules.specs.Failing.{FailsModule}
 use Rattle.source_names.specs.Declares as names
 use Rattle.source_names.specs.Declares.{HasRow}

@@ -6,7 +6,7 @@ use Rattle.limbo_top.specs.Tops.{Placed}
 use Rattle.limbo_entries.specs.Entries.{Entry}
 use Rattle.limbo_typed.specs.Typed as typed
 use Rattle.limbo_typed.specs.View.{view_module}
-use Rattle.limbo_stating.specs.Reasons.{Reason, number_of}
+use Rattle.limbo_modules.specs.limbo_stating.Reasons.{Reason, number_of}
 use Rattle.limbo_modules.specs.First.{DeclaresInit}
 use Rattle.limbo_modules.specs.Modules.{IsModule}
 use Rattle.limbo_modules.specs.Failing.{FailsModule}

@@ -9,8 +9,8 @@ use Rattle.limbo_lexer.specs.Tokens.{HasTokenList}
 use Rattle.limbo_lexer.proofs.Sources.{one_source}
 use Rattle.limbo_lexer.proofs.Cutting.{one_token_list}
 use Rattle.limbo_tree.specs.Sources.{Source, Top, Include, IsTree}
-use Rattle.limbo_parser.proofs.Trees.{one_tree}
-use Rattle.limbo_parser.specs.declared.tree.ParseFault.{ParseFault}
+use Rattle.source_files.proofs.limbo_parser_lemmas.Trees.{one_tree}
+use Rattle.source_files.specs.limbo_parser.declared.tree.ParseFault.{ParseFault}
 use Rattle.limbo_includes.specs.Includes.{target, is_built_in}
 use Rattle.limbo_top.specs.Tops.{Placed}
 use Rattle.source_files.specs.Files.{Gives, IsSpelled, IsMissing}

@@ -2,7 +2,7 @@
 use Rattle.std.specs.Prelude.{◌≡◌, ◌⊎◌, ℕ, List}
 use Rattle.inf_ports.specs.Outside.{Told}
 use Rattle.limbo_lexer.specs.declared.fault.LexFault.{LexFault}
-use Rattle.limbo_parser.specs.declared.tree.ParseFault.{ParseFault}
+use Rattle.source_files.specs.limbo_parser.declared.tree.ParseFault.{ParseFault}
 use Rattle.limbo_tree.specs.Sources.{Source}
 use Rattle.limbo_entries.specs.Entries.{Entry}
 use Rattle.source_files.specs.Files.{Gives}

@@ -4,3 +4,4 @@ pub mod Statements
 pub mod Stands
 pub mod Keeps
 pub mod Sizes
+pub use Rattle.slot_code.specs as slot_code

@@ -1,5 +1,6 @@
--- Which checked modules are in the part of the language that the compiler takes, and which of these run: functions over bytes, ints and bigs, with all that is done with numbers,
--- and prints on the standard output. The types that the checker gave are looked at again where the code depends on them.
+-- Which checked modules are in the part of the language that the compiler takes, and which of these run: functions over bytes, ints
+-- and bigs, with all that is done with numbers, and prints on the standard output. The types that the checker gave are looked at
+-- again where the code depends on them.
 use Rattle.std.specs.Prelude.{ℕ, suc, ◌+◌, nat_eq, nat_lt, nat_le, ◌&&◌, ◌||◌, Bool, true, false, not, List, [], ◌∷◌, map, codes}
 use Rattle.std.specs.Prelude.{if◌then◌else◌}
 use Rattle.std.specs.Prelude.{Option, None, Some, slice_get}
@@ -23,7 +24,7 @@ use Rattle.limbo_typed.specs.declared.stmt.Constant.TheVariants as constant
 use Rattle.limbo_typed.specs.Typed as typed
 use Rattle.limbo_typed.specs.Typed.{Of, At}
 use Rattle.limbo_typed.specs.Sound.{type_of, types_of, type_at}
-use Rattle.slot_code.specs.Machine.{same_kind}
+use Rattle.typed_lower.specs.slot_code.Machine.{same_kind}
 use Rattle.typed_lower.specs.Kinds.{kind_given}
 use Rattle.typed_lower.specs.Statements.{number_kind}
 

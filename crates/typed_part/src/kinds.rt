@@ -4,7 +4,7 @@ ghost use Rattle.std.specs.Prelude.{◌≡◌};
 ghost use Rattle.limbo_types.specs.Types.{Nothing};
 ghost use Rattle.limbo_types.specs.Same as types;
 ghost use Rattle.limbo_types.specs.View.{view_ty};
-ghost use Rattle.slot_code.specs.Machine as machine;
+ghost use Rattle.typed_lower.specs.slot_code.Machine as machine;
 ghost use Rattle.typed_lower.specs.Statements as lower;
 ghost use Rattle.typed_part.specs.Part as part;
 

@@ -31,7 +31,7 @@ use Rattle.limbo_calls.specs.OutputView.{view_output}
 use Rattle.limbo_things.specs.Things.{Thing}
 use Rattle.limbo_things.specs.ThingView.{view_thing}
 use Rattle.limbo_defining.specs.Defining.{Defines, FailsDefine}
-use Rattle.limbo_value_forms.specs.Forms.{one, two, three, itself}
+use Rattle.limbo_typing.specs.limbo_value_forms.Forms.{one, two, three, itself}
 use Rattle.limbo_typing.specs.Typing as typing
 use Rattle.limbo_typing.specs.Typing.{literal_first, behind_file, Denotes, HasValue, IsPattern}
 use Rattle.limbo_typing.specs.Failing as failing

@@ -4,8 +4,8 @@ use Rattle.limbo_tree.specs.View as source
 use Rattle.limbo_types.specs.View.{view_ty}
 use Rattle.limbo_typed.specs.View.{view_case_arm, view_alt_arm, view_pick_arm, view_handler_arm, heads_of, bodies_of}
 use Rattle.limbo_heads.specs.Around.{view_around}
-use Rattle.limbo_stating.specs.Stating.{StatesArms, OfCase, OfAlt, OfPick, OfHandler}
-use Rattle.limbo_stating.specs.FailsToState.{FailsArms}
+use Rattle.limbo_stmt_values.specs.limbo_stating.Stating.{StatesArms, OfCase, OfAlt, OfPick, OfHandler}
+use Rattle.limbo_stmt_values.specs.limbo_stating.FailsToState.{FailsArms}
 use Rattle.limbo_stmt_values.specs.Whys.{FailsFor}
 use Rattle.limbo_stmts.specs.View.{view_point}
 use Rattle.limbo_stmts.specs.Stated.{StatesArm, FailsArm}
@@ -33,17 +33,17 @@ use Rattle.limbo_typed.specs.declared.expr.TExpr as code_expr
 use Rattle.limbo_tree.specs.declared.name.Name as code_name
 use Rattle.limbo_tree.specs.declared.stmt.Pattern as code_pattern
 use Rattle.limbo_tree.specs.declared.stmt.HandlerPattern as code_handling
-use Rattle.limbo_stating.specs.Cases.{ArePatterns, FailsPatterns}
-use Rattle.limbo_stating.specs.Picks.{IsPickHead, HasNoVariant}
-use Rattle.limbo_stating.specs.Handlers.{IsHandlerHead, FailsHandlerHead}
-use Rattle.limbo_stating.specs.Reasons.{BadPick}
+use Rattle.limbo_stmt_values.specs.limbo_stating.Cases.{ArePatterns, FailsPatterns}
+use Rattle.limbo_stmt_values.specs.limbo_stating.Picks.{IsPickHead, HasNoVariant}
+use Rattle.limbo_stmt_values.specs.limbo_stating.Handlers.{IsHandlerHead, FailsHandlerHead}
+use Rattle.limbo_stmt_values.specs.limbo_stating.Reasons.{BadPick}
 use Rattle.limbo_heads.specs.Starts.{view_pick_start, view_handler_start}
-use Rattle.limbo_local.specs.Points.{Point}
-use Rattle.limbo_stating.specs.Reasons.{Reason, ByPart}
-use Rattle.limbo_stating.specs.Around.{Around, in_branch}
-use Rattle.limbo_stating.specs.Stating.{States, StatesAll, StatesBlock}
-use Rattle.limbo_stating.specs.FailsToState as fails
-use Rattle.limbo_stating.specs.FailsToState.{FailsToState, FailsAll, FailsBlock, FailsHead}
+use Rattle.limbo_stmt_values.specs.limbo_local.Points.{Point}
+use Rattle.limbo_stmt_values.specs.limbo_stating.Reasons.{Reason, ByPart}
+use Rattle.limbo_stmt_values.specs.limbo_stating.Around.{Around, in_branch}
+use Rattle.limbo_stmt_values.specs.limbo_stating.Stating.{States, StatesAll, StatesBlock}
+use Rattle.limbo_stmt_values.specs.limbo_stating.FailsToState as fails
+use Rattle.limbo_stmt_values.specs.limbo_stating.FailsToState.{FailsToState, FailsAll, FailsBlock, FailsHead}
 use Rattle.limbo_stmt_values.proofs.Told.{reasons_weaker, type_is}
 use Rattle.limbo_stmts.specs.Turns.{FailsForHead}
 use Rattle.limbo_stmts.proofs.Told.{by_part, put, put_with, weaker}

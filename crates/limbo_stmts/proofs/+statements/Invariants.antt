@@ -8,7 +8,7 @@ use Rattle.limbo_tree.proofs.stmt.HandlerArm.TheLaws.{the_size as handler_size}
 use Rattle.limbo_tree.specs.View as source
 use Rattle.limbo_types.specs.View.{view_ty}
 use Rattle.limbo_typed.specs.View.{view_case_arm, view_alt_arm, view_pick_arm, view_handler_arm}
-use Rattle.limbo_stating.specs.Stating.{OfCase, OfAlt, OfPick, OfHandler}
+use Rattle.limbo_stmt_values.specs.limbo_stating.Stating.{OfCase, OfAlt, OfPick, OfHandler}
 use Rattle.limbo_heads.specs.Around.{view_around}
 use Rattle.limbo_stmts.specs.View.{view_point}
 use Rattle.limbo_stmts.proofs.Rows.{StatedSoFar, ArmedSoFar}

@@ -4,7 +4,7 @@ use Rattle.limbo_tree.specs.View as source
 use Rattle.limbo_typed.specs.View.{view_expr, view_alt_head}
 use Rattle.limbo_context.specs.View.{view_body}
 use Rattle.limbo_causes.proofs.Telling.{fails_weaker}
-use Rattle.limbo_stating.specs.Alts as alts
+use Rattle.limbo_stmt_values.specs.limbo_stating.Alts as alts
 use Rattle.limbo_stmt_values.proofs.Told.{part_told}
 use Rattle.limbo_alts.proofs.Nodes.{bad_told}
 use Rattle.limbo_alts.proofs.heads.written.Goals as goal

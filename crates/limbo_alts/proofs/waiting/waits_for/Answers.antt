@@ -1,7 +1,7 @@
 use Rattle.std.proofs.Common.{ap, ◌∙◌}
 use Rattle.limbo_typed.specs.declared.expr.TExpr as code_expr
 use Rattle.limbo_typed.specs.View.{view_expr}
-use Rattle.limbo_stating.specs.Alts.{waits_for}
+use Rattle.limbo_stmt_values.specs.limbo_stating.Alts.{waits_for}
 use Rattle.limbo_alts.proofs.Nodes.{waits_none}
 use Rattle.limbo_alts.proofs.waiting.waits_for.Goals as goal
 

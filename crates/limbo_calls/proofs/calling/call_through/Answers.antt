@@ -6,7 +6,7 @@ use Rattle.limbo_types.specs.View.{view_ty, view_fn}
 use Rattle.limbo_typed.specs.Sound.{type_of}
 use Rattle.limbo_typed.specs.View.{view_expr, view_exprs}
 use Rattle.limbo_refusals.specs.Refusals.{Refuses, NoneIs, ModuleValue}
-use Rattle.limbo_standing.specs.Standing.{SettleEach}
+use Rattle.limbo_arguments.specs.limbo_standing.Standing.{SettleEach}
 use Rattle.limbo_arguments.specs.Failing.{FailsEach}
 use Rattle.limbo_arguments.proofs.Faults.{refuses_weaker}
 use Rattle.limbo_calls.specs.Calls.{CallsThrough, PassesNone}

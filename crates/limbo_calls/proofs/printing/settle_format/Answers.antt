@@ -10,7 +10,7 @@ use Rattle.limbo_refusals.specs.Refusals.{Refuses, BadFormat}
 use Rattle.limbo_forms.specs.ArgTypes.{arg_types}
 use Rattle.limbo_formats.specs.declared.format.FormatPart.{FormatPart}
 use Rattle.limbo_formats.specs.Formats.{IsFormat, Fits}
-use Rattle.limbo_standing.specs.Standing.{SettleEach}
+use Rattle.limbo_arguments.specs.limbo_standing.Standing.{SettleEach}
 use Rattle.limbo_arguments.specs.Failing.{FailsEach}
 use Rattle.limbo_arguments.proofs.Each.{Value}
 use Rattle.limbo_calls.specs.Prints.{Formats}

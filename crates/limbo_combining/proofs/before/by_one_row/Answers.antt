@@ -1,6 +1,6 @@
 use Rattle.limbo_types.specs.View.{view_ty}
 use Rattle.limbo_typed.specs.View.{view_expr}
-use Rattle.limbo_standing.specs.Standing.{Settles}
+use Rattle.limbo_operands.specs.limbo_standing.Standing.{Settles}
 use Rattle.limbo_prefixes.specs.RowView.{view_one}
 use Rattle.limbo_combining.proofs.Combined.{some_is, by_one_row_so}
 use Rattle.limbo_combining.proofs.before.by_one_row.Goals as goal

@@ -4,7 +4,7 @@ use Rattle.limbo_tree.specs.declared.expr.Expr as code_expr
 use Rattle.limbo_tree.specs.Exprs as tree
 use Rattle.limbo_tree.specs.View as source
 use Rattle.limbo_tree.proofs.Exprs.{view_expr-Slice}
-use Rattle.limbo_value_forms.specs.Forms.{copied}
+use Rattle.limbo_typing.specs.limbo_value_forms.Forms.{copied}
 use Rattle.limbo_exprs.proofs.assigning.array_from.Goals as goal
 
 pub returns-in-Slice-clause-none : goal.returns-in-Slice-clause-none

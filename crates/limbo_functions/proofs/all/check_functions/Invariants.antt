@@ -1,7 +1,7 @@
 use Rattle.std.proofs.Common.{◌≡◌, map, take}
 use Rattle.limbo_typed.specs.View.{view_function}
 use Rattle.limbo_context.specs.View.{view_context, view_callee}
-use Rattle.limbo_stating.specs.Functions.{AreFunctions}
+use Rattle.limbo_stmt_values.specs.limbo_stating.Functions.{AreFunctions}
 use Rattle.limbo_stmts.specs.View.{view_point}
 use Rattle.limbo_functions.specs.View.{definitions_of}
 use Rattle.limbo_functions.specs.Outside.{StandsOutside}

@@ -1,7 +1,7 @@
 use Rattle.limbo_tree.specs.View as source
 use Rattle.limbo_types.specs.View.{view_fn}
 use Rattle.limbo_typed.specs.View.{view_stmt}
-use Rattle.limbo_stating.specs.Functions.{around}
+use Rattle.limbo_stmt_values.specs.limbo_stating.Functions.{around}
 use Rattle.limbo_stmts.specs.View.{view_point}
 use Rattle.limbo_stmt_values.proofs.Told.{if_err}
 use Rattle.limbo_functions.proofs.Statements.{block_fails, answer_lacks}

@@ -1,7 +1,7 @@
 use Rattle.std.proofs.Common.{ap, ◌∙◌}
 use Rattle.limbo_typed.specs.declared.stmt.TStmt as code_stmt
 use Rattle.limbo_typed.specs.View.{view_stmt}
-use Rattle.limbo_stating.specs.Functions.{body_of}
+use Rattle.limbo_stmt_values.specs.limbo_stating.Functions.{body_of}
 use Rattle.limbo_stmt_values.proofs.Told.{if_ok}
 use Rattle.limbo_functions.proofs.Statements.{one_alone}
 use Rattle.limbo_functions.proofs.answering.statements_of.Goals as goal

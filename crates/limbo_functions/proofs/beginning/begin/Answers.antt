@@ -2,7 +2,7 @@ use Rattle.std.proofs.Common.{sym, subst}
 use Rattle.limbo_tree.specs.View as source
 use Rattle.limbo_types.specs.View.{view_fn}
 use Rattle.limbo_context.specs.View.{view_context}
-use Rattle.limbo_stating.specs.Functions.{outside}
+use Rattle.limbo_stmt_values.specs.limbo_stating.Functions.{outside}
 use Rattle.limbo_stmt_values.proofs.Told.{reasons_weaker}
 use Rattle.limbo_functions.specs.Headings.{FailsHeading, again}
 use Rattle.limbo_functions.proofs.beginning.begin.Goals as goal

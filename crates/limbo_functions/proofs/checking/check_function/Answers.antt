@@ -1,6 +1,6 @@
 use Rattle.std.proofs.Common.{ap, ◌∙◌}
 use Rattle.limbo_typed.specs.View.{view_stmts, view_function}
-use Rattle.limbo_local.specs.Points.{Point}
+use Rattle.limbo_stmt_values.specs.limbo_local.Points.{Point}
 use Rattle.limbo_context.specs.View.{view_context, view_callee}
 use Rattle.limbo_stmts.specs.View.{view_point}
 use Rattle.limbo_stmt_values.proofs.Told.{if_ok}

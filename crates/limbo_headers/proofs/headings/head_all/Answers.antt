@@ -1,7 +1,7 @@
 use Rattle.std.proofs.Common.{◌≡◌, ◌<◌, length, get_or, sym, subst, ◌∙◌, arith}
 use Rattle.std.proofs.lemmas.List.{length-append}
 use Rattle.limbo_entries.specs.View.{view_entry}
-use Rattle.limbo_naming.proofs.Places.{entry_at, state_at}
+use Rattle.limbo_type_names.proofs.limbo_naming_lemmas.Places.{entry_at, state_at}
 use Rattle.limbo_type_names.specs.declared.fault.TypesFault.{TypesFault}
 use Rattle.limbo_type_names.specs.Working.{entries_in}
 use Rattle.limbo_headers.specs.Refusals.{FailsHeading}

@@ -6,7 +6,7 @@ use Rattle.limbo_cases.specs.Labels.{Apart}
 use Rattle.limbo_cases.specs.Texts.{TextAtMost}
 use Rattle.limbo_typed.specs.declared.stmt.CasePattern.{CasePattern}
 use Rattle.limbo_typed.specs.View.{view_case_arm, heads_of}
-use Rattle.limbo_stating.specs.Cases.{is_star}
+use Rattle.limbo_stmt_values.specs.limbo_stating.Cases.{is_star}
 use Rattle.limbo_heads.specs.Labels.{label_in, number_in, text_in}
 use Rattle.limbo_heads.proofs.Labelled.{all_apart}
 use Rattle.limbo_heads.proofs.apart.are_apart.Goals as goal

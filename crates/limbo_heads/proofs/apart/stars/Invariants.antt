@@ -1,6 +1,6 @@
 use Rattle.std.proofs.Common.{◌≡◌, take}
 use Rattle.std.specs.Prelude.{count_by}
-use Rattle.limbo_stating.specs.Cases.{is_star}
+use Rattle.limbo_stmt_values.specs.limbo_stating.Cases.{is_star}
 use Rattle.limbo_heads.proofs.apart.stars.Given as goal
 
 abbrev pub invariant-loop-pattern : goal.invariant-loop-pattern

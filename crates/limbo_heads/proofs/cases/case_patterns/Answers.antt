@@ -1,7 +1,7 @@
 use Rattle.limbo_tree.specs.View as source
 use Rattle.limbo_types.specs.View.{view_ty}
 use Rattle.limbo_context.specs.View.{view_context, view_body}
-use Rattle.limbo_stating.specs.Cases.{here}
+use Rattle.limbo_stmt_values.specs.limbo_stating.Cases.{here}
 use Rattle.limbo_stmt_values.specs.Leading.{point}
 use Rattle.limbo_stmt_values.proofs.Told.{reasons_weaker}
 use Rattle.limbo_heads.proofs.Naming.{of_case}

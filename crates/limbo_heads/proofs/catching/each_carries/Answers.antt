@@ -3,7 +3,7 @@ use Rattle.std.proofs.lemmas.Bool.{false≢true}
 use Rattle.std.proofs.lemmas.Option.{slice_get_read}
 use Rattle.limbo_types.specs.View.{view_ty}
 use Rattle.limbo_context.specs.View.{view_context}
-use Rattle.limbo_stating.specs.Handlers.{Carries}
+use Rattle.limbo_stmt_values.specs.limbo_stating.Handlers.{Carries}
 use Rattle.limbo_stmt_values.proofs.Told.{untrue}
 use Rattle.limbo_heads.proofs.Carrying.{each_from, each_at, each_more}
 use Rattle.limbo_heads.proofs.catching.each_carries.Goals as goal

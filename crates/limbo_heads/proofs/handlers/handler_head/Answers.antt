@@ -4,7 +4,7 @@ use Rattle.limbo_tree.specs.View as source
 use Rattle.limbo_typed.specs.declared.stmt.HandlerPattern.{HandlerPattern}
 use Rattle.limbo_causes.specs.Causes.{FailsBy}
 use Rattle.limbo_context.specs.View.{view_context, view_body}
-use Rattle.limbo_stating.specs.Handlers.{FailsHandlerHead}
+use Rattle.limbo_stmt_values.specs.limbo_stating.Handlers.{FailsHandlerHead}
 use Rattle.limbo_stmt_values.specs.Leading.{From}
 use Rattle.limbo_heads.specs.Catching.{FailsVariable}
 use Rattle.limbo_heads.proofs.Excepting.{patterns_fail, variable_fails}

@@ -1,6 +1,6 @@
 use Rattle.std.proofs.Common.{map, ◌∙◌}
 use Rattle.limbo_typed.specs.View.{view_pick_arm, heads_of}
-use Rattle.limbo_stating.specs.Picks.{all_variants}
+use Rattle.limbo_stmt_values.specs.limbo_stating.Picks.{all_variants}
 use Rattle.limbo_heads.proofs.Single.{once_found}
 use Rattle.limbo_heads.proofs.once.each_once.Goals as goal
 

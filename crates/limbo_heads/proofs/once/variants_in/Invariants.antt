@@ -1,6 +1,6 @@
 use Rattle.std.proofs.Common.{◌≡◌, map, take}
 use Rattle.limbo_typed.specs.View.{view_pick_arm, heads_of}
-use Rattle.limbo_stating.specs.Picks.{all_variants}
+use Rattle.limbo_stmt_values.specs.limbo_stating.Picks.{all_variants}
 use Rattle.limbo_heads.specs.Singles.{singles}
 use Rattle.limbo_heads.proofs.once.variants_in.Given as goal
 

@@ -4,7 +4,7 @@ use Rattle.limbo_tree.specs.View.{view_name}
 use Rattle.limbo_refusals.specs.Refusals.{NoneIs}
 use Rattle.limbo_context.specs.Context.{HasVariantNamed}
 use Rattle.limbo_context.specs.View.{view_context}
-use Rattle.limbo_stating.specs.Picks.{here}
+use Rattle.limbo_stmt_values.specs.limbo_stating.Picks.{here}
 use Rattle.limbo_heads.proofs.Naming.{of_pick}
 use Rattle.limbo_heads.proofs.Rows.{gone_on, gone_end, gone_fails}
 use Rattle.limbo_heads.proofs.picks.variants_named.Goals as goal

@@ -1,5 +1,5 @@
 use Rattle.limbo_tree.specs.View.{name_of}
-use Rattle.limbo_stating.specs.Around.{IsContinued}
+use Rattle.limbo_stmt_values.specs.limbo_stating.Around.{IsContinued}
 use Rattle.limbo_heads.proofs.Places.{NoneBefore}
 use Rattle.limbo_heads.proofs.turns.innermost_continued.Given as goal
 

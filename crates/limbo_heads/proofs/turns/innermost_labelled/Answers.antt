@@ -1,7 +1,7 @@
 use Rattle.std.proofs.Common.{refl, length}
 use Rattle.std.proofs.lemmas.Option.{slice_get_read}
 use Rattle.limbo_tree.specs.View.{name_of}
-use Rattle.limbo_stating.specs.Around.{IsLabelled}
+use Rattle.limbo_stmt_values.specs.limbo_stating.Around.{IsLabelled}
 use Rattle.limbo_stmt_values.proofs.Told.{untrue}
 use Rattle.limbo_heads.proofs.Places.{innermost_at, none_at, none_more}
 use Rattle.limbo_heads.proofs.turns.innermost_labelled.Goals as goal

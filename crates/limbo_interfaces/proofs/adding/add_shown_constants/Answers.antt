@@ -3,7 +3,7 @@ use Rattle.limbo_tree.specs.View.{view_expr, names_of}
 use Rattle.limbo_scope.specs.Laws.{declared_all}
 use Rattle.limbo_scope.specs.declared.meaning.Meaning.TheVariants as meaning
 use Rattle.limbo_context.specs.View.{view_context, view_body}
-use Rattle.limbo_local.specs.Points.{meaning_from}
+use Rattle.limbo_locals.specs.limbo_local.Points.{meaning_from}
 use Rattle.limbo_members.proofs.Untouched.{on_one}
 use Rattle.limbo_interfaces.proofs.Added.{constants_fail, constants_leave, below, constants_add, still_begun}
 use Rattle.limbo_interfaces.proofs.adding.add_shown_constants.Goals as goal

@@ -5,7 +5,7 @@ use Rattle.limbo_tree.specs.View.{view_type, names_of}
 use Rattle.limbo_scope.specs.Laws.{declared_all}
 use Rattle.limbo_scope.specs.declared.meaning.Meaning.TheVariants as meaning
 use Rattle.limbo_context.specs.View.{view_context, view_body}
-use Rattle.limbo_local.specs.Points.{Point, meaning_from}
+use Rattle.limbo_locals.specs.limbo_local.Points.{Point, meaning_from}
 use Rattle.limbo_members.proofs.Untouched.{on_one}
 use Rattle.limbo_interfaces.proofs.Added.{types_fail, types_leave, below, types_add, still_begun}
 use Rattle.limbo_interfaces.proofs.adding.add_shown_types.Goals as goal

@@ -4,7 +4,7 @@ use Rattle.limbo_tree.specs.View.{names_of}
 use Rattle.limbo_types.specs.View.{view_fn}
 use Rattle.limbo_typed.specs.View.{view_interface}
 use Rattle.limbo_context.specs.View.{view_context, view_body}
-use Rattle.limbo_local.specs.Members.{with_signatures}
+use Rattle.limbo_locals.specs.limbo_local.Members.{with_signatures}
 use Rattle.limbo_members.proofs.Untouched.{on_one}
 use Rattle.limbo_interfaces.proofs.Numbered.{below_viewed, functions_there, set_viewed, placed, placed_begun}
 use Rattle.limbo_interfaces.proofs.functions.place_functions.Goals as goal

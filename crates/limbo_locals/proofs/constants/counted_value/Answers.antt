@@ -5,8 +5,8 @@ use Rattle.limbo_typed.specs.View.{view_expr}
 use Rattle.limbo_causes.specs.Causes.{FailsBy}
 use Rattle.limbo_context.specs.Context.{Valued}
 use Rattle.limbo_context.specs.View.{view_context, view_body}
-use Rattle.limbo_typing.specs.Typing.{HasValue}
-use Rattle.limbo_typing.specs.Failing.{FailsValue}
+use Rattle.limbo_exprs.specs.limbo_typing.Typing.{HasValue}
+use Rattle.limbo_exprs.specs.limbo_typing.Failing.{FailsValue}
 use Rattle.limbo_locals.proofs.Known.{counted_more}
 use Rattle.limbo_locals.proofs.constants.counted_value.Goals as goal
 

@@ -12,7 +12,7 @@ use Rattle.limbo_typed.specs.View.{view_expr, view_stmt}
 use Rattle.limbo_typed.proofs.View.{view_boxed-Some}
 use Rattle.limbo_causes.specs.Causes.{FailsBy, Refused}
 use Rattle.limbo_context.specs.View.{view_context, view_body}
-use Rattle.limbo_value_forms.specs.Forms.{itself}
+use Rattle.limbo_exprs.specs.limbo_value_forms.Forms.{itself}
 use Rattle.limbo_local.specs.Points.{numbers}
 use Rattle.limbo_locals.specs.Named.{AreFree, with_variables_in}
 use Rattle.limbo_locals.specs.Anywhere.{DeclaresAt}

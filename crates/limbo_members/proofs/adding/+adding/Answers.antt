@@ -11,7 +11,7 @@ use Rattle.limbo_scope.specs.declared.meaning.Meaning.TheVariants as meaning
 use Rattle.limbo_scope.specs.Scopes.{Scope, declared}
 use Rattle.limbo_causes.specs.Causes.{FailsBy}
 use Rattle.limbo_context.specs.View.{view_context, view_body}
-use Rattle.limbo_local.specs.Members.{variants_in}
+use Rattle.limbo_locals.specs.limbo_local.Members.{variants_in}
 use Rattle.limbo_locals.specs.Anywhere.{at}
 use Rattle.limbo_locals.proofs.Known.{if_ok}
 use Rattle.limbo_locals.proofs.Rules.{by_rule}

@@ -3,7 +3,7 @@ use Rattle.limbo_tree.specs.View as source
 use Rattle.limbo_tree.specs.View.{names_of}
 use Rattle.limbo_types.specs.View.{view_ty}
 use Rattle.limbo_context.specs.View.{view_context, view_body}
-use Rattle.limbo_local.specs.Members.{Inside, fields}
+use Rattle.limbo_locals.specs.limbo_local.Members.{Inside, fields}
 use Rattle.limbo_members.specs.Adding.{view_given}
 use Rattle.limbo_members.proofs.Added.{fields_add, fields_fail}
 use Rattle.limbo_members.proofs.adding.add_fields.Goals as goal

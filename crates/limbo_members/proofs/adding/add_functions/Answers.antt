@@ -3,7 +3,7 @@ use Rattle.limbo_tree.specs.View as source
 use Rattle.limbo_tree.specs.View.{names_of}
 use Rattle.limbo_types.specs.View.{view_fn}
 use Rattle.limbo_context.specs.View.{view_context, view_body}
-use Rattle.limbo_local.specs.Failing as failing
+use Rattle.limbo_locals.specs.limbo_local.Failing as failing
 use Rattle.limbo_locals.specs.Anywhere.{at}
 use Rattle.limbo_members.specs.Adding.{view_given}
 use Rattle.limbo_members.proofs.Added.{functions_add, header_fails}

@@ -6,7 +6,7 @@ use Rattle.limbo_types.specs.View.{view_ty}
 use Rattle.limbo_scope.specs.Laws.{declared_all}
 use Rattle.limbo_scope.specs.declared.meaning.Meaning.TheVariants as meaning
 use Rattle.limbo_context.specs.View.{view_context, view_body}
-use Rattle.limbo_local.specs.Points.{Point, meaning_from}
+use Rattle.limbo_locals.specs.limbo_local.Points.{Point, meaning_from}
 use Rattle.limbo_locals.specs.Anywhere.{at}
 use Rattle.limbo_members.proofs.Added.{types_fail}
 use Rattle.limbo_members.proofs.Shown.{shown_on, shown_next, shown_below}

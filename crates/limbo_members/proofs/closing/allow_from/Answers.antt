@@ -5,7 +5,7 @@ use Rattle.limbo_layout.specs.declared.def.AdtDef as code_def
 use Rattle.limbo_layout.specs.Adts.{Def}
 use Rattle.limbo_layout.specs.View.{view_def, view_defs}
 use Rattle.limbo_context.specs.View.{view_context}
-use Rattle.limbo_local.specs.Failing as failing
+use Rattle.limbo_locals.specs.limbo_local.Failing as failing
 use Rattle.limbo_members.specs.Standing.{IsAllowedIn}
 use Rattle.limbo_members.proofs.Named.{viewed_there, below_or_last}
 use Rattle.limbo_members.proofs.Closed.{refuses_weaker, length_defs}

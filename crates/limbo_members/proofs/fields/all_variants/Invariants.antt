@@ -2,7 +2,7 @@ use Rattle.std.proofs.Common.{map, take}
 use Rattle.limbo_tree.specs.View as source
 use Rattle.limbo_layout.specs.View.{view_variant}
 use Rattle.limbo_context.specs.View.{view_context, view_body}
-use Rattle.limbo_local.specs.Members.{AreVariants}
+use Rattle.limbo_locals.specs.limbo_local.Members.{AreVariants}
 use Rattle.limbo_members.proofs.fields.all_variants.Given as goal
 
 abbrev pub invariant-loop-v : goal.invariant-loop-v

@@ -2,7 +2,7 @@ use Rattle.std.proofs.Common.{◌++◌, [], map, take, sym, ap, ◌∙◌}
 use Rattle.limbo_tree.specs.View as source
 use Rattle.limbo_tree.specs.View.{names_of}
 use Rattle.limbo_layout.specs.View.{view_variant}
-use Rattle.limbo_local.specs.Members.{bare, named_variants}
+use Rattle.limbo_locals.specs.limbo_local.Members.{bare, named_variants}
 use Rattle.limbo_members.proofs.Fielded.{viewed_more, bare_push}
 use Rattle.limbo_members.proofs.fields.bare_of.Goals as goal
 

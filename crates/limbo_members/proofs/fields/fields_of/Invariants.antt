@@ -2,7 +2,7 @@ use Rattle.std.proofs.Common.{map, take}
 use Rattle.limbo_tree.specs.View as source
 use Rattle.limbo_layout.specs.View.{view_fields}
 use Rattle.limbo_context.specs.View.{view_context, view_body}
-use Rattle.limbo_local.specs.Members.{AreFields}
+use Rattle.limbo_locals.specs.limbo_local.Members.{AreFields}
 use Rattle.limbo_members.proofs.fields.fields_of.Given as goal
 
 abbrev pub invariant-loop-f : goal.invariant-loop-f

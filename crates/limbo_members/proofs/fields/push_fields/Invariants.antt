@@ -1,7 +1,7 @@
 use Rattle.std.proofs.Common.{◌≡◌, ◌++◌}
 use Rattle.limbo_types.specs.View.{view_ty}
 use Rattle.limbo_layout.specs.View.{view_fields}
-use Rattle.limbo_local.specs.Members as members
+use Rattle.limbo_locals.specs.limbo_local.Members as members
 use Rattle.limbo_locals.proofs.Pushed.{first}
 use Rattle.limbo_members.proofs.fields.push_fields.Given as goal
 

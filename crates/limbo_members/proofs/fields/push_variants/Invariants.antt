@@ -1,6 +1,6 @@
 use Rattle.std.proofs.Common.{◌≡◌, ◌++◌, map}
 use Rattle.limbo_layout.specs.View.{view_fields, view_variant}
-use Rattle.limbo_local.specs.Members.{named_variants}
+use Rattle.limbo_locals.specs.limbo_local.Members.{named_variants}
 use Rattle.limbo_locals.proofs.Pushed.{first}
 use Rattle.limbo_members.proofs.fields.push_variants.Given as goal
 

@@ -6,8 +6,8 @@ use Rattle.limbo_tree.specs.View.{view_param}
 use Rattle.limbo_types.specs.View.{view_ty}
 use Rattle.limbo_causes.specs.Causes.{FailsBy}
 use Rattle.limbo_context.specs.View.{view_context, view_body}
-use Rattle.limbo_local.specs.Local.{argument_types, ArePermitted}
-use Rattle.limbo_local.specs.Failing.{FailsTypes}
+use Rattle.limbo_locals.specs.limbo_local.Local.{argument_types, ArePermitted}
+use Rattle.limbo_locals.specs.limbo_local.Failing.{FailsTypes}
 use Rattle.limbo_members.specs.Written.{of_each}
 use Rattle.limbo_members.proofs.Permitted.{some_param_fails, next_param, param_at}
 use Rattle.limbo_members.proofs.headers.arguments.Goals as goal

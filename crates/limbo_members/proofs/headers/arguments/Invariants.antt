@@ -2,7 +2,7 @@ use Rattle.std.proofs.Common.{map, take}
 use Rattle.limbo_tree.specs.View.{view_param}
 use Rattle.limbo_types.specs.View.{view_ty}
 use Rattle.limbo_context.specs.View.{view_context, view_body}
-use Rattle.limbo_local.specs.Local.{argument_types, ArePermitted}
+use Rattle.limbo_locals.specs.limbo_local.Local.{argument_types, ArePermitted}
 use Rattle.limbo_members.proofs.headers.arguments.Given as goal
 
 abbrev pub invariant-loop-param : goal.invariant-loop-param

@@ -3,8 +3,8 @@ use Rattle.std.proofs.lemmas.Grind.{common_steps}
 use Rattle.limbo_tree.specs.View as source
 use Rattle.limbo_causes.specs.Causes.{FailsBy}
 use Rattle.limbo_context.specs.View.{view_context, view_body}
-use Rattle.limbo_local.specs.Local.{argument_types}
-use Rattle.limbo_local.specs.Failing.{FailsTypes}
+use Rattle.limbo_locals.specs.limbo_local.Local.{argument_types}
+use Rattle.limbo_locals.specs.limbo_local.Failing.{FailsTypes}
 use Rattle.limbo_members.proofs.Permitted.{arguments_fail, the_answer_fails}
 use Rattle.limbo_members.proofs.headers.header.Goals as goal
 

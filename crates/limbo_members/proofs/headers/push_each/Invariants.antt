@@ -3,7 +3,7 @@ use Rattle.limbo_tree.specs.Types as written
 use Rattle.limbo_tree.specs.View.{view_type, name_of}
 use Rattle.limbo_types.specs.View.{view_ty}
 use Rattle.limbo_context.specs.View.{view_context, view_body}
-use Rattle.limbo_local.specs.Local.{ArePermitted}
+use Rattle.limbo_locals.specs.limbo_local.Local.{ArePermitted}
 use Rattle.limbo_members.specs.Written.{of_each}
 use Rattle.limbo_members.proofs.headers.push_each.Given as goal
 

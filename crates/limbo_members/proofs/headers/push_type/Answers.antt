@@ -3,7 +3,7 @@ use Rattle.limbo_tree.specs.View as source
 use Rattle.limbo_types.specs.Types.{Ty}
 use Rattle.limbo_types.specs.View.{view_ty}
 use Rattle.limbo_context.specs.View.{view_context, view_body}
-use Rattle.limbo_local.specs.Local.{ArePermitted}
+use Rattle.limbo_locals.specs.limbo_local.Local.{ArePermitted}
 use Rattle.limbo_members.proofs.Permitted.{permitted_push, pushed_types}
 use Rattle.limbo_members.proofs.headers.push_type.Goals as goal
 

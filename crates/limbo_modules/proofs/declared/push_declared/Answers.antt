@@ -3,7 +3,7 @@ use Rattle.std.proofs.lemmas.List.{map-append}
 use Rattle.limbo_typed.specs.View.{view_declared}
 use Rattle.limbo_entries.specs.View.{entries_of, view_entry}
 use Rattle.limbo_meanings.proofs.Places.{entry_at}
-use Rattle.limbo_outline.proofs.Places.{item_at}
+use Rattle.limbo_source_context.proofs.limbo_outline_lemmas.Places.{item_at}
 use Rattle.limbo_modules.proofs.Telling.{declared_yes, declared_no}
 use Rattle.limbo_modules.proofs.declared.push_declared.Goals as goal
 

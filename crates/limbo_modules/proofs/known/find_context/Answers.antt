@@ -1,4 +1,4 @@
-use Rattle.limbo_stating.specs.Reasons.{ByPart}
+use Rattle.limbo_stmt_values.specs.limbo_stating.Reasons.{ByPart}
 use Rattle.limbo_causes.specs.Causes.{Refused}
 use Rattle.limbo_entries.specs.View.{entries_of}
 use Rattle.limbo_context.specs.View.{view_context}

@@ -1,7 +1,7 @@
 use Rattle.std.proofs.Common.{ℕ, map}
 use Rattle.limbo_typed.specs.View.{view_signature}
 use Rattle.limbo_entries.specs.View.{entries_of}
-use Rattle.limbo_source_adts.specs.Definitions.{AreHeaded}
+use Rattle.limbo_outline.specs.limbo_source_adts.Definitions.{AreHeaded}
 use Rattle.limbo_outline_members.specs.Members.{SignaturesTo}
 use Rattle.limbo_outline_members.proofs.interfaces.list_signatures.Given as goal
 

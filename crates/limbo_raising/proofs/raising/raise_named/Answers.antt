@@ -4,7 +4,7 @@ use Rattle.limbo_types.specs.View.{view_ty}
 use Rattle.limbo_typed.specs.declared.module.TException as code_exception
 use Rattle.limbo_typed.specs.View.{view_stmt, view_exception}
 use Rattle.limbo_context.specs.View.{view_context, view_body}
-use Rattle.limbo_stating.specs.Raising.{NamesException}
+use Rattle.limbo_stmt_values.specs.limbo_stating.Raising.{NamesException}
 use Rattle.limbo_stmt_values.proofs.Told.{if_ok, if_err}
 use Rattle.limbo_raising.proofs.Raised.{raised_by, exception_fails, text_fails, none_named, none_there, no_item, item_of}
 use Rattle.limbo_raising.proofs.raising.raise_named.Goals as goal

@@ -8,7 +8,7 @@ use Rattle.limbo_typed.proofs.View.{view_stmt-Raise}
 use Rattle.limbo_standing.specs.Standing.{Settles}
 use Rattle.limbo_causes.specs.Causes.{FailsBy}
 use Rattle.limbo_context.specs.View.{view_context, view_body}
-use Rattle.limbo_stating.specs.Raising.{Raises, a_string}
+use Rattle.limbo_stmt_values.specs.limbo_stating.Raising.{Raises, a_string}
 use Rattle.limbo_stmt_values.specs.Leading.{point, From}
 use Rattle.limbo_stmt_values.specs.Answering.{FailsToAnswer}
 use Rattle.limbo_raising.proofs.raising.raise_text.Goals as goal

@@ -1,6 +1,6 @@
 use Rattle.std.proofs.Common.{◌≡◌, ◌<◌, ◌++◌, ◌∷◌, [], length, get_or, take, sym, ap, ◌∙◌}
 use Rattle.limbo_entries.specs.View.{entries_of, view_entry}
-use Rattle.limbo_type_names.proofs.Rows.{one_more}
+use Rattle.limbo_headers.proofs.limbo_type_names_lemmas.Rows.{one_more}
 use Rattle.limbo_source_adts.specs.Modules.{modules_of}
 use Rattle.limbo_source_adts.proofs.Modules.{modules_push}
 use Rattle.limbo_source_adts.proofs.adts.module_names.Goals as goal

@@ -5,7 +5,7 @@ use Rattle.limbo_entries.specs.View.{entries_of, view_entry}
 use Rattle.limbo_layout.specs.View.{view_fields, view_variant, view_defs}
 use Rattle.limbo_naming.specs.Naming.{is_adt}
 use Rattle.limbo_naming.proofs.Places.{as_many, entry_at}
-use Rattle.limbo_type_names.proofs.Rows.{one_more}
+use Rattle.limbo_headers.proofs.limbo_type_names_lemmas.Rows.{one_more}
 use Rattle.limbo_source_adts.specs.Definitions.{FieldsAre, VariantsAre}
 use Rattle.limbo_source_adts.proofs.Insides.{rows_many, row_is, row_there, take_many}
 use Rattle.limbo_source_adts.proofs.Collecting.{adt_more, adt_none, not_adt}

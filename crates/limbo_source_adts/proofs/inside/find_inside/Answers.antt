@@ -2,7 +2,7 @@ use Rattle.std.proofs.Common.{◌≡◌, ◌<◌, length, get_or, take, ap, ◌�
 use Rattle.limbo_entries.specs.View.{entries_of, view_entry}
 use Rattle.limbo_naming.proofs.Places.{as_many}
 use Rattle.limbo_order.specs.View.{rows}
-use Rattle.limbo_type_names.proofs.Rows.{outer_before, one_more}
+use Rattle.limbo_headers.proofs.limbo_type_names_lemmas.Rows.{outer_before, one_more}
 use Rattle.limbo_source_adts.proofs.Insides.{rows_many, take_many, with_many, one_inside, none_inside}
 use Rattle.limbo_source_adts.proofs.inside.find_inside.Goals as goal
 use Rattle.limbo_source_adts.proofs.inside.find_inside.Goals.{in-None, in-Some+in_ok-push_number-in-Some}

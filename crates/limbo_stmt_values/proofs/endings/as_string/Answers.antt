@@ -8,7 +8,7 @@ use Rattle.limbo_typed.specs.View.{view_expr}
 use Rattle.limbo_standing.specs.Standing.{Settles}
 use Rattle.limbo_refusals.specs.Refusals.{NoneIs}
 use Rattle.limbo_causes.specs.Causes.{Refused}
-use Rattle.limbo_value_forms.specs.Forms.{itself}
+use Rattle.limbo_exprs.specs.limbo_value_forms.Forms.{itself}
 use Rattle.limbo_stmt_values.proofs.Told.{told_with}
 use Rattle.limbo_stmt_values.proofs.endings.as_string.Goals as goal
 

@@ -7,7 +7,7 @@ use Rattle.limbo_typed.specs.View.{view_expr}
 use Rattle.limbo_causes.specs.Causes.{Refused}
 use Rattle.limbo_causes.proofs.Telling.{fails_weaker}
 use Rattle.limbo_refusals.specs.Refusals.{NoneIs}
-use Rattle.limbo_value_forms.specs.Forms.{itself}
+use Rattle.limbo_exprs.specs.limbo_value_forms.Forms.{itself}
 use Rattle.limbo_stating.specs.Cases.{IsChosenFrom, as_it_is, as_string}
 use Rattle.limbo_stmt_values.proofs.Told.{type_is, told_with, if_ok, if_err}
 use Rattle.limbo_stmt_values.proofs.Rules.{nil_not_cased, chosen_not, chosen_not_at_all}

@@ -4,7 +4,7 @@ use Rattle.limbo_layout.specs.declared.def.AdtDef as code_def
 use Rattle.limbo_layout.specs.View.{view_defs}
 use Rattle.limbo_typed.specs.View.{view_expr}
 use Rattle.limbo_context.specs.View.{view_context}
-use Rattle.limbo_prefixes.specs.Choosing.{is_pick}
+use Rattle.limbo_exprs.specs.limbo_prefixes.Choosing.{is_pick}
 use Rattle.limbo_stmt_values.proofs.Told.{type_is}
 use Rattle.limbo_stmt_values.proofs.Rules.{picked_of, not_picked_of, no_ref_of}
 use Rattle.limbo_stmt_values.proofs.picks.pick_of.Goals as goal

@@ -3,11 +3,11 @@ use Rattle.limbo_tree.specs.View as source
 use Rattle.limbo_stmts.proofs.plain.broken.Goals as goal
 use Rattle.std.proofs.Common.{subst, map}
 use Rattle.limbo_refusals.specs.Refusals.{NoneIs}
-use Rattle.limbo_stating.specs.Around.{Innermost, IsLabelled}
+use Rattle.limbo_stmt_values.specs.limbo_stating.Around.{Innermost, IsLabelled}
 use Rattle.limbo_heads.specs.declared.around.Turn as code_turn
 use Rattle.limbo_heads.specs.Around.{view_turn}
-use Rattle.limbo_stating.specs.FailsToState as fails
-use Rattle.limbo_stating.specs.FailsToState.{FailsToState}
+use Rattle.limbo_stmt_values.specs.limbo_stating.FailsToState as fails
+use Rattle.limbo_stmt_values.specs.limbo_stating.FailsToState.{FailsToState}
 
 pub returns-in-None-clause-refused : goal.returns-in-None-clause-refused
 returns-in-None-clause-refused c =

@@ -6,9 +6,9 @@ use Rattle.limbo_causes.specs.Causes.{nothing}
 use Rattle.limbo_refusals.specs.Refusals.{Clash}
 use Rattle.limbo_types.proofs.View.{view_ty-Nothing}
 use Rattle.limbo_stmt_values.proofs.Told.{told_alone}
-use Rattle.limbo_stating.specs.FailsToState as fails
-use Rattle.limbo_stating.specs.FailsToState.{FailsToState}
-use Rattle.limbo_stating.specs.Reasons.{ByPart}
+use Rattle.limbo_stmt_values.specs.limbo_stating.FailsToState as fails
+use Rattle.limbo_stmt_values.specs.limbo_stating.FailsToState.{FailsToState}
+use Rattle.limbo_stmt_values.specs.limbo_stating.Reasons.{ByPart}
 use Rattle.limbo_heads.specs.Around.{view_around}
 use Rattle.limbo_stmts.specs.View.{view_point}
 use Rattle.limbo_stmts.proofs.Told.{by_part}

@@ -2,8 +2,8 @@ use Rattle.std.proofs.Common.{Some}
 use Rattle.limbo_tree.specs.Stmts as tree
 use Rattle.limbo_tree.specs.View as source
 use Rattle.limbo_stmts.proofs.plain.raise_value.Goals as goal
-use Rattle.limbo_stating.specs.FailsToState as fails
-use Rattle.limbo_stating.specs.FailsToState.{FailsToState}
+use Rattle.limbo_stmt_values.specs.limbo_stating.FailsToState as fails
+use Rattle.limbo_stmt_values.specs.limbo_stating.FailsToState.{FailsToState}
 use Rattle.limbo_heads.specs.Around.{view_around}
 use Rattle.limbo_stmts.specs.View.{view_point}
 use Rattle.limbo_stmts.proofs.Told.{by_part}

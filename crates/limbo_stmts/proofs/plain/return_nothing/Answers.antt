@@ -2,8 +2,8 @@ use Rattle.limbo_stmts.proofs.plain.return_nothing.Goals as goal
 use Rattle.std.proofs.Common.{◌∙◌, sym}
 use Rattle.std.proofs.lemmas.Bool.{false≢true}
 use Rattle.limbo_types.proofs.View.{view_ty-Nothing}
-use Rattle.limbo_stating.specs.FailsToState as fails
-use Rattle.limbo_stating.specs.FailsToState.{FailsToState}
+use Rattle.limbo_stmt_values.specs.limbo_stating.FailsToState as fails
+use Rattle.limbo_stmt_values.specs.limbo_stating.FailsToState.{FailsToState}
 
 pub returns-else-equal-clause-refused : goal.returns-else-equal-clause-refused
 returns-else-equal-clause-refused c =

@@ -8,8 +8,8 @@ use Rattle.limbo_stmts.proofs.Told.{answer_fails}
 use Rattle.limbo_typed.specs.Typed as typed
 use Rattle.limbo_typed.specs.View.{view_expr}
 use Rattle.limbo_typed.specs.declared.stmt.TStmt.TheVariants as make
-use Rattle.limbo_stating.specs.FailsToState.{FailsToState}
-use Rattle.limbo_stating.specs.Stating.{States}
+use Rattle.limbo_stmt_values.specs.limbo_stating.FailsToState.{FailsToState}
+use Rattle.limbo_stmt_values.specs.limbo_stating.Stating.{States}
 use Rattle.limbo_heads.specs.Around.{view_around}
 use Rattle.limbo_stmts.specs.View.{view_point}
 use Rattle.limbo_stmts.proofs.Told.{by_part, made}

@@ -4,9 +4,9 @@ use Rattle.limbo_stmts.proofs.plain.spawns.Goals as goal
 use Rattle.limbo_typed.proofs.View.{view_stmt-Spawn}
 use Rattle.limbo_typed.specs.View.{view_expr}
 use Rattle.limbo_typed.specs.declared.stmt.TStmt.TheVariants as make
-use Rattle.limbo_stating.specs.FailsToState as fails
-use Rattle.limbo_stating.specs.FailsToState.{FailsToState}
-use Rattle.limbo_stating.specs.Stating.{States}
+use Rattle.limbo_stmt_values.specs.limbo_stating.FailsToState as fails
+use Rattle.limbo_stmt_values.specs.limbo_stating.FailsToState.{FailsToState}
+use Rattle.limbo_stmt_values.specs.limbo_stating.Stating.{States}
 use Rattle.limbo_heads.specs.Around.{view_around}
 use Rattle.limbo_stmts.specs.View.{view_point}
 use Rattle.limbo_stmts.proofs.Told.{by_part, made}

@@ -1,6 +1,6 @@
 use Rattle.limbo_types.specs.View.{view_ty}
 use Rattle.limbo_typed.specs.View.{view_expr, view_place}
-use Rattle.limbo_standing.specs.Standing.{Settles}
+use Rattle.limbo_operands.specs.limbo_standing.Standing.{Settles}
 use Rattle.limbo_operators.specs.RowView.{view_row}
 use Rattle.limbo_updating.proofs.Updated.{some_is, by_row_so}
 use Rattle.limbo_updating.proofs.updating.by_row.Goals as goal
