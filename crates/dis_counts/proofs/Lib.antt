@@ -5,3 +5,7 @@ pub mod Named
 pub mod Replies
 pub mod Loaded
 pub mod Exact
+pub mod Held
+pub mod Forging
+pub mod Unreached
+pub mod Ending

@@ -30,7 +30,7 @@ more_cases (a ∷ xs) zero x y e = inr e
 more_cases (a ∷ xs) (suc j) x y e = more_cases xs j x y e
 
 -- Some process names what all together name.
-some_process : {W P D : Type 0} (naming : Naming W P D) (ps : List (Doing P D)) (n : ℕ) (T : Type 0)
+pub some_process : {W P D : Type 0} (naming : Naming W P D) (ps : List (Doing P D)) (n : ℕ) (T : Type 0)
     → ((j : ℕ) (d : Doing P D) → slice_get ps j ≡ Some d → 0 < naming_of.names naming d n → T) → 0 < total naming ps n → T
 some_process naming [] n T each p = absurd (omega arith)
 some_process naming (d ∷ ds) n T each p = elim (either (naming_of.names naming d n) (total naming ds n) p) [

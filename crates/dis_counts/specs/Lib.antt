@@ -1,2 +1,5 @@
 pub mod Opening
 pub mod Counts
+pub mod References
+pub mod Reach
+pub mod Ends

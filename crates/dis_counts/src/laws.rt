@@ -1,14 +1,16 @@
-//! Counts, in every state of a machine with memory.
+//! Counts in every state of a machine with memory, and what its instructions leave alone.
 
 ghost use Rattle.dis_counts.specs.Counts.{OpeningCounts, EventsKeepCounts, CountsStayExact};
+ghost use Rattle.dis_counts.specs.Ends.{EndsLetGo};
+ghost use Rattle.dis_counts.specs.Reach.{OnlyReachedCounts};
+ghost use Rattle.dis_counts.specs.References.{NoReferenceIsForged};
 
 /// As a machine begins, a block is there exactly where its count isn't 0.
 pub fn opening_counts()
     ensures { OpeningCounts }
 {}
 
-/// Instructions of any process keep it so, and each event of a journal does: a quantum, a reply, a lost link. A process that ends or
-/// breaks names nothing any more, so what it alone named goes in that step.
+/// Instructions of any process keep it so, and each event of a journal does: a quantum, a reply, a lost link.
 pub fn events_keep_counts()
     ensures { EventsKeepCounts }
 {}
@@ -16,4 +18,21 @@ pub fn events_keep_counts()
 /// In every state that a run comes to, a block is there exactly where its count isn't 0.
 pub fn counts_stay_exact()
     ensures { CountsStayExact }
+{}
+
+/// A process that ends, breaks or faults lets go of all that it names: each block that is there behind that instruction is named by another
+/// process or by a block.
+pub fn ends_let_go()
+    ensures { EndsLetGo }
+{}
+
+/// An instruction makes no reference but of one that its process holds, in a frame or in a block that it reaches, and of the block that it
+/// makes: none of a number, and none of an address.
+pub fn no_reference_is_forged()
+    ensures { NoReferenceIsForged }
+{}
+
+/// By an instruction, and by what goes behind it, each block that the process doesn't reach stays as it was, with its count.
+pub fn only_reached_counts()
+    ensures { OnlyReachedCounts }
 {}

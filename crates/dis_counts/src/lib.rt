@@ -1,8 +1,9 @@
-//! The machine with memory as a whole: what it begins with, and that in every state of a run a block is there exactly where its count
-//! isn't 0. No code stands here, only definitions and laws.
+//! The machine with memory as a whole: what it begins with, that in every state of a run a block is there exactly where its count isn't
+//! 0, and what an instruction leaves alone. No code stands here, only definitions and laws.
 //!
 //! `specs/` in the order of reading: `Opening` (what a machine of an object begins with), `Counts` (when counts are exact, and that they
-//! are).
+//! are), `Ends` (what is there once a process has ended), `References` (where references come from), `Reach` (what an instruction leaves
+//! as it was).
 //!
 //! Nothing is counted as a machine goes on: behind each step what stays is the greatest part that is named from outside or by itself, in
 //! one place for all languages. That this is the same as letting go what has the count 0, ring by ring alike, is what the laws say: what
@@ -10,9 +11,13 @@
 //!
 //! In `proofs/` the cut of any heap is `Cut`, and what many processes do over one is `Many`, for any language whose steps leave no
 //! reference that names nothing. `Named` joins counts to references, `Replies` and `Loaded` say what replies and items of the data leave,
-//! and `Exact` puts all together.
+//! and `Exact` puts these together. `Held` and `Forging` say what is read and stored, instruction by instruction, `Unreached` what is left
+//! alone, cut and all, and `Ending` what an end leaves.
 #![tactic(auto)]
 
 mod laws;
 
-pub use laws::{counts_stay_exact, events_keep_counts, opening_counts};
+pub use laws::{
+    counts_stay_exact, ends_let_go, events_keep_counts, no_reference_is_forged,
+    only_reached_counts, opening_counts,
+};
