@@ -63,12 +63,12 @@ frames_refer n [] p = absurd (omega arith)
 frames_refer n (f ∷ fs) p =
     elim (either (in_frame n f) (in_frames n fs) p) [ inl q ↦ inl (frame_refers n f q) | inr q ↦ inr (frames_refer n fs q) ]
 
-first_refer : (n : ℕ) (fs gs : List Frame) → FramesRefer fs n → FramesRefer (fs ++ gs) n
+pub first_refer : (n : ℕ) (fs gs : List Frame) → FramesRefer fs n → FramesRefer (fs ++ gs) n
 first_refer n [] gs r = absurd r
 first_refer n (f ∷ fs) gs (inl r) = inl r
 first_refer n (f ∷ fs) gs (inr r) = inr (first_refer n fs gs r)
 
-last_refer : (n : ℕ) (fs gs : List Frame) → FramesRefer gs n → FramesRefer (fs ++ gs) n
+pub last_refer : (n : ℕ) (fs gs : List Frame) → FramesRefer gs n → FramesRefer (fs ++ gs) n
 last_refer n [] gs r = r
 last_refer n (f ∷ fs) gs r = inr (last_refer n fs gs r)
 

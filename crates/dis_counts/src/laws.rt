@@ -2,7 +2,7 @@
 
 ghost use Rattle.dis_counts.specs.Counts.{OpeningCounts, EventsKeepCounts, CountsStayExact};
 ghost use Rattle.dis_counts.specs.Ends.{EndsLetGo};
-ghost use Rattle.dis_counts.specs.Reach.{OnlyReachedCounts};
+ghost use Rattle.dis_counts.specs.Reach.{NothingElseIsReached, OnlyReachedCounts};
 ghost use Rattle.dis_counts.specs.References.{NoReferenceIsForged};
 
 /// As a machine begins, a block is there exactly where its count isn't 0.
@@ -32,7 +32,13 @@ pub fn no_reference_is_forged()
     ensures { NoReferenceIsForged }
 {}
 
-/// By an instruction, and by what goes behind it, each block that the process doesn't reach stays as it was, with its count.
+/// Nor does it make an address but of a byte that its process reaches: what a process reaches afterwards, it reached before, or it made it.
+pub fn nothing_else_is_reached()
+    ensures { NothingElseIsReached }
+{}
+
+/// However many instructions a process goes through, each block that it didn't reach before them stays as it was, with its count, by them
+/// and by what goes behind them.
 pub fn only_reached_counts()
     ensures { OnlyReachedCounts }
 {}

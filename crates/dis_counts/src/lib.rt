@@ -2,8 +2,8 @@
 //! 0, and what an instruction leaves alone. No code stands here, only definitions and laws.
 //!
 //! `specs/` in the order of reading: `Opening` (what a machine of an object begins with), `Counts` (when counts are exact, and that they
-//! are), `Ends` (what is there once a process has ended), `References` (where references come from), `Reach` (what an instruction leaves
-//! as it was).
+//! are), `Ends` (what is there once a process has ended), `References` (where references come from), `Reach` (what a process reaches, and
+//! what it leaves alone).
 //!
 //! Nothing is counted as a machine goes on: behind each step what stays is the greatest part that is named from outside or by itself, in
 //! one place for all languages. That this is the same as letting go what has the count 0, ring by ring alike, is what the laws say: what
@@ -11,7 +11,8 @@
 //!
 //! In `proofs/` the cut of any heap is `Cut`, and what many processes do over one is `Many`, for any language whose steps leave no
 //! reference that names nothing. `Named` joins counts to references, `Replies` and `Loaded` say what replies and items of the data leave,
-//! and `Exact` puts these together. `Held` and `Forging` say what is read and stored, instruction by instruction, `Unreached` what is left
+//! and `Exact` puts these together. `Storing` goes through the instructions once, for each sort of words that a process may store; of
+//! words that refer to what it holds it is `Forging`, of words that lead to what it reaches `Leading`. `Unreached` says what is left
 //! alone, cut and all, and `Ending` what an end leaves.
 #![tactic(auto)]
 
@@ -19,5 +20,5 @@ mod laws;
 
 pub use laws::{
     counts_stay_exact, ends_let_go, events_keep_counts, no_reference_is_forged,
-    only_reached_counts, opening_counts,
+    nothing_else_is_reached, only_reached_counts, opening_counts,
 };
