@@ -13,3 +13,4 @@ pub mod Forging
 pub mod Leading
 pub mod Unreached
 pub mod Ending
+pub mod Beginning

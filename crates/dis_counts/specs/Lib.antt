@@ -3,3 +3,4 @@ pub mod Counts
 pub mod References
 pub mod Reach
 pub mod Ends
+pub mod Alike

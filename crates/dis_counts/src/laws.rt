@@ -1,9 +1,16 @@
 //! Counts in every state of a machine with memory, and what its instructions leave alone.
 
+ghost use Rattle.dis_counts.specs.Alike.{BeginsAlike};
 ghost use Rattle.dis_counts.specs.Counts.{OpeningCounts, EventsKeepCounts, CountsStayExact};
 ghost use Rattle.dis_counts.specs.Ends.{EndsLetGo};
 ghost use Rattle.dis_counts.specs.Reach.{NothingElseIsReached, OnlyReachedCounts};
 ghost use Rattle.dis_counts.specs.References.{NoReferenceIsForged};
+
+/// Where the machine that runs today begins, this one begins with the same process and the same blocks, of which those go that nothing
+/// names.
+pub fn begins_alike()
+    ensures { BeginsAlike }
+{}
 
 /// As a machine begins, a block is there exactly where its count isn't 0.
 pub fn opening_counts()
