@@ -14,3 +14,4 @@ pub mod Leading
 pub mod Unreached
 pub mod Ending
 pub mod Beginning
+pub mod Going

@@ -3,6 +3,7 @@
 ghost use Rattle.dis_counts.specs.Alike.{BeginsAlike};
 ghost use Rattle.dis_counts.specs.Counts.{OpeningCounts, EventsKeepCounts, CountsStayExact};
 ghost use Rattle.dis_counts.specs.Ends.{EndsLetGo};
+ghost use Rattle.dis_counts.specs.Going.{EachGoesOnce, LastReferencesRelease};
 ghost use Rattle.dis_counts.specs.Reach.{NothingElseIsReached, OnlyReachedCounts};
 ghost use Rattle.dis_counts.specs.References.{NoReferenceIsForged};
 
@@ -25,6 +26,16 @@ pub fn events_keep_counts()
 /// In every state that a run comes to, a block is there exactly where its count isn't 0.
 pub fn counts_stay_exact()
     ensures { CountsStayExact }
+{}
+
+/// A block goes with the last reference to it: that it went is told by the instruction behind which its count is 0, and by no other.
+pub fn last_references_release()
+    ensures { LastReferencesRelease }
+{}
+
+/// In a run a block is told to go once, and never while it is there.
+pub fn each_goes_once()
+    ensures { EachGoesOnce }
 {}
 
 /// A process that ends, breaks or faults lets go of all that it names: each block that is there behind that instruction is named by another
