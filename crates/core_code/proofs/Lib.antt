@@ -1,0 +1,4 @@
+pub mod Closed
+pub mod Counts
+pub mod Rounds
+pub mod Examples

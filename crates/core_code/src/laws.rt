@@ -1,0 +1,23 @@
+//! What holds of the code of every program.
+
+ghost use Rattle.core_code.specs.Control.{FunctionsAreClosed};
+ghost use Rattle.core_code.specs.Nodes.{EightANode};
+ghost use Rattle.core_code.specs.Rooms.{RoundsGiveRooms};
+
+/// The code of a function is never empty. From each of its instructions control goes on to one of them, or leaves by a return; none
+/// leads back over more instructions than stand in front of it.
+pub fn functions_are_closed()
+    ensures { FunctionsAreClosed }
+{}
+
+/// The code of an expression, with the drops of what it got, of a statement and of a function has at most eight instructions a
+/// node. A node counts once, and once more for each reference of its value.
+pub fn eight_a_node()
+    ensures { EightANode }
+{}
+
+/// Values in a row, each at the next place that suits it, lie as the layouts of their types say, where types have layouts: as many
+/// rounds as there are adts give each its room. They are aligned, and none lies in the room of another.
+pub fn rounds_give_rooms()
+    ensures { RoundsGiveRooms }
+{}

@@ -1,0 +1,17 @@
+//! Three-address code over whole values, between the compiler's two passes: what one process of it does, and the code of a program.
+//! No code stands here, only definitions and laws. The command doesn't use them yet, and that the code keeps the meaning of its
+//! program isn't proved yet.
+//!
+//! A slot has the whole value of a node. What a statement of the program holds stands in the slots of its nodes, and each reference of it
+//! goes by a `Drop` at the statement's end, in the order in which it was got; a test of what was decided passes over the drops of what
+//! wasn't evaluated, and what the turns of an initialiser held comes back from a chain, turn by turn.
+//!
+//! `specs/` in the order of reading: `Slots`, `Code`, `Machine`, `Terms` (the code of expressions), `Statements` (of statements, functions
+//! and programs). `Control`, `Nodes` and `Rooms` say the laws.
+//!
+//! In `proofs/`, `Examples` computes that the code of programs tells what the programs tell.
+#![tactic(auto)]
+
+mod laws;
+
+pub use laws::{eight_a_node, functions_are_closed, rounds_give_rooms};
