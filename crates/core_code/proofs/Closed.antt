@@ -3,7 +3,7 @@ use Rattle.std.proofs.Common.{◌≡◌, ℕ, ℤ, zero, suc, ◌+◌, ◌-◌, 
 use Rattle.std.proofs.Common.{Option, Some, None}
 use Rattle.std.proofs.Common.{subst, arith, length-append}
 use Rattle.std.proofs.lemmas.List.{length-map}
-use Rattle.std.specs.Prelude.{slice_get, All, if◌then◌else◌}
+use Rattle.std.specs.Prelude.{reverse, slice_get, All, if◌then◌else◌}
 use Rattle.limbo_types.specs.Types as ty
 use Rattle.limbo_types.specs.Types.{Ty}
 use Rattle.limbo_layout.specs.Adts.{Def}
@@ -14,11 +14,13 @@ use Rattle.limbo_meaning.specs.Trees.{Aim, Work, Operate, Term, Evaluated, Node,
 use Rattle.limbo_meaning.specs.Trees.{Items, NoItems, MoreItems}
 use Rattle.limbo_meaning.specs.Trees.{Stm, Over, Eval, If, While, Enter, Break, Continue, Loop, Looping, Block, Done, Then, Turn, Again}
 use Rattle.limbo_meaning.specs.Evaluation.{passes_on, may_hold, work_refers}
+use Rattle.limbo_meaning.specs.Operations.{item_of}
 use Rattle.limbo_meaning.specs.Program.{Routine}
 use Rattle.core_code.specs.Code.{Instr, Give, Skip, Truth, Next, Other}
 use Rattle.core_code.specs.Code.{Start, Keep, Take, Drop, Mirror, Unless, Jump, Back, Return}
 use Rattle.core_code.specs.Terms.{Lowered, LoweredAll, Moved, is_moved, drop_after, drops_after, drops_after_all, drops_from, drops_if}
-use Rattle.core_code.specs.Terms.{count_of, gives, gathers, writes, cells, cell_drops, node, others, lower, lower_all, lower_items}
+use Rattle.core_code.specs.Terms.{count_of, gives, gathers, writes, cells, list_code, cell_drops, node, others, lower, lower_all}
+use Rattle.core_code.specs.Terms.{lower_items}
 use Rattle.core_code.specs.Terms.{lower_rest}
 use Rattle.core_code.specs.Terms.{named, items_end, rest_end, part_types, part_numbers, moves_into}
 use Rattle.core_code.specs.Statements.{Around, further, leaves_at, turns_at, in_loop, whole, whole_if, test, loop_tested, loop_entered}
@@ -121,6 +123,10 @@ module _ (defs : List Def) where
   cells_free t [] behind free b r h = tt
   cells_free t (s ∷ ss) behind free b r h = (omega arith, cells_free t ss (Some free) (suc free) (suc b) r h)
 
+  list_free : (t : Ty) (ss : List ℕ) (free : ℕ) → Free (list_code defs t ss free)
+  list_free t [] free b r h = (omega arith, tt)
+  list_free t (s ∷ ss) free b r h = cells_free t (reverse (s ∷ ss)) None free b r h
+
   cell_drops_free : (n free : ℕ) → Free (cell_drops defs n free)
   cell_drops_free zero free b r h = tt
   cell_drops_free (suc n) free b r h = (omega arith, cell_drops_free n (suc free) (suc b) r h)
@@ -132,7 +138,7 @@ module _ (defs : List Def) where
   node_free t (tree.TakePart n) l f = (free_join l.code _ f.0 (λ b r h. (omega arith, tt)), f.1)
   node_free t tree.Copy l f = (free_join l.code _ f.0 (λ b r h. (omega arith, tt)), f.1)
   node_free t tree.Link l f = (
-    free_join l.code _ f.0 (cells_free _ _ None l.free),
+    free_join l.code _ f.0 (list_free (item_of t) l.values l.free),
     free_join l.drops _ f.1 (cell_drops_free (length l.values) l.free),
   )
   node_free t (tree.Call n) l f = (

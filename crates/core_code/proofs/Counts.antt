@@ -17,7 +17,8 @@ use Rattle.limbo_meaning.specs.Operations.{item_of}
 use Rattle.core_code.specs.Code.{Instr, Give, Gather, Call, Skip, Truth, Write, Element, Next, Other, Start, Keep, Take, Drop, Mirror}
 use Rattle.core_code.specs.Code.{Unless, Jump, Back, Return}
 use Rattle.core_code.specs.Terms.{Lowered, LoweredAll, Moved, drop_after, drops_after, drops_after_all, drops_from, drops_if, count_of}
-use Rattle.core_code.specs.Terms.{gives, gathers, writes, cells, cell_drops, slot_at, node, others, lower, lower_all, lower_items}
+use Rattle.core_code.specs.Terms.{gives, gathers, writes, cells, list_code, cell_drops, slot_at, node, others, lower, lower_all}
+use Rattle.core_code.specs.Terms.{lower_items}
 use Rattle.core_code.specs.Terms.{lower_rest, named, items_end, rest_end, part_types, part_numbers, moves_into}
 use Rattle.core_code.specs.Statements.{Around, further, in_loop, whole, whole_if, test, loop_tested, loop_entered}
 use Rattle.core_code.specs.Statements.{stm_code, loop_code_tested, loop_code_entered, block_code}
@@ -82,6 +83,13 @@ module _ (defs : List Def) where
   long_cells t [] behind free = refl
   long_cells t (s ∷ ss) behind free = ap suc (long_cells t ss (Some free) (suc free))
 
+  long_list : (t : Ty) (ss : List ℕ) (free : ℕ) → length (list_code defs t ss free) ≤ suc (length ss)
+  long_list t [] free = omega arith
+  long_list t (s ∷ ss) free =
+      let a = long_cells t (reverse (s ∷ ss)) None free in
+      let b = length-reverse (s ∷ ss) in
+      omega arith
+
   long_cell_drops : (n free : ℕ) → length (cell_drops defs n free) ≡ n
   long_cell_drops zero free = refl
   long_cell_drops (suc n) free = ap suc (long_cell_drops n (suc free))
@@ -103,10 +111,8 @@ module _ (defs : List Def) where
   node_small t (tree.TakePart k) l n f = one_more l.code l.drops (length l.values) n _ _ f (omega arith)
   node_small t tree.Copy l n f = one_more l.code l.drops (length l.values) n _ _ f (omega arith)
   node_small t tree.Link l n f =
-      let w = cells defs (item_of t) (reverse l.values) None l.free in
-      let a = long_join l.code w in
-      let b = long_cells (item_of t) (reverse l.values) None l.free in
-      let c = length-reverse l.values in
+      let a = long_join l.code (list_code defs (item_of t) l.values l.free) in
+      let b = long_list (item_of t) l.values l.free in
       let d = long_join l.drops (cell_drops defs (length l.values) l.free) in
       let e = long_cell_drops (length l.values) l.free in
       omega arith

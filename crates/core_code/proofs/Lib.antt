@@ -1,4 +1,6 @@
 pub mod Closed
 pub mod Counts
+pub mod Used
+pub mod Stepping
 pub mod Rounds
 pub mod Examples

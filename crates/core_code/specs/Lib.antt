@@ -5,4 +5,6 @@ pub mod Terms
 pub mod Statements
 pub mod Control
 pub mod Nodes
+pub mod Using
+pub mod Standing
 pub mod Rooms

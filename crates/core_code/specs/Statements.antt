@@ -112,7 +112,7 @@ module _ (defs : List Def) where
     block_slots (Again l b) = block_slots b
 
   abbrev pub function_of : source.Routine → Function
-  function_of r = record { variables = r.variables; slots = block_slots r.body; code = block_code [] r.body ++ Return None ∷ [] }
+  function_of r = record { variables = r.variables; slots = max 1 (block_slots r.body); code = block_code [] r.body ++ Return None ∷ [] }
 
 abbrev pub code_of : source.Program → Program
 code_of p = record { adts = p.adts; functions = map (function_of p.adts) p.routines }

@@ -9,7 +9,7 @@ use Rattle.limbo_typed.specs.declared.operation.Operation.{Operation}
 use Rattle.limbo_typed.specs.declared.operation.Operation.TheVariants as operation
 use Rattle.limbo_typed.specs.declared.operation.Given.{Given}
 use Rattle.limbo_typed.specs.declared.operation.Given.TheVariants as given
-use Rattle.limbo_meaning.specs.Values.{references, zero_of}
+use Rattle.limbo_meaning.specs.Values.{Ref, references, zero_of}
 use Rattle.limbo_meaning.specs.Places.{operands_of}
 use Rattle.limbo_meaning.specs.Operations.{item_of}
 use Rattle.limbo_meaning.specs.Trees as tree
@@ -141,12 +141,17 @@ module _ (defs : List Def) where
   cell_drops zero free = []
   cell_drops (suc n) free = Drop free 0 ∷ cell_drops n (suc free)
 
+  -- a list without items is nothing
+  abbrev pub list_code : Ty → (items : List ℕ) → (free : ℕ) → List Instr
+  list_code t [] free = Known (Ref None) free ∷ []
+  list_code t (s ∷ ss) free = cells t (reverse (s ∷ ss)) None free
+
   abbrev pub links : Ty → LoweredAll → Lowered
   links t l = record {
-    code = l.code ++ cells (item_of t) (reverse l.values) None l.free;
+    code = l.code ++ list_code (item_of t) l.values l.free;
     drops = l.drops ++ cell_drops (length l.values) l.free;
     value = l.free + (length l.values - 1);
-    free = l.free + length l.values;
+    free = suc (l.free + (length l.values - 1));
   }
 
   abbrev pub picks : Ty → ℕ → LoweredAll → Lowered
@@ -260,7 +265,8 @@ module _ (defs : List Def) where
           value = n.free;
           free = os.free;
         }
-    lower lo t = record { code = []; drops = []; value = lo; free = lo }
+    -- what isn't of this part of the language has a slot, and no code
+    lower lo t = record { code = []; drops = []; value = lo; free = suc lo }
 
     pub lower_all : (lo : ℕ) → Terms → LoweredAll
     lower_all lo NoTerms = record { code = []; drops = []; values = []; free = lo }

@@ -3,11 +3,24 @@
 ghost use Rattle.core_code.specs.Control.{FunctionsAreClosed};
 ghost use Rattle.core_code.specs.Nodes.{EightANode};
 ghost use Rattle.core_code.specs.Rooms.{RoundsGiveRooms};
+ghost use Rattle.core_code.specs.Standing.{CodeIsNotLeft};
+ghost use Rattle.core_code.specs.Using.{SlotsAreThere};
 
 /// The code of a function is never empty. From each of its instructions control goes on to one of them, or leaves by a return; none
 /// leads back over more instructions than stand in front of it.
 pub fn functions_are_closed()
     ensures { FunctionsAreClosed }
+{}
+
+/// The instructions of a function name slots that it has, and no others.
+pub fn slots_are_there()
+    ensures { SlotsAreThere }
+{}
+
+/// Each frame of a process of a program's code stands at an instruction of one of its functions, with the slots that this has: a call
+/// begins so, and no step and no reply leaves it otherwise.
+pub fn code_is_not_left()
+    ensures { CodeIsNotLeft }
 {}
 
 /// The code of an expression, with the drops of what it got, of a statement and of a function has at most eight instructions a

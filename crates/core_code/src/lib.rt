@@ -7,11 +7,13 @@
 //! wasn't evaluated, and what the turns of an initialiser held comes back from a chain, turn by turn.
 //!
 //! `specs/` in the order of reading: `Slots`, `Code`, `Machine`, `Terms` (the code of expressions), `Statements` (of statements, functions
-//! and programs). `Control`, `Nodes` and `Rooms` say the laws.
+//! and programs). `Control`, `Using`, `Standing`, `Nodes` and `Rooms` say the laws.
 //!
 //! In `proofs/`, `Examples` computes that the code of programs tells what the programs tell.
 #![tactic(auto)]
 
 mod laws;
 
-pub use laws::{eight_a_node, functions_are_closed, rounds_give_rooms};
+pub use laws::{
+    code_is_not_left, eight_a_node, functions_are_closed, rounds_give_rooms, slots_are_there,
+};

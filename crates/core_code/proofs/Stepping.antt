@@ -1,0 +1,288 @@
+-- No step and no reply leaves the code of a program.
+use Rattle.std.proofs.Common.{◌≡◌, ℕ, zero, suc, ◌+◌, ◌-◌, ◌<◌, Bool, true, false, List, [], ◌∷◌, length, map}
+use Rattle.std.proofs.Common.{Option, Some, None, Ok, Err, refl, sym, subst, ◌∙◌, arith}
+use Rattle.std.proofs.lemmas.List.{length-set, length-replicate}
+use Rattle.std.specs.Prelude.{slice_get, slice_index_or, All, nat_lt, if◌then◌else◌}
+use Rattle.std.specs.List.{range_with_len}
+use Rattle.styx_msg.specs.declared.message.Rmsg.{Rmsg}
+use Rattle.system_model.specs.Prints.{Printing, Answers, Requests, NoReply, print, hear, Writing}
+use Rattle.limbo_types.specs.Types.{Ty}
+use Rattle.limbo_layout.specs.Adts.{Def}
+use Rattle.limbo_meaning.specs.Values.{Part, Value, part_of, number_of}
+use Rattle.limbo_meaning.specs.Exceptions.{Raising}
+use Rattle.limbo_meaning.specs.Places.{Place, part_at, written}
+use Rattle.limbo_meaning.specs.Operations.{copied, elements_of, decides, holds}
+use Rattle.limbo_meaning.specs.Formats.{formatted}
+use Rattle.limbo_meaning.specs.Evaluation.{Progress, Stepped, Raises, performed, element_at}
+use Rattle.limbo_meaning.specs.Trees.{Term, Evaluated}
+use Rattle.limbo_meaning.specs.Process.{Shared}
+use Rattle.limbo_meaning.specs.Program as source
+use Rattle.core_code.specs.Slots.{Slots, Region, NoSlot, MoreSlots, Regions, NoRegion, MoreRegions, slot, chain_of, put, emptied, cleared}
+use Rattle.core_code.specs.Slots.{placed}
+use Rattle.core_code.specs.Slots.{values_of}
+use Rattle.core_code.specs.Code as code
+use Rattle.core_code.specs.Code.{Instr, Give, Gather, Pick, Known, Write, CopyInto, Call, Print, Skip, Truth, Element, Next, Other}
+use Rattle.core_code.specs.Code.{Start, Keep, Take, Drop, Mirror, Unless, Jump, Back, Return, Function, Program}
+use Rattle.core_code.specs.Machine as machine
+use Rattle.core_code.specs.Machine.{Frame, Process, Does, at, waiting, frame_of, with_frames, answered, returns, calls, prints, hears}
+use Rattle.core_code.specs.Machine.{heard}
+use Rattle.core_code.specs.Machine.{choice, noted, slot_value, memory, unless_raised, part_or_none, does, first_left, counted, long_of}
+use Rattle.core_code.specs.Machine.{step}
+use Rattle.core_code.specs.Statements.{function_of, code_of}
+use Rattle.core_code.specs.Control.{IsClosed, leads_to}
+use Rattle.core_code.specs.Using.{Uses}
+use Rattle.core_code.specs.Standing.{StandsAt, AllStand, Stands, LeavesStanding, CodeIsNotLeft}
+use Rattle.core_code.proofs.Closed.{functions_are_closed}
+use Rattle.core_code.proofs.Used.{slots_are_there}
+
+-- ---- what holds of each function of a program
+
+record IsSound (f : Function) : Type 0 where
+  closed : IsClosed f.code
+  slots : 0 < f.slots
+  uses : (pc : ℕ) (i : Instr) → slice_get f.code pc ≡ Some i → Uses f.slots i
+
+function_sound : (defs : List Def) (r : source.Routine) → IsSound (function_of defs r)
+function_sound defs r = record { closed = functions_are_closed defs r; slots = omega arith; uses = slots_are_there defs r }
+
+all_sound : (defs : List Def) (rs : List source.Routine) (n : ℕ) (f : Function) → slice_get (map (function_of defs) rs) n ≡ Some f
+    → IsSound f
+all_sound defs [] n f e = absurd cc
+all_sound defs (r ∷ rs) zero f e = let g : function_of defs r ≡ f = cc in subst IsSound g (function_sound defs r)
+all_sound defs (r ∷ rs) (suc n) f e = all_sound defs rs n f e
+
+-- ---- slots stay as many
+
+long_put : (slots : Slots) (s : ℕ) (v : _) → length (put slots s v) ≡ length slots
+long_put slots s v = length-set slots s v
+
+long_emptied : (slots : Slots) (ss : List ℕ) → length (emptied slots ss) ≡ length slots
+long_emptied slots [] = refl
+long_emptied slots (s ∷ ss) = long_put (emptied slots ss) s _ ∙ long_emptied slots ss
+
+long_cleared : (slots : Slots) (from words : ℕ) → length (cleared slots from words) ≡ length slots
+long_cleared slots from zero = refl
+long_cleared slots from (suc n) = long_put (cleared slots (suc from) n) from _ ∙ long_cleared slots (suc from) n
+
+long_placed : (slots : Slots) (from : ℕ) (g : Region) → length (placed slots from g) ≡ length slots
+long_placed slots from NoSlot = refl
+long_placed slots from (MoreSlots s g) = long_put (placed slots (suc from) g) from s ∙ long_placed slots (suc from) g
+
+long_noted : (slots : Slots) (d : Option ℕ) (b : Bool) → length (noted slots d b) ≡ length slots
+long_noted slots None b = refl
+long_noted slots (Some d) b = long_put slots d _
+
+module _ (program : Program) (sound : (n : ℕ) (f : Function) → slice_get program.functions n ≡ Some f → IsSound f) where
+  function_in : (f : Frame) (s : StandsAt program f) → IsSound s.function
+  function_in f s = sound s.number s.function s.there
+
+  inside : (f : Frame) (s : StandsAt program f) (i : Instr) → slice_get f.code f.pc ≡ Some i
+      → All (λ to. to < length f.code) (leads_to f.pc i)
+  inside f s i e =
+      let h : IsClosed f.code = subst IsClosed (sym s.code) (function_in f s).closed in h.inside f.pc i e
+
+  uses : (f : Frame) (s : StandsAt program f) (i : Instr) → slice_get f.code f.pc ≡ Some i → Uses s.function.slots i
+  uses f s i e = (function_in f s).uses f.pc i (subst (λ (c : List Instr). slice_get c f.pc ≡ Some i) s.code e)
+
+  moved : (f : Frame) → StandsAt program f → (pc : ℕ) (variables : List Value) (slots : Slots) → pc < length f.code
+      → length slots ≡ length f.slots → StandsAt program (at f pc variables slots)
+  moved f s pc variables slots l e = record {
+    number = s.number;
+    function = s.function;
+    there = s.there;
+    code = s.code;
+    at = l;
+    slots = e ∙ s.slots;
+    answer = s.answer;
+  }
+
+  waits : (f : Frame) (s : StandsAt program f) (into : ℕ) → suc f.pc < length f.code → into < s.function.slots
+      → StandsAt program (waiting f into)
+  waits f s into l k = record {
+    number = s.number;
+    function = s.function;
+    there = s.there;
+    code = s.code;
+    at = l;
+    slots = s.slots;
+    answer = k;
+  }
+
+  has_answer : (f : Frame) (v : Value) → StandsAt program f → StandsAt program (answered f v)
+  has_answer f v s = moved f s f.pc f.variables _ s.at (long_put f.slots f.into _)
+
+  begun : (defs : List Def) (n instance : ℕ) (g : Function) (t : Ty) (args : List Value) → slice_get program.functions n ≡ Some g
+      → StandsAt program (frame_of defs instance g t args)
+  begun defs n instance g t args e = record {
+    number = n;
+    function = g;
+    there = e;
+    code = refl;
+    at = (sound n g e).closed.begins;
+    slots = length-replicate g.slots _;
+    answer = (sound n g e).slots;
+  }
+
+  module _ (limit : ℕ) (w : Shared) (q : Process) (s : Stands program q) where
+    abbrev Leaves : Does → Type 0
+    Leaves d = LeavesStanding program d
+
+    -- on at this place, with so many slots
+    goes : (pc : ℕ) (variables : List Value) (slots : Slots) → pc < length q.frame.code
+        → length slots ≡ length q.frame.slots → Stands program (with_frames q (at q.frame pc variables slots) q.below)
+    goes pc variables slots l e = record { frame = moved q.frame s.frame pc variables slots l e; below = s.below }
+
+    raised : {A : Type 0} (r : Raising A) (go : A → Does) → ((x : A) → Leaves (go x)) → Leaves (unless_raised limit program w q r go)
+    raised (Ok x) go k = k x
+    raised (Err text) go k = tt
+
+    parted : (p : Option Part) (go : Part → Does) → ((x : Part) → Leaves (go x)) → Leaves (part_or_none limit program w q p go)
+    parted None go k = s
+    parted (Some x) go k = k x
+
+    given : (into : ℕ) (behind : Slots) (pr : Progress Value Term) → suc q.frame.pc < length q.frame.code
+        → length behind ≡ length q.frame.slots → Leaves (machine.gives limit program w q into behind pr)
+    given into behind (Stepped m got (Evaluated v)) l e = goes _ _ _ l (long_put behind into _ ∙ e)
+    given into behind (Raises text) l e = tt
+    given into behind _ l e = s
+
+    stored : (place : Place) (v : Value) → suc q.frame.pc < length q.frame.code → Leaves (machine.stores limit program w q place v)
+    stored place v l = raised (written program.adts (memory limit program w q) place v) _ (λ m. goes _ _ _ l refl)
+
+    nexts : (counter passes : ℕ) (o : Option ℕ) → suc q.frame.pc < length q.frame.code → suc q.frame.pc + passes < length q.frame.code
+        → Leaves (machine.nexts limit program w q counter passes o)
+    nexts counter n None l k = goes _ _ _ k (long_put q.frame.slots counter _)
+    nexts counter n (Some i) l k = goes _ _ _ l (long_put q.frame.slots counter _)
+
+    takes : (chain from passes : ℕ) (rs : Regions) → suc q.frame.pc < length q.frame.code → suc q.frame.pc + passes < length q.frame.code
+        → Leaves (machine.takes limit program w q chain from passes rs)
+    takes chain from n NoRegion l k = goes _ _ _ k (long_put q.frame.slots chain _)
+    takes chain from n (MoreRegions g rs) l k =
+        goes _ _ _ l (long_put (placed q.frame.slots from g) chain _ ∙ long_placed q.frame.slots from g)
+
+    decides_so : (into : ℕ) (d : Option ℕ) (from passes : ℕ) (b : Bool) → suc q.frame.pc < length q.frame.code
+        → suc q.frame.pc + passes < length q.frame.code → Leaves (machine.left_decides limit program w q into d from passes b)
+    decides_so into d from n true l k = goes _ _ _ k (long_put (noted q.frame.slots d true) into _ ∙ long_noted q.frame.slots d true)
+    decides_so into d from n false l k = goes _ _ _ l (long_noted q.frame.slots d false)
+
+    either : (b : Bool) (x y : Does) → Leaves x → Leaves y → Leaves (if b then x else y)
+    either true x y l k = l
+    either false x y l k = k
+
+    called : (t : Ty) (into f : ℕ) (o : Option Function) (args : List Value) → slice_get program.functions f ≡ o
+        → suc q.frame.pc < length q.frame.code → into < s.frame.function.slots → Leaves (calls program.adts limit w q t into o args)
+    called t into f None args e l k = s
+    called t into f (Some g) args e l k =
+        either (nat_lt (suc (length q.below)) limit) _ _ (record {
+          frame = begun program.adts f q.frame.instance g t args e;
+          below = (waits q.frame s.frame into l k, s.below);
+        }) tt
+
+    printed : (f : Frame) (o : Printing) → StandsAt program f → Leaves (prints w q f o)
+    printed f (Answers o v) k = record { frame = has_answer f _ k; below = s.below }
+    printed f (Requests o m n) k = record { frame = k; below = s.below }
+    printed f NoReply k = s
+
+    heard_so : (o : Printing) → Leaves (hears w q o)
+    heard_so (Answers o v) = record { frame = has_answer q.frame _ s.frame; below = s.below }
+    heard_so (Requests o m n) = record { frame = s.frame; below = s.below }
+    heard_so NoReply = s
+
+    returned : (below : List Frame) (v : Value) → AllStand program below → Leaves (returns program.adts w q below v)
+    returned [] v k = tt
+    returned (f ∷ below) v k = record { frame = has_answer f _ k.0; below = k.1 }
+
+    chosen : (b : Bool) (x y : ℕ) → suc q.frame.pc + x < length q.frame.code → suc q.frame.pc + y < length q.frame.code
+        → suc q.frame.pc + choice b x y < length q.frame.code
+    chosen true x y l k = l
+    chosen false x y l k = k
+
+    -- where a next instruction is, no more has to be passed
+    plus_none : suc q.frame.pc < length q.frame.code → suc q.frame.pc + 0 < length q.frame.code
+    plus_none l = omega arith
+
+    on : (i : Instr) → slice_get q.frame.code q.frame.pc ≡ Some i → 0 < length (leads_to q.frame.pc i)
+        → slice_index_or (leads_to q.frame.pc i) 0 0 < length q.frame.code
+    on i e l = inside q.frame s.frame i e 0 0 l
+
+    past : (i : Instr) → slice_get q.frame.code q.frame.pc ≡ Some i → 1 < length (leads_to q.frame.pc i)
+        → slice_index_or (leads_to q.frame.pc i) 1 0 < length q.frame.code
+    past i e l = inside q.frame s.frame i e 1 0 l
+
+    done : (i : Instr) → slice_get q.frame.code q.frame.pc ≡ Some i → Leaves (does limit program w q i)
+    done (Give t o into from) e =
+        given into q.frame.slots (performed program.adts (memory limit program w q) t o (values_of q.frame.slots from))
+        (on _ e (omega arith)) refl
+    done (Gather t o into from) e =
+        given into (emptied q.frame.slots from) (performed program.adts (memory limit program w q) t o (values_of q.frame.slots from))
+        (on _ e (omega arith)) (long_emptied q.frame.slots from)
+    done (Pick t n into from) e =
+        goes _ _ _ (on _ e (omega arith)) (long_put (put q.frame.slots from _) into _ ∙ long_put q.frame.slots from _)
+    done (Known v into) e = goes _ _ _ (on _ e (omega arith)) (long_put q.frame.slots into _)
+    done (Write t way operands part from) e =
+        stored (record { type = t; way = way; operands = values_of q.frame.slots operands })
+        (part_at part (slot_value limit program w q from)) (on _ e (omega arith))
+    done (CopyInto a i from) e =
+        raised (copied (memory limit program w q) (part_of (slot_value limit program w q a)) (number_of (slot_value limit program w q i))
+        (elements_of (memory limit program w q) (part_of (slot_value limit program w q from)))) _
+        (λ m. goes _ _ _ (on _ e (omega arith)) refl)
+    done (code.Cell t into item behind) e = goes _ _ _ (on _ e (omega arith)) (long_put q.frame.slots into _)
+    done (Call t f into from) e =
+        called t into f (slice_get program.functions f) (values_of q.frame.slots from) refl (on _ e (omega arith))
+        (uses q.frame s.frame _ e).0
+    done (Print ps into from) e =
+        printed (waiting q.frame into) (print w.outside (formatted ps (values_of q.frame.slots from)))
+        (waits q.frame s.frame into (on _ e (omega arith)) (uses q.frame s.frame _ e).0)
+    done (Skip c into d from n) e =
+        decides_so into d from n (decides c (slot_value limit program w q from)) (on _ e (omega arith)) (past _ e (omega arith))
+    done (Truth into from) e = goes _ _ _ (on _ e (omega arith)) (long_put q.frame.slots into _)
+    done (Element t a i from) e =
+        parted (part_of (slot_value limit program w q a)) _
+        (λ p. stored (element_at t p i) (slot_value limit program w q from) (on _ e (omega arith)))
+    done (Next a counter named n) e =
+        let c = counted (slot_value limit program w q counter) in
+        nexts counter n (first_left named (range_with_len c (long_of (part_of (slot_value limit program w q a)) - c)))
+        (on _ e (omega arith)) (past _ e (omega arith))
+    done (Other t a counter from) e =
+        parted (part_of (slot_value limit program w q a)) _
+        (λ p. stored (element_at t p (number_of (slot_value limit program w q counter))) (slot_value limit program w q from)
+        (on _ e (omega arith)))
+    done (Start chain) e = goes _ _ _ (on _ e (omega arith)) (long_put q.frame.slots chain _)
+    done (Keep chain from words) e =
+        goes _ _ _ (on _ e (omega arith))
+        (long_put (cleared q.frame.slots from words) chain _ ∙ long_cleared q.frame.slots from words)
+    done (Take chain from words n) e =
+        takes chain from n (chain_of (slot q.frame.slots chain)) (on _ e (omega arith)) (past _ e (omega arith))
+    done (Drop d k) e = goes _ _ _ (on _ e (omega arith)) (long_put q.frame.slots d _)
+    done (Mirror d n) e =
+        goes _ _ _
+        (chosen (holds (slot_value limit program w q d)) n 0 (past _ e (omega arith)) (plus_none (on _ e (omega arith)))) refl
+    done (Unless d n) e =
+        goes _ _ _
+        (chosen (holds (slot_value limit program w q d)) 0 n (plus_none (on _ e (omega arith))) (past _ e (omega arith))) refl
+    done (Jump n) e = goes _ _ _ (on _ e (omega arith)) refl
+    done (Back n) e = goes _ _ _ (on _ e (omega arith)) refl
+    done (Return None) e = returned q.below _ s.below
+    done (Return (Some r)) e = returned q.below _ s.below
+
+    stepped : (o : Option Instr) → slice_get q.frame.code q.frame.pc ≡ o → Leaves (machine.next limit program w q o)
+    stepped None e = s
+    stepped (Some i) e = done i e
+
+    replied : (a : Rmsg) (o : Option Writing) → Leaves (heard a w q o)
+    replied a None = s
+    replied a (Some k) = heard_so (hear a w.outside k)
+
+there_is : (is : List Instr) (pc : ℕ) → pc < length is → (i : Instr) × (slice_get is pc ≡ Some i)
+there_is [] pc l = absurd (omega arith)
+there_is (i ∷ is) zero l = (i, refl)
+there_is (i ∷ is) (suc pc) l = there_is is pc (omega arith)
+
+pub code_is_not_left : CodeIsNotLeft
+code_is_not_left = record {
+  begins = λ p n instance f t args e. begun (code_of p) (all_sound p.adts p.routines) p.adts n instance f t args e;
+  steps = λ p limit w q s.
+      stepped (code_of p) (all_sound p.adts p.routines) limit w q s (slice_get q.frame.code q.frame.pc) refl;
+  replies = λ p a w q s. replied (code_of p) (all_sound p.adts p.routines) 0 w q s a q.printing;
+  instruction = λ p q s. there_is q.frame.code q.frame.pc s.frame.at;
+}
