@@ -23,9 +23,9 @@ use Rattle.core_code.specs.Terms.{lower_rest, named, items_end, rest_end, part_t
 use Rattle.core_code.specs.Statements.{Around, further, in_loop, whole, whole_if, test, loop_tested, loop_entered}
 use Rattle.core_code.specs.Statements.{stm_code, loop_code_tested, loop_code_entered, block_code}
 use Rattle.core_code.specs.Nodes.{written_in, node_of, term_nodes, terms_nodes, items_nodes, optional_nodes, stm_nodes, loop_nodes}
-use Rattle.core_code.specs.Nodes.{block_nodes, EightANode}
+use Rattle.core_code.specs.Nodes.{block_nodes, FourATreeNode}
 
-long_join : (xs ys : List Instr) → length (xs ++ ys) ≡ length xs + length ys
+pub long_join : (xs ys : List Instr) → length (xs ++ ys) ≡ length xs + length ys
 long_join xs ys = length-append xs ys
 
 -- ---- drops
@@ -46,11 +46,11 @@ long_after_all (v ∷ vs) is = long_after_all vs (drops_after v is) ∙ length-m
 
 -- code and drops of so many nodes, and two instructions to spare
 abbrev Small : (nodes : ℕ) → (code drops : List Instr) → Type 0
-Small n code drops = length code + length drops + 2 ≤ 8 * n
+Small n code drops = length code + length drops + 2 ≤ 4 * n
 
 -- the same of several, with two to spare of each
 abbrev AreSmall : (nodes : ℕ) → LoweredAll → Type 0
-AreSmall n l = length l.code + length l.drops + 2 * length l.values ≤ 8 * n
+AreSmall n l = length l.code + length l.drops + 2 * length l.values ≤ 4 * n
 
 module _ (defs : List Def) where
   abbrev IsSmall : ℕ → Lowered → Type 0
@@ -95,7 +95,7 @@ module _ (defs : List Def) where
   long_cell_drops (suc n) free = ap suc (long_cell_drops n (suc free))
 
   -- one instruction behind the operands, and no drop
-  one_more : (code drops : List Instr) (values n m : ℕ) (i : Instr) → length code + length drops + 2 * values ≤ 8 * n → suc n ≤ m
+  one_more : (code drops : List Instr) (values n m : ℕ) (i : Instr) → length code + length drops + 2 * values ≤ 4 * n → suc n ≤ m
       → Small m (code ++ i ∷ []) drops
   one_more code drops values n m i f g = let a = long_join code (i ∷ []) in omega arith
 
@@ -212,7 +212,7 @@ module _ (defs : List Def) where
         omega arith
 
     items_small : (t : Ty) (a s lo : ℕ) (is : Items) →
-        length (lower_items defs t a s lo is).code + length (lower_items defs t a s lo is).drops ≤ 8 * items_nodes defs is
+        length (lower_items defs t a s lo is).code + length (lower_items defs t a s lo is).drops ≤ 4 * items_nodes defs is
     items_small t a s lo NoItems = omega arith
     items_small t a s lo (MoreItems i e is) =
         let x = lower defs (if may_hold defs e then lo else s) e in
@@ -225,7 +225,7 @@ module _ (defs : List Def) where
 
     -- seven more, of which the array's own node has room
     rest_small : (t : Ty) (a : ℕ) (zs : List ℤ) (s lo : ℕ) (ts : Terms) →
-        length (lower_rest defs t a zs s lo ts).code + length (lower_rest defs t a zs s lo ts).drops ≤ 8 * terms_nodes defs ts + 5
+        length (lower_rest defs t a zs s lo ts).code + length (lower_rest defs t a zs s lo ts).drops ≤ 4 * terms_nodes defs ts + 5
     rest_small t a zs s lo NoTerms = omega arith
     rest_small t a zs s lo (MoreTerms e es) =
         let from = if may_hold defs e then suc (suc lo) else s in
@@ -236,19 +236,19 @@ module _ (defs : List Def) where
 -- ---- statements
 
 module _ (defs : List Def) where
-  whole_small : (t : Term) → length (whole defs t) + 2 ≤ 8 * term_nodes defs t
+  pub whole_small : (t : Term) → length (whole defs t) + 2 ≤ 4 * term_nodes defs t
   whole_small t = let a = long_join (lower defs 0 t).code (lower defs 0 t).drops in let f = term_small defs 0 t in omega arith
 
-  whole_if_small : (t : Option Term) → length (whole_if defs t) ≤ 8 * optional_nodes defs t
+  whole_if_small : (t : Option Term) → length (whole_if defs t) ≤ 4 * optional_nodes defs t
   whole_if_small None = omega arith
   whole_if_small (Some t) = let a = whole_small t in omega arith
 
-  test_small : (c : Option Term) (n : ℕ) → length (test defs c n) ≤ 8 * optional_nodes defs c
+  test_small : (c : Option Term) (n : ℕ) → length (test defs c n) ≤ 4 * optional_nodes defs c
   test_small None n = omega arith
   test_small (Some t) n = let a = whole_small t in let b = long_join (whole defs t) (Unless (lower defs 0 t).value n ∷ []) in omega arith
 
   tested_long : (c : Option Term) (body next : List Instr) →
-      length (loop_tested defs c body next) ≤ 8 * optional_nodes defs c + (length body + (length next + 1))
+      length (loop_tested defs c body next) ≤ 4 * optional_nodes defs c + (length body + (length next + 1))
   tested_long c body next =
       let turn = body ++ next in
       let head = test defs c (suc (length turn)) in
@@ -260,7 +260,7 @@ module _ (defs : List Def) where
       omega arith
 
   entered_long : (c : Option Term) (body next : List Instr) →
-      length (loop_entered defs c body next) ≤ 8 * optional_nodes defs c + (length body + (length next + 1))
+      length (loop_entered defs c body next) ≤ 4 * optional_nodes defs c + (length body + (length next + 1))
   entered_long c body next =
       let turn = body ++ next in
       let head = test defs c 1 in
@@ -272,7 +272,7 @@ module _ (defs : List Def) where
       omega arith
 
   mutual
-    stm_small : (around : List Around) (rest : ℕ) (s : Stm) → length (stm_code defs around rest s) ≤ 8 * stm_nodes defs s
+    stm_small : (around : List Around) (rest : ℕ) (s : Stm) → length (stm_code defs around rest s) ≤ 4 * stm_nodes defs s
     stm_small around rest Over = omega arith
     stm_small around rest (Eval t) = let a = whole_small t in omega arith
     stm_small around rest (If t x y) =
@@ -295,7 +295,7 @@ module _ (defs : List Def) where
         omega arith
     stm_small around rest tree.Leave = omega arith
 
-    tested_small : (around : List Around) (rest : ℕ) (k : Loop) → length (loop_code_tested defs around rest k) ≤ 8 * loop_nodes defs k + 1
+    tested_small : (around : List Around) (rest : ℕ) (k : Loop) → length (loop_code_tested defs around rest k) ≤ 4 * loop_nodes defs k + 1
     tested_small around rest (Looping c n body) =
         let next = whole_if defs n in
         let inner = block_code defs (in_loop (suc (length next)) rest around) body in
@@ -304,7 +304,7 @@ module _ (defs : List Def) where
         let d = block_small (in_loop (suc (length next)) rest around) body in
         omega arith
 
-    entered_small : (around : List Around) (rest : ℕ) (k : Loop) → length (loop_code_entered defs around rest k) ≤ 8 * loop_nodes defs k + 1
+    entered_small : (around : List Around) (rest : ℕ) (k : Loop) → length (loop_code_entered defs around rest k) ≤ 4 * loop_nodes defs k + 1
     entered_small around rest (Looping c n body) =
         let next = whole_if defs n in
         let behind = length next + suc (length (test defs c 1)) in
@@ -314,7 +314,7 @@ module _ (defs : List Def) where
         let d = block_small (in_loop behind rest around) body in
         omega arith
 
-    block_small : (around : List Around) (x : Block) → length (block_code defs around x) ≤ 8 * block_nodes defs x
+    pub block_small : (around : List Around) (x : Block) → length (block_code defs around x) ≤ 4 * block_nodes defs x
     block_small around Done = omega arith
     block_small around (Then s x) =
         let rest = block_code defs around x in
@@ -325,8 +325,8 @@ module _ (defs : List Def) where
     block_small around (Turn k x) = block_small around x
     block_small around (Again k x) = block_small around x
 
-pub eight_a_node : EightANode
-eight_a_node = record {
+pub four_a_tree_node : FourATreeNode
+four_a_tree_node = record {
   expressions = λ defs t. let a = whole_small defs t in omega arith;
   statements = stm_small;
   functions = λ defs r.

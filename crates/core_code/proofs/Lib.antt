@@ -1,5 +1,6 @@
 pub mod Closed
 pub mod Counts
+pub mod Typed
 pub mod Used
 pub mod Stepping
 pub mod Rounds

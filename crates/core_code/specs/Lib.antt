@@ -5,6 +5,7 @@ pub mod Terms
 pub mod Statements
 pub mod Control
 pub mod Nodes
+pub mod Sizes
 pub mod Using
 pub mod Standing
 pub mod Rooms

@@ -1,4 +1,4 @@
--- How many nodes expressions, statements and functions have, and instructions for each.
+-- How many nodes the trees of expressions, statements and functions have, and instructions for each.
 use Rattle.std.specs.Prelude.{ℕ, suc, ◌+◌, ◌*◌, ◌≤◌, List, length, Option, Some, None}
 use Rattle.limbo_types.specs.Types as ty
 use Rattle.limbo_types.specs.Types.{Ty}
@@ -58,12 +58,13 @@ module _ (defs : List Def) where
     block_nodes (Turn l b) = block_nodes b
     block_nodes (Again l b) = block_nodes b
 
-  abbrev pub function_nodes : Routine → ℕ
-  function_nodes r = suc (block_nodes r.body)
+  abbrev pub routine_nodes : Routine → ℕ
+  routine_nodes r = suc (block_nodes r.body)
 
--- Code has at most eight instructions a node: that of an expression with the drops of what it got, of a statement, and of a function.
-pub record EightANode : Type 0 where
-  pub expressions : (defs : List Def) (t : Term) → length (whole defs t) ≤ 8 * term_nodes defs t
+-- Code has at most four instructions a node of its tree: that of an expression with the drops of what it got, of a statement, and of a
+-- function.
+pub record FourATreeNode : Type 0 where
+  pub expressions : (defs : List Def) (t : Term) → length (whole defs t) ≤ 4 * term_nodes defs t
   pub statements : (defs : List Def) (around : List Around) (rest : ℕ) (s : Stm) →
-      length (stm_code defs around rest s) ≤ 8 * stm_nodes defs s
-  pub functions : (defs : List Def) (r : Routine) → length (function_of defs r).code ≤ 8 * function_nodes defs r
+      length (stm_code defs around rest s) ≤ 4 * stm_nodes defs s
+  pub functions : (defs : List Def) (r : Routine) → length (function_of defs r).code ≤ 4 * routine_nodes defs r

@@ -1,8 +1,9 @@
 //! What holds of the code of every program.
 
 ghost use Rattle.core_code.specs.Control.{FunctionsAreClosed};
-ghost use Rattle.core_code.specs.Nodes.{EightANode};
+ghost use Rattle.core_code.specs.Nodes.{FourATreeNode};
 ghost use Rattle.core_code.specs.Rooms.{RoundsGiveRooms};
+ghost use Rattle.core_code.specs.Sizes.{EightANode};
 ghost use Rattle.core_code.specs.Standing.{CodeIsNotLeft};
 ghost use Rattle.core_code.specs.Using.{SlotsAreThere};
 
@@ -23,10 +24,16 @@ pub fn code_is_not_left()
     ensures { CodeIsNotLeft }
 {}
 
-/// The code of an expression, with the drops of what it got, of a statement and of a function has at most eight instructions a
-/// node. A node counts once, and once more for each reference of its value.
+/// The code of an expression, with the drops of what it got, of a statement, of a function and of a module has at most eight
+/// instructions a node. A node counts once, and once more for each reference of its value.
 pub fn eight_a_node()
     ensures { EightANode }
+{}
+
+/// It has at most four a node of its tree, in which each operation is a node, also the conversion of a byte that is printed, and the
+/// zero with which a variable begins.
+pub fn four_a_tree_node()
+    ensures { FourATreeNode }
 {}
 
 /// Values in a row, each at the next place that suits it, lie as the layouts of their types say, where types have layouts: as many

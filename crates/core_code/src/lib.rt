@@ -7,7 +7,7 @@
 //! wasn't evaluated, and what the turns of an initialiser held comes back from a chain, turn by turn.
 //!
 //! `specs/` in the order of reading: `Slots`, `Code`, `Machine`, `Terms` (the code of expressions), `Statements` (of statements, functions
-//! and programs). `Control`, `Using`, `Standing`, `Nodes` and `Rooms` say the laws.
+//! and programs). `Control`, `Using`, `Standing`, `Nodes`, `Sizes` and `Rooms` say the laws.
 //!
 //! In `proofs/`, `Examples` computes that the code of programs tells what the programs tell.
 #![tactic(auto)]
@@ -15,5 +15,6 @@
 mod laws;
 
 pub use laws::{
-    code_is_not_left, eight_a_node, functions_are_closed, rounds_give_rooms, slots_are_there,
+    code_is_not_left, eight_a_node, four_a_tree_node, functions_are_closed, rounds_give_rooms,
+    slots_are_there,
 };
