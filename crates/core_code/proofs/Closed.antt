@@ -19,7 +19,8 @@ use Rattle.limbo_meaning.specs.Program.{Routine}
 use Rattle.core_code.specs.Code.{Instr, Give, Skip, Truth, Next, Other}
 use Rattle.core_code.specs.Code.{Start, Keep, Take, Drop, Mirror, Unless, Jump, Back, Return}
 use Rattle.core_code.specs.Terms.{Lowered, LoweredAll, Moved, is_moved, drop_after, drops_after, drops_after_all, drops_from, drops_if}
-use Rattle.core_code.specs.Terms.{count_of, gives, gathers, writes, cells, list_code, cell_drops, node, others, lower, lower_all}
+use Rattle.core_code.specs.Terms.{count_of, gives, gathers, writes, cells, list_code, cell_drops, slot_at, moves_out, type_at, node, others}
+use Rattle.core_code.specs.Terms.{lower, lower_all}
 use Rattle.core_code.specs.Terms.{lower_items}
 use Rattle.core_code.specs.Terms.{lower_rest}
 use Rattle.core_code.specs.Terms.{named, items_end, rest_end, part_types, part_numbers, moves_into}
@@ -131,29 +132,32 @@ module _ (defs : List Def) where
   cell_drops_free zero free b r h = tt
   cell_drops_free (suc n) free b r h = (omega arith, cell_drops_free n (suc free) (suc b) r h)
 
-  node_free : (t : Ty) (o : Work) (l : LoweredAll) → AreFree l.code l.drops → IsFree (node defs t o l)
-  node_free t (Operate o) l f =
+  node_free : (u t : Ty) (o : Work) (l : LoweredAll) → AreFree l.code l.drops → IsFree (node defs u t o l)
+  node_free u t (Operate o) l f =
       either_free (passes_on o) (gathers defs t o l) (gives defs t (Operate o) l) (gathers_free t o l f) (gives_free t (Operate o) l f)
-  node_free t (tree.Assign aims) l f = (free_join l.code _ f.0 (writes_free aims l.values _), f.1)
-  node_free t (tree.TakePart n) l f = (free_join l.code _ f.0 (λ b r h. (omega arith, tt)), f.1)
-  node_free t tree.Copy l f = (free_join l.code _ f.0 (λ b r h. (omega arith, tt)), f.1)
-  node_free t tree.Link l f = (
+  node_free u t (tree.Assign aims) l f = (free_join l.code _ f.0 (writes_free aims l.values _), f.1)
+  node_free u t (tree.TakePart n) l f = (
+    free_join l.code _ f.0 (λ b r h. (omega arith, tt)),
+    λ b r h. within_after (moves_out defs u n (slot_at 0 l.values) l.free) b r l.drops (f.1 b r h),
+  )
+  node_free u t tree.Copy l f = (free_join l.code _ f.0 (λ b r h. (omega arith, tt)), f.1)
+  node_free u t tree.Link l f = (
     free_join l.code _ f.0 (list_free (item_of t) l.values l.free),
     free_join l.drops _ f.1 (cell_drops_free (length l.values) l.free),
   )
-  node_free t (tree.Call n) l f = (
+  node_free u t (tree.Call n) l f = (
     free_join l.code _ f.0 (λ b r h. (omega arith, tt)),
     free_join l.drops _ f.1 (free_drops l.free 0 (count_of defs t)),
   )
-  node_free t (tree.Print ps) l f = (free_join l.code _ f.0 (λ b r h. (omega arith, tt)), f.1)
-  node_free t tree.NewChannel l f = (
+  node_free u t (tree.Print ps) l f = (free_join l.code _ f.0 (λ b r h. (omega arith, tt)), f.1)
+  node_free u t tree.NewChannel l f = (
     free_join l.code _ f.0 (λ b r h. (omega arith, tt)),
     free_join l.drops _ f.1 (λ b r h. (omega arith, tt)),
   )
-  node_free t (tree.Literal c) l f = gives_free t (tree.Literal c) l f
-  node_free t tree.Nil l f = gives_free t tree.Nil l f
-  node_free t (tree.Read w) l f = gives_free t (tree.Read w) l f
-  node_free t (tree.Sprint ps) l f = gives_free t (tree.Sprint ps) l f
+  node_free u t (tree.Literal c) l f = gives_free t (tree.Literal c) l f
+  node_free u t tree.Nil l f = gives_free t tree.Nil l f
+  node_free u t (tree.Read w) l f = gives_free t (tree.Read w) l f
+  node_free u t (tree.Sprint ps) l f = gives_free t (tree.Sprint ps) l f
 
   -- one loop of the others' element
   others_free : (h : Bool) (t : Ty) (a : ℕ) (zs : List ℤ) (from : ℕ) (e : Lowered) → IsFree e → IsFree (others defs h t a zs from e)
@@ -161,7 +165,7 @@ module _ (defs : List Def) where
       let own = Other t a from e.value ∷ Keep (suc from) (suc (suc from)) (e.free - suc (suc from)) ∷ [] in
       let turn = e.code ++ own in
       let turn_free : Free turn = free_join e.code own f.0 (λ b r h. (omega arith, (omega arith, tt))) in (
-        λ b r h. within_join b r (Start (suc from) ∷ Next a from zs (suc (length turn)) ∷ turn) (Back (suc (length turn)) ∷ [])
+        λ b r h. within_join b r (Start from (Some (suc from)) ∷ Next a from zs (suc (length turn)) ∷ turn) (Back (suc (length turn)) ∷ [])
             (omega arith, (omega arith, turn_free (suc (suc b)) _ (omega arith))) (omega arith, tt),
         λ b r h. within_join b r (Take (suc from) (suc (suc from)) (e.free - suc (suc from)) (suc (length e.drops)) ∷ e.drops)
             (Back (suc (length e.drops)) ∷ []) (omega arith, f.1 (suc b) _ (omega arith)) (omega arith, tt),
@@ -169,15 +173,15 @@ module _ (defs : List Def) where
   others_free false t a zs from e f =
       let turn = e.code ++ Other t a from e.value ∷ [] in
       let turn_free : Free turn = free_join e.code _ f.0 (λ b r h. (omega arith, tt)) in (
-        λ b r h. within_join b r (Next a from zs (suc (length turn)) ∷ turn) (Back (suc (length turn)) ∷ [])
-            (omega arith, turn_free (suc b) _ (omega arith)) (omega arith, tt),
+        λ b r h. within_join b r (Start from None ∷ Next a from zs (suc (length turn)) ∷ turn) (Back (suc (length turn)) ∷ [])
+            (omega arith, (omega arith, turn_free (suc (suc b)) _ (omega arith))) (omega arith, tt),
         λ b r h. tt,
       )
 
   mutual
     term_free : (lo : ℕ) (t : Term) → IsFree (lower defs lo t)
     term_free lo (Evaluated v) = (λ b r h. (omega arith, tt), λ b r h. tt)
-    term_free lo (Node t o ts) = node_free t o (lower_all defs lo ts) (terms_free lo ts)
+    term_free lo (Node t o ts) = node_free (type_at defs 0 ts) t o (lower_all defs lo ts) (terms_free lo ts)
     term_free lo (Lazy c l r) =
         let x = lower defs lo l in
         let y = lower defs (suc x.free) r in

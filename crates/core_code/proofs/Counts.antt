@@ -14,10 +14,11 @@ use Rattle.limbo_meaning.specs.Trees.{Items, NoItems, MoreItems}
 use Rattle.limbo_meaning.specs.Trees.{Stm, Over, Eval, If, While, Enter, Break, Continue, Loop, Looping, Block, Done, Then, Turn, Again}
 use Rattle.limbo_meaning.specs.Evaluation.{passes_on, may_hold, work_refers, operands_for}
 use Rattle.limbo_meaning.specs.Operations.{item_of}
-use Rattle.core_code.specs.Code.{Instr, Give, Gather, Call, Skip, Truth, Write, Element, Next, Other, Start, Keep, Take, Drop, Mirror}
+use Rattle.core_code.specs.Code.{Instr, Give, Gather, Pick, Call, Skip, Truth, Write, Element, Next, Other, Start, Keep, Take, Drop, Mirror}
 use Rattle.core_code.specs.Code.{Unless, Jump, Back, Return}
 use Rattle.core_code.specs.Terms.{Lowered, LoweredAll, Moved, drop_after, drops_after, drops_after_all, drops_from, drops_if, count_of}
-use Rattle.core_code.specs.Terms.{gives, gathers, writes, cells, list_code, cell_drops, slot_at, node, others, lower, lower_all}
+use Rattle.core_code.specs.Terms.{gives, gathers, writes, cells, list_code, cell_drops, slot_at, moves_out, type_at, node, others, lower}
+use Rattle.core_code.specs.Terms.{lower_all}
 use Rattle.core_code.specs.Terms.{lower_items}
 use Rattle.core_code.specs.Terms.{lower_rest, named, items_end, rest_end, part_types, part_numbers, moves_into}
 use Rattle.core_code.specs.Statements.{Around, further, in_loop, whole, whole_if, test, loop_tested, loop_entered}
@@ -99,37 +100,41 @@ module _ (defs : List Def) where
       → Small m (code ++ i ∷ []) drops
   one_more code drops values n m i f g = let a = long_join code (i ∷ []) in omega arith
 
-  node_small : (t : Ty) (o : Work) (l : LoweredAll) (n : ℕ) → AreSmall n l → IsSmall (node_of defs t + (written_in o + n)) (node defs t o l)
-  node_small t (Operate o) l n f =
+  node_small : (u t : Ty) (o : Work) (l : LoweredAll) (n : ℕ) → AreSmall n l
+      → IsSmall (node_of defs t + (written_in o + n)) (node defs u t o l)
+  node_small u t (Operate o) l n f =
       either_small (passes_on o) _ (gathers defs t o l) (gives defs t (Operate o) l) (gathers_small t o l n _ f (omega arith))
       (gives_small t (Operate o) l n _ f (omega arith))
-  node_small t (tree.Assign aims) l n f =
+  node_small u t (tree.Assign aims) l n f =
       let w = writes defs aims l.values (slot_at (operands_for aims) l.values) in
       let a = long_join l.code w in
       let b = long_writes aims l.values (slot_at (operands_for aims) l.values) in
       omega arith
-  node_small t (tree.TakePart k) l n f = one_more l.code l.drops (length l.values) n _ _ f (omega arith)
-  node_small t tree.Copy l n f = one_more l.code l.drops (length l.values) n _ _ f (omega arith)
-  node_small t tree.Link l n f =
+  node_small u t (tree.TakePart k) l n f =
+      let a = long_join l.code (Pick t k l.free (slot_at 0 l.values) ∷ []) in
+      let b = length-map l.drops (drop_after (moves_out defs u k (slot_at 0 l.values) l.free)) in
+      omega arith
+  node_small u t tree.Copy l n f = one_more l.code l.drops (length l.values) n _ _ f (omega arith)
+  node_small u t tree.Link l n f =
       let a = long_join l.code (list_code defs (item_of t) l.values l.free) in
       let b = long_list (item_of t) l.values l.free in
       let d = long_join l.drops (cell_drops defs (length l.values) l.free) in
       let e = long_cell_drops (length l.values) l.free in
       omega arith
-  node_small t (tree.Call k) l n f =
+  node_small u t (tree.Call k) l n f =
       let a = long_join l.code (Call t k l.free l.values ∷ []) in
       let b = long_join l.drops (drops_from l.free 0 (count_of defs t)) in
       let c = long_drops l.free 0 (count_of defs t) in
       omega arith
-  node_small t (tree.Print ps) l n f = one_more l.code l.drops (length l.values) n _ _ f (omega arith)
-  node_small t tree.NewChannel l n f =
+  node_small u t (tree.Print ps) l n f = one_more l.code l.drops (length l.values) n _ _ f (omega arith)
+  node_small u t tree.NewChannel l n f =
       let a = long_join l.code (Give t tree.NewChannel l.free [] ∷ []) in
       let b = long_join l.drops (Drop l.free 0 ∷ []) in
       omega arith
-  node_small t (tree.Literal c) l n f = gives_small t (tree.Literal c) l n _ f (omega arith)
-  node_small t tree.Nil l n f = gives_small t tree.Nil l n _ f (omega arith)
-  node_small t (tree.Read w) l n f = gives_small t (tree.Read w) l n _ f (omega arith)
-  node_small t (tree.Sprint ps) l n f = gives_small t (tree.Sprint ps) l n _ f (omega arith)
+  node_small u t (tree.Literal c) l n f = gives_small t (tree.Literal c) l n _ f (omega arith)
+  node_small u t tree.Nil l n f = gives_small t tree.Nil l n _ f (omega arith)
+  node_small u t (tree.Read w) l n f = gives_small t (tree.Read w) l n _ f (omega arith)
+  node_small u t (tree.Sprint ps) l n f = gives_small t (tree.Sprint ps) l n _ f (omega arith)
 
   -- a loop of the others' element has seven instructions of its own
   others_small : (h : Bool) (t : Ty) (a : ℕ) (zs : List ℤ) (from : ℕ) (e : Lowered) →
@@ -138,20 +143,20 @@ module _ (defs : List Def) where
       let own = Other t a from e.value ∷ Keep (suc from) (suc (suc from)) (e.free - suc (suc from)) ∷ [] in
       let turn = e.code ++ own in
       let x = long_join e.code own in
-      let y = long_join (Start (suc from) ∷ Next a from zs (suc (length turn)) ∷ turn) (Back (suc (length turn)) ∷ []) in
+      let y = long_join (Start from (Some (suc from)) ∷ Next a from zs (suc (length turn)) ∷ turn) (Back (suc (length turn)) ∷ []) in
       let z = long_join (Take (suc from) (suc (suc from)) (e.free - suc (suc from)) (suc (length e.drops)) ∷ e.drops)
       (Back (suc (length e.drops)) ∷ []) in
       omega arith
   others_small false t a zs from e =
       let turn = e.code ++ Other t a from e.value ∷ [] in
       let x = long_join e.code (Other t a from e.value ∷ []) in
-      let y = long_join (Next a from zs (suc (length turn)) ∷ turn) (Back (suc (length turn)) ∷ []) in
+      let y = long_join (Start from None ∷ Next a from zs (suc (length turn)) ∷ turn) (Back (suc (length turn)) ∷ []) in
       omega arith
 
   mutual
     term_small : (lo : ℕ) (t : Term) → IsSmall (term_nodes defs t) (lower defs lo t)
     term_small lo (Evaluated v) = omega arith
-    term_small lo (Node t o ts) = node_small t o (lower_all defs lo ts) (terms_nodes defs ts) (terms_small lo ts)
+    term_small lo (Node t o ts) = node_small (type_at defs 0 ts) t o (lower_all defs lo ts) (terms_nodes defs ts) (terms_small lo ts)
     term_small lo (Lazy c l r) =
         let x = lower defs lo l in
         let y = lower defs (suc x.free) r in

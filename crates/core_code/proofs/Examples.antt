@@ -12,7 +12,9 @@ use Rattle.limbo_values.specs.declared.number.Kind.TheVariants as kind
 use Rattle.limbo_typed.specs.declared.operation.Operation.TheVariants as operation
 use Rattle.limbo_typed.specs.declared.print.Hole.TheVariants as hole
 use Rattle.limbo_typed.specs.declared.print.Piece.TheVariants as piece
-use Rattle.limbo_typed.specs.Typed.{Of, Filled, Present, Module}
+use Rattle.limbo_typed.specs.declared.operation.Sequence.TheVariants as sequence
+use Rattle.limbo_typed.specs.Typed as typed
+use Rattle.limbo_typed.specs.Typed.{Of, Part, Filled, Present, Module}
 use Rattle.system_model.specs.Prints.{Request}
 use Rattle.system_model.specs.Ending.{Ending, Ended, Broken}
 use Rattle.limbo_meaning.specs.Values.{Value, Ref}
@@ -24,8 +26,9 @@ use Rattle.limbo_meaning.specs.Runs.{first_world, list_from}
 use Rattle.limbo_meaning.specs.Alone.{Trace, reply_to}
 use Rattle.limbo_meaning.proofs.Examples.{Tells, Prints, Frees, Stops, telling, sharing, list_goes, tree_goes, strings, others}
 use Rattle.limbo_meaning.proofs.Examples.{reading_first, conversions, num, nil, cons, plus, read, var, item, set, items, up, print_number}
+use Rattle.limbo_meaning.proofs.Examples.{exprs, apply, len}
 use Rattle.limbo_meaning.proofs.Examples.{function, made_of, ints, int_list, outcome}
-use Rattle.limbo_meaning.proofs.Temporaries.{unnamed_list, pairs, anew, walking, copies, endless, shapes, head_of, tail_of}
+use Rattle.limbo_meaning.proofs.Temporaries.{unnamed_list, pairs, anew, walking, copies, endless, shapes, head_of, tail_of, pair_type}
 use Rattle.core_code.specs.Code.{Give, Print, Drop, Return, Function, Program}
 use Rattle.core_code.specs.Machine.{Process, Does, frame_of, step, rules, naming}
 use Rattle.core_code.specs.Statements.{code_of}
@@ -216,3 +219,28 @@ second_code :
     ∷ []
 unfolding second
 second_code = refl
+
+-- ---- pair(l: list of int): (int, list of int) { return (hd l, tl l); }  init() { l := 7 :: 8 :: nil; sys->print("%d", len (pair(l)).t1);
+-- l = nil; sys->print("%d", 1); }  the part of the answer goes at the end of its statement
+
+unfoldable pub parted : Module
+parted = made_of [] [] (function [] Nothing (int_list ∷ [])
+    (set (var int_list 0) (cons int_list (num 7) (cons int_list (num 8) (nil int_list)))
+    ∷ print_number (len (operation.Length sequence.List)
+    (Of int_list (Part (Of pair_type (typed.Call 1 (exprs (read (var int_list 0) ∷ [])))) 1)))
+    ∷ set (var int_list 0) (nil int_list)
+    ∷ print_number (num 1)
+    ∷ [])
+    ∷ function (int_list ∷ []) pair_type (int_list ∷ [])
+    (typed.Return (Some (apply pair_type operation.Tuple (head_of (read (var int_list 0)) ∷ tail_of (read (var int_list 0)) ∷ []))) ∷ [])
+    ∷ [])
+
+parted_tells :
+    outcome 400 parted [] ≡ Prints (codes "1") ∷ Frees (1 ∷ 2 ∷ []) ∷ Prints (codes "1") ∷ Stops Ended ∷ Frees (0 ∷ []) ∷ []
+unfolding parted int_wrap digits lib.Utf8.encode
+parted_tells = refl
+
+same_parted :
+    code_outcome 10000 300 parted [] ≡ Prints (codes "1") ∷ Frees (1 ∷ 2 ∷ []) ∷ Prints (codes "1") ∷ Stops Ended ∷ Frees (0 ∷ []) ∷ []
+unfolding parted int_wrap digits lib.Utf8.encode
+same_parted = refl

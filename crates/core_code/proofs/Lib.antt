@@ -5,3 +5,4 @@ pub mod Used
 pub mod Stepping
 pub mod Rounds
 pub mod Examples
+pub mod Programs

@@ -247,7 +247,9 @@ module _ (program : Program) (sound : (n : ℕ) (f : Function) → slice_get pro
         parted (part_of (slot_value limit program w q a)) _
         (λ p. stored (element_at t p (number_of (slot_value limit program w q counter))) (slot_value limit program w q from)
         (on _ e (omega arith)))
-    done (Start chain) e = goes _ _ _ (on _ e (omega arith)) (long_put q.frame.slots chain _)
+    done (Start counter None) e = goes _ _ _ (on _ e (omega arith)) (long_put q.frame.slots counter _)
+    done (Start counter (Some chain)) e =
+        goes _ _ _ (on _ e (omega arith)) (long_put (put q.frame.slots chain _) counter _ ∙ long_put q.frame.slots chain _)
     done (Keep chain from words) e =
         goes _ _ _ (on _ e (omega arith))
         (long_put (cleared q.frame.slots from words) chain _ ∙ long_cleared q.frame.slots from words)

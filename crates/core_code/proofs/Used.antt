@@ -21,7 +21,8 @@ use Rattle.limbo_meaning.specs.Operations.{item_of}
 use Rattle.core_code.specs.Code.{Instr, Give, Write, Skip, Truth, Element, Next, Other}
 use Rattle.core_code.specs.Code.{Start, Keep, Take, Drop, Mirror, Unless, Jump, Back, Return}
 use Rattle.core_code.specs.Terms.{Lowered, LoweredAll, Moved, is_moved, drop_after, drops_after, drops_after_all, drops_from, drops_if}
-use Rattle.core_code.specs.Terms.{count_of, gives, gathers, writes, cells, list_code, cell_drops, slot_at, given_slot, node, others, lower}
+use Rattle.core_code.specs.Terms.{count_of, gives, gathers, writes, cells, list_code, cell_drops, slot_at, moves_out, type_at, given_slot}
+use Rattle.core_code.specs.Terms.{node, others, lower}
 use Rattle.core_code.specs.Terms.{lower_all}
 use Rattle.core_code.specs.Terms.{lower_items, lower_rest, named, items_end, rest_end, part_types, part_numbers, moves_into}
 use Rattle.core_code.specs.Statements.{Around, further, in_loop, whole, whole_if, test, loop_tested, loop_entered}
@@ -158,71 +159,72 @@ module _ (defs : List Def) where
   use_cell_drops n (suc count) free l = (omega arith, use_cell_drops n count (suc free) (omega arith))
 
   -- how a node leaves the slots: it takes some or none
-  node_up : (t : Ty) (o : Work) (l : LoweredAll) → l.free ≤ (node defs t o l).free
-  node_up t (Operate o) l = go (passes_on o)
+  node_up : (u t : Ty) (o : Work) (l : LoweredAll) → l.free ≤ (node defs u t o l).free
+  node_up u t (Operate o) l = go (passes_on o)
     where
       go : (h : Bool) → l.free ≤ (if h then gathers defs t o l else gives defs t (Operate o) l).free
       go true = omega arith
       go false = omega arith
-  node_up t (tree.Assign aims) l = omega arith
-  node_up t (tree.TakePart k) l = omega arith
-  node_up t tree.Copy l = omega arith
-  node_up t tree.Link l = omega arith
-  node_up t (tree.Call k) l = omega arith
-  node_up t (tree.Print ps) l = omega arith
-  node_up t tree.NewChannel l = omega arith
-  node_up t (tree.Literal c) l = omega arith
-  node_up t tree.Nil l = omega arith
-  node_up t (tree.Read w) l = omega arith
-  node_up t (tree.Sprint ps) l = omega arith
+  node_up u t (tree.Assign aims) l = omega arith
+  node_up u t (tree.TakePart k) l = omega arith
+  node_up u t tree.Copy l = omega arith
+  node_up u t tree.Link l = omega arith
+  node_up u t (tree.Call k) l = omega arith
+  node_up u t (tree.Print ps) l = omega arith
+  node_up u t tree.NewChannel l = omega arith
+  node_up u t (tree.Literal c) l = omega arith
+  node_up u t tree.Nil l = omega arith
+  node_up u t (tree.Read w) l = omega arith
+  node_up u t (tree.Sprint ps) l = omega arith
 
-  node_good : (n : ℕ) (t : Ty) (o : Work) (l : LoweredAll) → 0 < n → (node defs t o l).free ≤ n → AllGood n l → Good n (node defs t o l)
-  node_good n t (Operate o) l p q f = go (passes_on o) q
+  node_good : (n : ℕ) (u t : Ty) (o : Work) (l : LoweredAll) → 0 < n → (node defs u t o l).free ≤ n → AllGood n l
+      → Good n (node defs u t o l)
+  node_good n u t (Operate o) l p q f = go (passes_on o) q
     where
       go : (h : Bool) → (if h then gathers defs t o l else gives defs t (Operate o) l).free ≤ n
           → Good n (if h then gathers defs t o l else gives defs t (Operate o) l)
       go true q = gathers_good n t o l (omega arith) f
       go false q = gives_good n t (Operate o) l (omega arith) f
-  node_good n t (tree.Assign aims) l p q f = record {
+  node_good n u t (tree.Assign aims) l p q f = record {
     code = use_join n l.code _ f.code (use_writes n aims l.values _ f.values (below_at n (operands_for aims) l.values p f.values));
     drops = f.drops;
     value = below_at n (operands_for aims) l.values p f.values;
   }
-  node_good n t (tree.TakePart k) l p q f = record {
+  node_good n u t (tree.TakePart k) l p q f = record {
     code = use_join n l.code _ f.code ((omega arith, below_at n 0 l.values p f.values), tt);
-    drops = f.drops;
+    drops = use_after n (moves_out defs u k (slot_at 0 l.values) l.free) l.drops (omega arith) f.drops;
     value = omega arith;
   }
-  node_good n t tree.Copy l p q f = record {
+  node_good n u t tree.Copy l p q f = record {
     code = use_join n l.code _ f.code
         ((below_at n 0 l.values p f.values, below_at n 1 l.values p f.values, below_at n 2 l.values p f.values), tt);
     drops = f.drops;
     value = below_at n 2 l.values p f.values;
   }
-  node_good n t tree.Link l p q f = record {
+  node_good n u t tree.Link l p q f = record {
     code = use_join n l.code _ f.code (use_list n (item_of t) l.values l.free f.values q);
     drops = use_join n l.drops _ f.drops (use_cell_drops n (length l.values) l.free (omega arith));
     value = omega arith;
   }
-  node_good n t (tree.Call k) l p q f = record {
+  node_good n u t (tree.Call k) l p q f = record {
     code = use_join n l.code _ f.code ((omega arith, f.values), tt);
     drops = use_join n l.drops _ f.drops (use_drops n l.free 0 (count_of defs t) (omega arith));
     value = omega arith;
   }
-  node_good n t (tree.Print ps) l p q f = record {
+  node_good n u t (tree.Print ps) l p q f = record {
     code = use_join n l.code _ f.code ((omega arith, f.values), tt);
     drops = f.drops;
     value = omega arith;
   }
-  node_good n t tree.NewChannel l p q f = record {
+  node_good n u t tree.NewChannel l p q f = record {
     code = use_join n l.code _ f.code ((omega arith, tt), tt);
     drops = use_join n l.drops _ f.drops (omega arith, tt);
     value = omega arith;
   }
-  node_good n t (tree.Literal c) l p q f = gives_good n t (tree.Literal c) l (omega arith) f
-  node_good n t tree.Nil l p q f = gives_good n t tree.Nil l (omega arith) f
-  node_good n t (tree.Read w) l p q f = gives_good n t (tree.Read w) l (omega arith) f
-  node_good n t (tree.Sprint ps) l p q f = gives_good n t (tree.Sprint ps) l (omega arith) f
+  node_good n u t (tree.Literal c) l p q f = gives_good n t (tree.Literal c) l (omega arith) f
+  node_good n u t tree.Nil l p q f = gives_good n t tree.Nil l (omega arith) f
+  node_good n u t (tree.Read w) l p q f = gives_good n t (tree.Read w) l (omega arith) f
+  node_good n u t (tree.Sprint ps) l p q f = gives_good n t (tree.Sprint ps) l (omega arith) f
 
   -- ---- each part takes the slots behind those before it
 
@@ -243,7 +245,7 @@ module _ (defs : List Def) where
   mutual
     term_up : (lo : ℕ) (t : Term) → lo ≤ (lower defs lo t).free
     term_up lo (Evaluated v) = omega arith
-    term_up lo (Node t o ts) = let a = terms_up lo ts in let b = node_up t o (lower_all defs lo ts) in omega arith
+    term_up lo (Node t o ts) = let a = terms_up lo ts in let b = node_up (type_at defs 0 ts) t o (lower_all defs lo ts) in omega arith
     term_up lo (Lazy c l r) =
         let a = term_up lo l in
         let b = term_up (suc (lower defs lo l).free) r in
@@ -303,8 +305,8 @@ module _ (defs : List Def) where
       let counter : lo < n = omega arith in
       let room : suc (suc lo) + (x.free - suc (suc lo)) ≤ n = omega arith in
       record {
-        code = use_join n (Start (suc lo) ∷ Next a lo zs (suc (length turn)) ∷ turn) (Back (suc (length turn)) ∷ [])
-            (c, ((p, counter), use_join n x.code own g.code ((p, counter, g.value), ((c, room), tt)))) (tt, tt);
+        code = use_join n (Start lo (Some (suc lo)) ∷ Next a lo zs (suc (length turn)) ∷ turn) (Back (suc (length turn)) ∷ [])
+            ((counter, c), ((p, counter), use_join n x.code own g.code ((p, counter, g.value), ((c, room), tt)))) (tt, tt);
         drops = use_join n (Take (suc lo) (suc (suc lo)) (x.free - suc (suc lo)) (suc (length x.drops)) ∷ x.drops)
             (Back (suc (length x.drops)) ∷ []) ((c, room), g.drops) (tt, tt);
         value = p;
@@ -316,8 +318,8 @@ module _ (defs : List Def) where
       let turn = x.code ++ own in
       let counter : lo < n = omega arith in
       record {
-        code = use_join n (Next a lo zs (suc (length turn)) ∷ turn) (Back (suc (length turn)) ∷ [])
-            ((p, counter), use_join n x.code own g.code ((p, counter, g.value), tt)) (tt, tt);
+        code = use_join n (Start lo None ∷ Next a lo zs (suc (length turn)) ∷ turn) (Back (suc (length turn)) ∷ [])
+            ((counter, tt), ((p, counter), use_join n x.code own g.code ((p, counter, g.value), tt))) (tt, tt);
         drops = tt;
         value = p;
       }
@@ -334,8 +336,8 @@ module _ (defs : List Def) where
     term_good : (n lo : ℕ) (t : Term) → 0 < n → (lower defs lo t).free ≤ n → Good n (lower defs lo t)
     term_good n lo (Evaluated v) p q = record { code = (omega arith, tt); drops = tt; value = omega arith }
     term_good n lo (Node t o ts) p q =
-        let u = node_up t o (lower_all defs lo ts) in
-        node_good n t o (lower_all defs lo ts) p q (terms_good n lo ts p (omega arith))
+        let u = node_up (type_at defs 0 ts) t o (lower_all defs lo ts) in
+        node_good n (type_at defs 0 ts) t o (lower_all defs lo ts) p q (terms_good n lo ts p (omega arith))
     term_good n lo (Lazy c l r) p q =
         let x = lower defs lo l in
         let y = lower defs (suc x.free) r in

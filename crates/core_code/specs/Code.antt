@@ -31,12 +31,13 @@ pub data Instr : Type 0 where
   Truth : (into from : ℕ) → Instr
   -- a new array's element is stored
   Element : Ty → (array : ℕ) → (index : ℤ) → (from : ℕ) → Instr
-  -- the others of an initialiser: the next index that isn't among these goes into a slot, or so many instructions are passed; an element is
-  -- stored there; and again, so many back
+  -- the others of an initialiser begin: nothing is counted yet, and nothing is in the chain of what the turns held, where there is one; the
+  -- next index that isn't among these goes into a slot, or so many instructions are passed; an element is stored there; and again, so many
+  -- back
+  Start : (counter : ℕ) → (chain : Option ℕ) → Instr
   Next : (array counter : ℕ) → (named : List ℤ) → (passes : ℕ) → Instr
   Other : Ty → (array counter from : ℕ) → Instr
-  -- a chain begins; a region goes to its end, and is empty; the first region of it comes back, or so many instructions are passed
-  Start : (chain : ℕ) → Instr
+  -- a region goes to the end of a chain, and is empty; the first region of it comes back, or so many instructions are passed
   Keep : (chain from words : ℕ) → Instr
   Take : (chain from words passes : ℕ) → Instr
   -- a reference of a slot's value goes; what was decided is read again: where the left operand decided, so many drops are passed

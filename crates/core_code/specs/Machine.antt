@@ -240,7 +240,8 @@ module _ (limit : ℕ) (program : Program) (w : Shared) (p : Process) where
       nexts counter n (first_left named (range_with_len i (long_of (part_of (slot_value a)) - i)))
   does (Other t a counter from) =
       part_or_none (part_of (slot_value a)) (λ part. stores (element_at t part (number_of (slot_value counter))) (slot_value from))
-  does (Start chain) = goes_on w p (put slots chain (Chain NoRegion))
+  does (Start counter None) = goes_on w p (put slots counter empty)
+  does (Start counter (Some chain)) = goes_on w p (put (put slots chain (Chain NoRegion)) counter empty)
   does (Keep chain from words) =
       goes_on w p (put (cleared slots from words) chain (Chain (chained (chain_of (slot slots chain)) (region slots from words))))
   does (Take chain from words n) = takes chain from n (chain_of (slot slots chain))

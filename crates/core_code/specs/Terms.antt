@@ -154,49 +154,60 @@ module _ (defs : List Def) where
     free = suc (l.free + (length l.values - 1));
   }
 
-  abbrev pub picks : Ty → ℕ → LoweredAll → Lowered
-  picks t n l = record {
+  -- Where the references of a part of a value of a type are, which is taken out of a slot.
+  abbrev pub moves_out : Ty → (part : ℕ) → (from into : ℕ) → Moved
+  moves_out t n from into = record {
+    slot = from;
+    first = count_all (take n (part_types t));
+    count = count_of (slice_index_or (part_types t) n ty.Nothing);
+    into = into;
+    at = 0;
+  }
+
+  abbrev pub picks : (whole part : Ty) → ℕ → LoweredAll → Lowered
+  picks u t n l = record {
     code = l.code ++ Pick t n l.free (slot_at 0 l.values) ∷ [];
-    drops = l.drops;
+    drops = drops_after (moves_out u n (slot_at 0 l.values) l.free) l.drops;
     value = l.free;
     free = suc l.free;
   }
 
-  abbrev pub node : Ty → Work → LoweredAll → Lowered
-  node t (Operate o) l = if passes_on o then gathers t o l else gives t (Operate o) l
-  node t (tree.Assign aims) l = record {
+  -- A node behind its operands, the first of which is of the type `first`.
+  abbrev pub node : (first : Ty) → Ty → Work → LoweredAll → Lowered
+  node u t (Operate o) l = if passes_on o then gathers t o l else gives t (Operate o) l
+  node u t (tree.Assign aims) l = record {
     code = l.code ++ writes aims l.values (slot_at (operands_for aims) l.values);
     drops = l.drops;
     value = slot_at (operands_for aims) l.values;
     free = l.free;
   }
-  node t (tree.TakePart n) l = picks t n l
-  node t tree.Copy l = record {
+  node u t (tree.TakePart n) l = picks u t n l
+  node u t tree.Copy l = record {
     code = l.code ++ CopyInto (slot_at 0 l.values) (slot_at 1 l.values) (slot_at 2 l.values) ∷ [];
     drops = l.drops;
     value = slot_at 2 l.values;
     free = l.free;
   }
-  node t tree.Link l = links t l
-  node t (tree.Call f) l = record {
+  node u t tree.Link l = links t l
+  node u t (tree.Call f) l = record {
     code = l.code ++ Call t f l.free l.values ∷ [];
     drops = l.drops ++ drops_from l.free 0 (count_of t);
     value = l.free;
     free = suc l.free;
   }
-  node t (tree.Print ps) l = record {
+  node u t (tree.Print ps) l = record {
     code = l.code ++ Print ps l.free l.values ∷ [];
     drops = l.drops;
     value = l.free;
     free = suc l.free;
   }
-  node t tree.NewChannel l = record {
+  node u t tree.NewChannel l = record {
     code = l.code ++ Give t tree.NewChannel l.free [] ∷ [];
     drops = l.drops ++ Drop l.free 0 ∷ [];
     value = l.free;
     free = suc l.free;
   }
-  node t o l = gives t o l
+  node u t o l = gives t o l
 
   abbrev pub given_slot : Given → (old new : ℕ) → ℕ
   given_slot given.Old old new = old
@@ -213,7 +224,7 @@ module _ (defs : List Def) where
   others true t a zs from e =
       let turn = e.code ++ (Other t a from e.value ∷ Keep (suc from) (suc (suc from)) (e.free - suc (suc from)) ∷ []) in
       record {
-        code = Start (suc from) ∷ Next a from zs (suc (length turn)) ∷ turn ++ Back (suc (length turn)) ∷ [];
+        code = Start from (Some (suc from)) ∷ Next a from zs (suc (length turn)) ∷ turn ++ Back (suc (length turn)) ∷ [];
         drops = Take (suc from) (suc (suc from)) (e.free - suc (suc from)) (suc (length e.drops)) ∷ e.drops ++ Back
             (suc (length e.drops)) ∷ [];
         value = a;
@@ -222,16 +233,32 @@ module _ (defs : List Def) where
   others false t a zs from e =
       let turn = e.code ++ Other t a from e.value ∷ [] in
       record {
-        code = Next a from zs (suc (length turn)) ∷ turn ++ Back (suc (length turn)) ∷ [];
+        code = Start from None ∷ Next a from zs (suc (length turn)) ∷ turn ++ Back (suc (length turn)) ∷ [];
         drops = [];
         value = a;
         free = suc from;
       }
 
+  -- As of which type the value of a tree stands in its slot: an assignment and a copy pass on theirs as it is.
+  abbrev mutual
+    pub type_of : Term → Ty
+    type_of (Node t (tree.Assign aims) ts) = type_at (operands_for aims) ts
+    type_of (Node t tree.Copy ts) = type_at 2 ts
+    type_of (Node t o ts) = t
+    type_of (Lazy c l r) = ty.Int
+    type_of (Update o g t w ts us) = t
+    type_of (Fill t l is rest) = ty.ArrayOf t
+    type_of t = ty.Nothing
+
+    pub type_at : ℕ → Terms → Ty
+    type_at n NoTerms = ty.Nothing
+    type_at zero (MoreTerms t ts) = type_of t
+    type_at (suc n) (MoreTerms t ts) = type_at n ts
+
   abbrev mutual
     pub lower : (lo : ℕ) → Term → Lowered
     lower lo (Evaluated v) = record { code = Known v lo ∷ []; drops = []; value = lo; free = suc lo }
-    lower lo (Node t o ts) = node t o (lower_all lo ts)
+    lower lo (Node t o ts) = node (type_at 0 ts) t o (lower_all lo ts)
     lower lo (Lazy c l r) =
         let a = lower lo l in
         let b = lower (suc a.free) r in

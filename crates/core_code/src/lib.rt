@@ -9,7 +9,8 @@
 //! `specs/` in the order of reading: `Slots`, `Code`, `Machine`, `Terms` (the code of expressions), `Statements` (of statements, functions
 //! and programs). `Control`, `Using`, `Standing`, `Nodes`, `Sizes` and `Rooms` say the laws.
 //!
-//! In `proofs/`, `Examples` computes that the code of programs tells what the programs tell.
+//! In `proofs/`, `Examples` and `Programs` compute that the code of programs tells what the programs tell, to the values of the heap that
+//! go and when. `Closed`, `Used`, `Counts`, `Typed`, `Rounds` and `Stepping` show the laws.
 #![tactic(auto)]
 
 mod laws;
