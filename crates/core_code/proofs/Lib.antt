@@ -4,5 +4,6 @@ pub mod Typed
 pub mod Used
 pub mod Stepping
 pub mod Rounds
+pub mod Whole
 pub mod Examples
 pub mod Programs

@@ -468,7 +468,7 @@ deep_agrees : Agrees deep
 unfolding deep int_wrap digits lib.Utf8.encode
 deep_agrees = refl
 
--- ---- sys->print("%d", 1 + 2); l := list of {}; sys->print("%d", len l); a := array[0] of {* => ref Node(1, ..)}; c := chan of int; c == c;
+-- ---- l := list of {}; sys->print("%d", len l); a := array[0] of {* => ref Node(1, ..)}; c := chan of int; sys->print("%d", c == c);
 
 unfoldable empties : Module
 empties = made_of (node_def ∷ []) [] (function [] Nothing (int_list ∷ nodes ∷ ty.ChanOf Int ∷ [])

@@ -42,15 +42,15 @@ mapped_at f [] n d e = absurd cc
 mapped_at f (c ∷ defs) zero d e = let g : c ≡ d = cc in ap f g
 mapped_at f (c ∷ defs) (suc n) d e = mapped_at f defs n d e
 
-there_below : (defs : List Def) (n : ℕ) (d : Def) → slice_get defs n ≡ Some d → n < length defs
+pub there_below : (defs : List Def) (n : ℕ) (d : Def) → slice_get defs n ≡ Some d → n < length defs
 there_below [] n d e = absurd cc
 there_below (c ∷ defs) zero d e = omega arith
 there_below (c ∷ defs) (suc n) d e = let a = there_below defs n d e in omega arith
 
 -- The adts on a way differ, and each is there.
-record Trail (defs : List Def) (ns : List ℕ) : Type 0 where
-  distinct : IsDistinct eqb ns
-  below : (q : ℕ) → list_any (eqb q) ns ≡ true → q < length defs
+pub record Trail (defs : List Def) (ns : List ℕ) : Type 0 where
+  pub distinct : IsDistinct eqb ns
+  pub below : (q : ℕ) → list_any (eqb q) ns ≡ true → q < length defs
 
 apart_from : (n : ℕ) (ns : List ℕ) → (list_any (eqb n) ns ≡ true → ⊥) → AllByRecursion (λ y. eqb n y ≡ false) ns
 apart_from n [] h = tt
@@ -65,11 +65,11 @@ apart_from n (m ∷ ns) h = (
   ]),
 )
 
-distinct_more : (n : ℕ) (ns : List ℕ) → AllByRecursion (λ y. eqb n y ≡ false) ns → IsDistinct eqb ns → IsDistinct eqb (n ∷ ns)
+pub distinct_more : (n : ℕ) (ns : List ℕ) → AllByRecursion (λ y. eqb n y ≡ false) ns → IsDistinct eqb ns → IsDistinct eqb (n ∷ ns)
 unfolding IsDistinct
 distinct_more n ns a d = (a, d)
 
-trail_more : (defs : List Def) (n : ℕ) (ns : List ℕ) → Trail defs ns → n < length defs → (list_any (eqb n) ns ≡ true → ⊥)
+pub trail_more : (defs : List Def) (n : ℕ) (ns : List ℕ) → Trail defs ns → n < length defs → (list_any (eqb n) ns ≡ true → ⊥)
     → Trail defs (n ∷ ns)
 trail_more defs n ns k l new = record {
   distinct = distinct_more n ns (apart_from n ns new) k.distinct;
@@ -79,14 +79,14 @@ trail_more defs n ns k l new = record {
   ];
 }
 
-trail_short : (defs : List Def) (ns : List ℕ) → Trail defs ns → length ns ≤ length defs
+pub trail_short : (defs : List Def) (ns : List ℕ) → Trail defs ns → length ns ≤ length defs
 trail_short defs ns k = length-le_from_distinct_below ns (length defs) k.distinct k.below
 
 -- Each on the way holds in place all that types hold.
-abbrev Leads : List Def → List ℕ → List ℕ → Type 0
+abbrev pub Leads : List Def → List ℕ → List ℕ → Type 0
 Leads defs ns ms = (n m : ℕ) → list_any (eqb n) ns ≡ true → Has ms m → HoldsWithin defs n m
 
-leads_more : (defs : List Def) (n : ℕ) (d : Def) (ns : List ℕ) → slice_get defs n ≡ Some d → Leads defs ns (n ∷ [])
+pub leads_more : (defs : List Def) (n : ℕ) (d : Def) (ns : List ℕ) → slice_get defs n ≡ Some d → Leads defs ns (n ∷ [])
     → Leads defs (n ∷ ns) (held_in (parts d))
 leads_more defs n d ns e h q m a b =
     let at : Holds defs n m = record { def = d; there = e; has = b } in
@@ -120,12 +120,12 @@ mutual
       let f = all_right defs k ns ts rs b trail (λ n m i j. h n m i (has_right (held t) (held_in ts) m j)) l in
       ap (λ (z : Room). z ∷ rooms_of (rooms_after defs k) ts) e ∙ ap (λ (zs : List Room). r ∷ zs) f
 
-no_trail : (defs : List Def) → Trail defs []
+pub no_trail : (defs : List Def) → Trail defs []
 unfolding IsDistinct
 no_trail defs = record { distinct = tt; below = λ q e. absurd cc }
 
 -- nothing leads nowhere
-no_leads : (defs : List Def) (ms : List ℕ) → Leads defs [] ms
+pub no_leads : (defs : List Def) (ms : List ℕ) → Leads defs [] ms
 no_leads defs ms n m a b = absurd (let z : false ≡ true = a in cc)
 
 rows_right : (defs : List Def) (ts : List Ty) (rs : List Room) → AllLaid defs ts rs → rooms_of (rooms_in defs) ts ≡ rs

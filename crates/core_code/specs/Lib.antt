@@ -9,3 +9,4 @@ pub mod Sizes
 pub mod Using
 pub mod Standing
 pub mod Rooms
+pub mod Whole

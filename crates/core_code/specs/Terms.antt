@@ -86,9 +86,13 @@ module _ (defs : List Def) where
   numbers_from n zero = []
   numbers_from n (suc k) = n ∷ numbers_from (suc n) k
 
+  abbrev pub parts_there : Option Def → List Ty
+  parts_there None = []
+  parts_there (Some d) = parts d
+
   abbrev pub part_types : Ty → List Ty
   part_types (ty.Tuple ts) = listed ts
-  part_types (ty.Adt n) = elim (slice_get defs n) [ None ↦ [] | Some d ↦ parts d ]
+  part_types (ty.Adt n) = parts_there (slice_get defs n)
   part_types t = []
 
   abbrev pub adt_numbers : Option Def → Option ℕ → (operands : ℕ) → List ℕ

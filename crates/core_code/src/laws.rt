@@ -6,6 +6,7 @@ ghost use Rattle.core_code.specs.Rooms.{RoundsGiveRooms};
 ghost use Rattle.core_code.specs.Sizes.{EightANode};
 ghost use Rattle.core_code.specs.Standing.{CodeIsNotLeft};
 ghost use Rattle.core_code.specs.Using.{SlotsAreThere};
+ghost use Rattle.core_code.specs.Whole.{ValuesAreWhole};
 
 /// The code of a function is never empty. From each of its instructions control goes on to one of them, or leaves by a return; none
 /// leads back over more instructions than stand in front of it.
@@ -40,4 +41,10 @@ pub fn four_a_tree_node()
 /// rounds as there are adts give each its room. They are aligned, and none lies in the room of another.
 pub fn rounds_give_rooms()
     ensures { RoundsGiveRooms }
+{}
+
+/// A value of a tuple has the parts that its type says, and of an adt that has a layout too, however deep adts lie in one another; its
+/// references are those of its parts.
+pub fn values_are_whole()
+    ensures { ValuesAreWhole }
 {}
