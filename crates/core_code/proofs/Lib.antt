@@ -7,3 +7,4 @@ pub mod Rounds
 pub mod Whole
 pub mod Examples
 pub mod Programs
+pub mod Names

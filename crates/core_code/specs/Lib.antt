@@ -10,3 +10,4 @@ pub mod Using
 pub mod Standing
 pub mod Rooms
 pub mod Whole
+pub mod Naming

@@ -1,6 +1,7 @@
 //! What holds of the code of every program.
 
 ghost use Rattle.core_code.specs.Control.{FunctionsAreClosed};
+ghost use Rattle.core_code.specs.Naming.{ReferencesGoSo};
 ghost use Rattle.core_code.specs.Nodes.{FourATreeNode};
 ghost use Rattle.core_code.specs.Rooms.{RoundsGiveRooms};
 ghost use Rattle.core_code.specs.Sizes.{EightANode};
@@ -23,6 +24,12 @@ pub fn slots_are_there()
 /// begins so, and no step and no reply leaves it otherwise.
 pub fn code_is_not_left()
     ensures { CodeIsNotLeft }
+{}
+
+/// A drop lets one reference of a slot go, and changes nothing else that a process names. What the turns of an initialiser held stays
+/// named in a chain and as it comes back, and a part that is taken out of a value is named once, as before.
+pub fn references_go_so()
+    ensures { ReferencesGoSo }
 {}
 
 /// The code of an expression, with the drops of what it got, of a statement, of a function and of a module has at most eight

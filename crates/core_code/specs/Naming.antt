@@ -1,0 +1,65 @@
+-- What a process names as references go, are kept for later, and move.
+use Rattle.std.specs.Prelude.{◌≡◌, ◌≢◌, ℕ, suc, ◌+◌, ◌<◌, ◌≤◌, length, Option, None, slice_index_or}
+use Rattle.process_model.specs.Process.{Went}
+use Rattle.limbo_types.specs.Types.{Ty}
+use Rattle.limbo_meaning.specs.Values.{Values, Parts, references, one, fitted}
+use Rattle.limbo_meaning.specs.Places.{value_part}
+use Rattle.limbo_meaning.specs.Process.{Shared}
+use Rattle.core_code.specs.Slots.{Slot, Holds, Chain, Region, NoSlot, MoreSlots, Regions, MoreRegions, slot, value_of, region}
+use Rattle.core_code.specs.Slots.{slot_names, region_names}
+use Rattle.core_code.specs.Code.{Program, Drop, Keep, Take, Pick}
+use Rattle.core_code.specs.Machine.{Process, does, process_names}
+
+-- The reference of this number of a slot's value; nothing where there is none.
+abbrev pub reference : ℕ → Slot → Option ℕ
+reference k s = slice_index_or (references (value_of s)) k None
+
+-- how many slots a region has
+abbrev pub size : Region → ℕ
+size NoSlot = 0
+size (MoreSlots s g) = suc (size g)
+
+-- A process goes on in the same world, and names what it named.
+pub record NamesTheSame (w v : Shared) (p q : Process) : Type 0 where
+  pub world : v ≡ w
+  pub names : (n : ℕ) → process_names q n ≡ process_names p n
+
+-- It names what it named but for one reference.
+pub record NamesOneLess (w v : Shared) (p q : Process) (r : Option ℕ) : Type 0 where
+  pub world : v ≡ w
+  pub names : (n : ℕ) → process_names q n + one n r ≡ process_names p n
+
+module _ (limit : ℕ) (program : Program) where
+  -- A drop lets one reference of a slot go.
+  abbrev pub DropsOne : Type 0
+  DropsOne =
+      (w v : Shared) (p q : Process) (s k : ℕ) → does limit program w p (Drop s k) ≡ Went v q → s < length p.frame.slots →
+      NamesOneLess w v p q (reference k (slot p.frame.slots s))
+
+  -- What the turns of an initialiser held stays named while it is in the chain in front of their slots.
+  abbrev pub KeepsAll : Type 0
+  KeepsAll =
+      (w v : Shared) (p q : Process) (chain from words : ℕ) (rs : Regions) → does limit program w p (Keep chain from words) ≡ Went v q →
+      slot p.frame.slots chain ≡ Chain rs → chain < from → from + words ≤ length p.frame.slots → NamesTheSame w v p q
+
+  -- And as it comes back, into slots that name nothing.
+  abbrev pub TakesAll : Type 0
+  TakesAll =
+      (w v : Shared) (p q : Process) (chain from words passes : ℕ) (g : Region) (rs : Regions) →
+      does limit program w p (Take chain from words passes) ≡ Went v q → slot p.frame.slots chain ≡ Chain (MoreRegions g rs) →
+      chain < from → from + size g ≤ length p.frame.slots → ((n : ℕ) → region_names (region p.frame.slots from (size g)) n ≡ 0) →
+      NamesTheSame w v p q
+
+  -- A part that is taken out of a value, into a slot that names nothing, is named once, as before.
+  abbrev pub MovesParts : Type 0
+  MovesParts =
+      (w v : Shared) (p q : Process) (t : Ty) (part into from : ℕ) (vs : Values) →
+      does limit program w p (Pick t part into from) ≡ Went v q → slot p.frame.slots from ≡ Holds (Parts vs) →
+      fitted program.adts t (value_part part vs) ≡ value_part part vs → into ≢ from → into < length p.frame.slots →
+      from < length p.frame.slots → ((n : ℕ) → slot_names (slot p.frame.slots into) n ≡ 0) → NamesTheSame w v p q
+
+pub record ReferencesGoSo : Type 0 where
+  pub drops : (limit : ℕ) (program : Program) → DropsOne limit program
+  pub keeps : (limit : ℕ) (program : Program) → KeepsAll limit program
+  pub takes : (limit : ℕ) (program : Program) → TakesAll limit program
+  pub moves : (limit : ℕ) (program : Program) → MovesParts limit program
