@@ -32,10 +32,6 @@ pub record LoweredAll : Type 0 where
   pub values : List ℕ
   pub free : ℕ
 
-abbrev pub last_slot : List ℕ → ℕ → ℕ
-last_slot [] d = d
-last_slot (s ∷ ss) d = last_slot ss s
-
 abbrev pub slot_at : ℕ → List ℕ → ℕ
 slot_at n ss = slice_index_or ss n 0
 
