@@ -1,25 +1,30 @@
 -- What slots name, as counts: as one is written, emptied, kept in a chain, brought back, and as references go and move.
 use Rattle.std.proofs.Common.{◌≡◌, ◌≢◌, ℕ, zero, suc, ◌+◌, ◌-◌, ◌<◌, ◌≤◌, Bool, true, false, List, [], ◌∷◌, ◌++◌, length, Option, Some}
 use Rattle.std.proofs.Common.{None}
-use Rattle.std.proofs.Common.{refl, sym, ap, subst, ◌∙◌, arith, length-set, get_or-set_other}
+use Rattle.std.proofs.Common.{refl, sym, ap, subst, ◌∙◌, arith, length-set, get_or-set_other, inl, inr, take, drop, replicate}
 use Rattle.std.proofs.lemmas.Bool.{ltb-true, ltb-false}
 use Rattle.std.specs.Prelude.{nat_lt, slice_index_or, slice_get, if◌then◌else◌}
 use Rattle.process_model.specs.Process.{Went}
 use Rattle.limbo_types.specs.Types as ty
 use Rattle.limbo_types.specs.Types.{Ty, Tys, NoTys, MoreTys}
 use Rattle.limbo_types.specs.View.{tys_of}
-use Rattle.limbo_layout.specs.Adts.{Def, parts}
+use Rattle.limbo_layout.specs.Adts as adts
+use Rattle.limbo_layout.specs.Adts.{Def, parts, variant_types}
 use Rattle.limbo_meaning.specs.Values.{Value, Num, Chars, Ref, Array, Parts, Values, NoValues, MoreValues, nothing, parts_of}
 use Rattle.limbo_meaning.specs.Values.{formed, all_formed, by_def, adt_formed, fitted, references, all_references, one, among}
+use Rattle.limbo_meaning.specs.Values.{references_in, row, listed, all_fitted}
+use Rattle.limbo_meaning.specs.Operations.{adt_parts}
 use Rattle.limbo_meaning.specs.Places.{value_part, put_part}
 use Rattle.limbo_meaning.specs.Process.{Shared}
 use Rattle.core_code.specs.Slots.{Slot, Holds, Chain, Region, NoSlot, MoreSlots, Regions, NoRegion, MoreRegions, Slots, empty, slot, put}
 use Rattle.core_code.specs.Slots.{value_of, chain_of, without, all_without, dropped, region, cleared, placed, chained, slot_names}
-use Rattle.core_code.specs.Slots.{region_names}
-use Rattle.core_code.specs.Slots.{regions_name, slots_name}
+use Rattle.core_code.specs.Slots.{region_names, regions_name, slots_name, emptied, values_of}
 use Rattle.core_code.specs.Code.{Program}
 use Rattle.core_code.specs.Machine.{Process, at, with_frames, goes_to, takes, left_whole, picked, process_names}
-use Rattle.core_code.specs.Naming.{reference, size, DropsOne, KeepsAll, TakesAll, MovesParts, ReferencesGoSo}
+use Rattle.core_code.specs.Naming.{reference, size, NamesTheSame, DropsOne, KeepsAll, TakesAll, MovesParts, GathersTuples}
+use Rattle.core_code.specs.Naming.{GathersAdts, DiffersFrom, AllDiffer, HoldValues, ComeFrom, AreOf, ReferencesGoSo}
+use Rattle.core_code.specs.Whole.{with_parts}
+use Rattle.core_code.proofs.Whole.{values_are_whole}
 
 -- ---- references of values
 
@@ -250,5 +255,137 @@ moves_parts limit program w v p q t part into from vs e c f apart li lf z =
     omega arith) in
     record { world = a.0; names = λ n. let b = a.1 n in omega arith }
 
+-- ---- a tuple's parts
+
+emptied_other : (slots : Slots) (ss : List ℕ) (d : ℕ) → DiffersFrom d ss → slot (emptied slots ss) d ≡ slot slots d
+emptied_other slots [] d h = refl
+emptied_other slots (s ∷ ss) d h = slot_other (emptied slots ss) s d empty h.0 ∙ emptied_other slots ss d h.1
+
+long_emptied : (slots : Slots) (ss : List ℕ) → length (emptied slots ss) ≡ length slots
+long_emptied slots [] = refl
+long_emptied slots (s ∷ ss) = length-set (emptied slots ss) s _ ∙ long_emptied slots ss
+
+names_emptied : (n : ℕ) (slots : Slots) (ss : List ℕ) → AllDiffer ss → HoldValues slots ss
+    → slots_name (emptied slots ss) n + among n (references_in (values_of slots ss)) ≡ slots_name slots n
+names_emptied n slots [] d h = omega arith
+names_emptied n slots (s ∷ ss) d h =
+    let a = names_emptied n slots ss d.1 h.2 in
+    let l : s < length (emptied slots ss) = let e = long_emptied slots ss in let k = h.0 in omega arith in
+    let b = names_put n (emptied slots ss) s empty l in
+    let c = ap (λ (x : Slot). slot_names x n) (emptied_other slots ss s d.0) in
+    let e = ap (λ (x : Slot). slot_names x n) h.1 in
+    let f = among_join n (references (value_of (slot slots s))) (references_in (values_of slots ss)) in
+    omega arith
+
+listed_row : (vs : List Value) → listed (row vs) ≡ vs
+listed_row [] = refl
+listed_row (v ∷ vs) = ap (λ (us : List Value). v ∷ us) (listed_row vs)
+
+row_references : (vs : List Value) → all_references (row vs) ≡ references_in vs
+row_references [] = refl
+row_references (v ∷ vs) = ap (λ (rs : List (Option ℕ)). references v ++ rs) (row_references vs)
+
+names_in_join : (n : ℕ) (us vs : List Value) → among n (references_in (us ++ vs)) ≡ among n (references_in us) + among n (references_in vs)
+names_in_join n [] vs = omega arith
+names_in_join n (u ∷ us) vs =
+    let a = names_in_join n us vs in
+    let b = among_join n (references u) (references_in (us ++ vs)) in
+    let c = among_join n (references u) (references_in us) in
+    omega arith
+
+-- as ones of their types values have the names that they have
+fitted_names : (n : ℕ) (defs : List Def) (ts : List Ty) (vs : List Value) → AreOf defs ts vs
+    → among n (references_in (all_fitted defs ts vs)) ≡ among n (references_in vs)
+fitted_names n defs [] [] h = refl
+fitted_names n defs [] (v ∷ vs) h = absurd h
+fitted_names n defs (t ∷ ts) [] h =
+    let a = fitted_names n defs ts [] tt in
+    let b = zero_fitted n defs t in
+    let c = among_join n (references (fitted defs t nothing)) (references_in (all_fitted defs ts [])) in
+    omega arith
+fitted_names n defs (t ∷ ts) (v ∷ vs) h =
+    let a = fitted_names n defs ts vs h.1 in
+    let b : among n (references (fitted defs t v)) ≡ among n (references v) = elim h.0 [
+      | inl e ↦ ap (λ (u : Value). among n (references u)) e
+      | inr e ↦ ap (λ (u : Value). among n (references (fitted defs t u))) e ∙ zero_fitted n defs t
+          ∙ sym (ap (λ (u : Value). among n (references u)) e)
+    ] in
+    let c = among_join n (references (fitted defs t v)) (references_in (all_fitted defs ts vs)) in
+    let d = among_join n (references v) (references_in vs) in
+    omega arith
+
+-- a value made of parts has their names
+made_names : (n : ℕ) (defs : List Def) (ts : List Ty) (vs : List Value) → AreOf defs ts vs
+    → among n (references (with_parts defs ts (Parts (row vs)))) ≡ among n (references_in vs)
+made_names n defs ts vs h =
+    ap (λ (us : List Value). among n (all_references (row (all_fitted defs ts us)))) (listed_row vs)
+    ∙ ap (among n) (row_references (all_fitted defs ts vs)) ∙ fitted_names n defs ts vs h
+
+nothings_name : (n k : ℕ) → among n (references_in (replicate k nothing)) ≡ 0
+nothings_name n zero = refl
+nothings_name n (suc k) = nothings_name n k
+
+split_names : (n k : ℕ) (vs : List Value) → among n (references_in (take k vs)) + among n (references_in (drop k vs)) ≡ among n (references_in vs)
+split_names n zero vs = omega arith
+split_names n (suc k) [] = omega arith
+split_names n (suc k) (v ∷ vs) =
+    let a = split_names n k vs in
+    let b = among_join n (references v) (references_in (take k vs)) in
+    let c = among_join n (references v) (references_in vs) in
+    omega arith
+
+-- the tag, and what other variants have, name nothing
+adt_names : (n : ℕ) (d : Def) (variant : Option ℕ) (vs : List Value)
+    → among n (references_in (adt_parts (Some d) variant vs)) ≡ among n (references_in vs)
+adt_names n d None vs = refl
+adt_names n d (Some k) vs =
+    let common = take (length d.fields) vs in
+    let others = replicate (length (variant_types (take k d.picks))) nothing in
+    let a = names_in_join n common (others ++ drop (length d.fields) vs) in
+    let b = names_in_join n others (drop (length d.fields) vs) in
+    let c = nothings_name n (length (variant_types (take k d.picks))) in
+    let e = split_names n (length d.fields) vs in
+    omega arith
+
+-- parts go from their slots into one value
+gathered : (w v : Shared) (p q : Process) (into : ℕ) (from : List ℕ) (u : Value) → ComeFrom p.frame.slots into from
+    → goes_to w p (suc p.frame.pc) (put (emptied p.frame.slots from) into (Holds u)) ≡ Went v q
+    → ((n : ℕ) → among n (references u) ≡ among n (references_in (values_of p.frame.slots from))) → NamesTheSame w v p q
+gathered w v p q into from u c e f =
+    let slots = p.frame.slots in
+    let a = went w v p q (suc p.frame.pc) (put (emptied slots from) into (Holds u)) (λ n. 0) e (λ n.
+    let b = names_emptied n slots from c.apart.1 c.there in
+    let l : into < length (emptied slots from) = let k = long_emptied slots from in let m = c.free in omega arith in
+    let d = names_put n (emptied slots from) into (Holds u) l in
+    let i = ap (λ (x : Slot). slot_names x n) (emptied_other slots from into c.apart.0) in
+    let j = f n in
+    let y = c.names n in
+    omega arith) in
+    record { world = a.0; names = λ n. let b = a.1 n in omega arith }
+
+gathers_tuples : (limit : ℕ) (program : Program) → GathersTuples limit program
+gathers_tuples limit program w v p q ts into from e c h =
+    let vs = values_of p.frame.slots from in
+    gathered w v p q into from (fitted program.adts (ty.Tuple ts) (Parts (row vs))) c e (λ n.
+    ap (λ (u : Value). among n (references u)) (values_are_whole.tuples program.adts ts (Parts (row vs)))
+    ∙ made_names n program.adts (adts.listed ts) vs h)
+
+gathers_adts : (limit : ℕ) (program : Program) → GathersAdts limit program
+gathers_adts limit program w v p q k variant d r into from e there laid c h =
+    let vs = values_of p.frame.slots from in
+    let made = λ (o : Option Def). fitted program.adts (ty.Adt k) (Parts (row (adt_parts o variant vs))) in
+    gathered w v p q into from (made (slice_get program.adts k)) c e (λ n.
+    ap (λ (o : Option Def). among n (references (made o))) there
+    ∙ ap (λ (u : Value). among n (references u))
+    (values_are_whole.adts program.adts k d r (Parts (row (adt_parts (Some d) variant vs))) laid there)
+    ∙ made_names n program.adts (parts d) (adt_parts (Some d) variant vs) h ∙ adt_names n d variant vs)
+
 pub references_go_so : ReferencesGoSo
-references_go_so = record { drops = drops_one; keeps = keeps_all; takes = takes_all; moves = moves_parts }
+references_go_so = record {
+  drops = drops_one;
+  keeps = keeps_all;
+  takes = takes_all;
+  moves = moves_parts;
+  gathers = gathers_tuples;
+  gathers_adts = gathers_adts;
+}
