@@ -26,7 +26,7 @@ use Rattle.limbo_meaning.specs.Runs.{first_world, list_from}
 use Rattle.limbo_meaning.specs.Alone.{Trace, reply_to}
 use Rattle.limbo_meaning.proofs.Examples.{Tells, Prints, Frees, Stops, telling, sharing, list_goes, tree_goes, strings, others}
 use Rattle.limbo_meaning.proofs.Examples.{reading_first, conversions, num, nil, cons, plus, read, var, item, set, items, up, print_number}
-use Rattle.limbo_meaning.proofs.Examples.{exprs, apply, len}
+use Rattle.limbo_meaning.proofs.Examples.{exprs, apply, len, words_module}
 use Rattle.limbo_meaning.proofs.Examples.{function, made_of, ints, int_list, outcome}
 use Rattle.limbo_meaning.proofs.Temporaries.{unnamed_list, pairs, anew, walking, copies, endless, shapes, head_of, tail_of, pair_type}
 use Rattle.core_code.specs.Code.{Give, Print, Drop, Return, Function, Program}
@@ -157,6 +157,13 @@ same_shapes :
     ∷ Frees (0 ∷ 1 ∷ 2 ∷ []) ∷ []
 unfolding shapes int_wrap digits lib.Utf8.encode
 same_shapes = refl
+
+-- the words of the program
+same_words :
+    code_outcome 10000 120 words_module (codes "prog" ∷ codes "one" ∷ []) ≡
+    Frees (1 ∷ []) ∷ Prints (codes "one") ∷ Prints (codes "0") ∷ Prints (codes "1") ∷ Stops Ended ∷ Frees (0 ∷ 2 ∷ []) ∷ []
+unfolding words_module int_wrap digits lib.Utf8.encode
+same_words = refl
 
 -- strings to bytes and back, and numbers to strings and back
 same_conversions :

@@ -325,7 +325,8 @@ nothings_name : (n k : ℕ) → among n (references_in (replicate k nothing)) �
 nothings_name n zero = refl
 nothings_name n (suc k) = nothings_name n k
 
-split_names : (n k : ℕ) (vs : List Value) → among n (references_in (take k vs)) + among n (references_in (drop k vs)) ≡ among n (references_in vs)
+split_names : (n k : ℕ) (vs : List Value)
+    → among n (references_in (take k vs)) + among n (references_in (drop k vs)) ≡ among n (references_in vs)
 split_names n zero vs = omega arith
 split_names n (suc k) [] = omega arith
 split_names n (suc k) (v ∷ vs) =
