@@ -8,3 +8,4 @@ pub mod Whole
 pub mod Examples
 pub mod Programs
 pub mod Names
+pub mod Slotted

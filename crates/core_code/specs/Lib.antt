@@ -11,3 +11,4 @@ pub mod Standing
 pub mod Rooms
 pub mod Whole
 pub mod Naming
+pub mod Frames

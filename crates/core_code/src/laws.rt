@@ -1,6 +1,7 @@
 //! What holds of the code of every program.
 
 ghost use Rattle.core_code.specs.Control.{FunctionsAreClosed};
+ghost use Rattle.core_code.specs.Frames.{ThreeSlotsANode};
 ghost use Rattle.core_code.specs.Naming.{ReferencesGoSo};
 ghost use Rattle.core_code.specs.Nodes.{FourATreeNode};
 ghost use Rattle.core_code.specs.Rooms.{RoundsGiveRooms};
@@ -43,6 +44,12 @@ pub fn eight_a_node()
 /// zero with which a variable begins.
 pub fn four_a_tree_node()
     ensures { FourATreeNode }
+{}
+
+/// A statement uses at most three slots for each node of its tree, where of the elements of an initialiser that hold no references the
+/// greatest counts alone; a function has as many slots as its greatest statement uses, but one at least.
+pub fn three_slots_a_node()
+    ensures { ThreeSlotsANode }
 {}
 
 /// Values in a row, each at the next place that suits it, lie as the layouts of their types say, where types have layouts: as many

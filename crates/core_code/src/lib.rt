@@ -7,15 +7,16 @@
 //! wasn't evaluated, and what the turns of an initialiser held comes back from a chain, turn by turn.
 //!
 //! `specs/` in the order of reading: `Slots`, `Code`, `Machine`, `Terms` (the code of expressions), `Statements` (of statements, functions
-//! and programs). `Control`, `Using`, `Standing`, `Naming`, `Nodes`, `Sizes`, `Rooms` and `Whole` say the laws.
+//! and programs). `Control`, `Using`, `Standing`, `Naming`, `Nodes`, `Sizes`, `Frames`, `Rooms`
+//! and `Whole` say the laws.
 //!
 //! In `proofs/`, `Examples` and `Programs` compute that the code of programs tells what the programs tell, to the values of the heap that
-//! go and when. `Closed`, `Used`, `Counts`, `Typed`, `Names`, `Rounds`, `Whole` and `Stepping` show the laws.
+//! go and when. `Closed`, `Used`, `Counts`, `Typed`, `Slotted`, `Names`, `Rounds`, `Whole` and `Stepping` show the laws.
 #![tactic(auto)]
 
 mod laws;
 
 pub use laws::{
     code_is_not_left, eight_a_node, four_a_tree_node, functions_are_closed, references_go_so,
-    rounds_give_rooms, slots_are_there, values_are_whole,
+    rounds_give_rooms, slots_are_there, three_slots_a_node, values_are_whole,
 };
