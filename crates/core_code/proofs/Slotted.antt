@@ -98,7 +98,8 @@ module _ (defs : List Def) where
         let g = items_room t a s (if may_hold defs e then x.free else lo) is in
         omega arith
 
-    rest_room : (t : Ty) (a : ℕ) (zs : List ℤ) (s lo : ℕ) (ts : Terms) → (lower_rest defs t a zs s lo ts).free ≤ lo + 2 + 3 * rest_held defs ts
+    rest_room : (t : Ty) (a : ℕ) (zs : List ℤ) (s lo : ℕ) (ts : Terms) →
+        (lower_rest defs t a zs s lo ts).free ≤ lo + 2 + 3 * rest_held defs ts
     rest_room t a zs s lo NoTerms = omega arith
     rest_room t a zs s lo (MoreTerms e es) = others_room (may_hold defs e) t a zs lo s e (term_room (suc (suc lo)) e)
 

@@ -64,7 +64,8 @@ module _ (defs : List Def) where
     block_counted (Turn l b) = block_counted b
     block_counted (Again l b) = block_counted b
 
--- A statement uses at most three slots for each node that it counts, and a function has as many as its greatest statement, but one at least.
+-- A statement uses at most three slots for each node that it counts, and a function has as many as its greatest statement uses, but one at
+-- least.
 pub record ThreeSlotsANode : Type 0 where
   pub expressions : (defs : List Def) (lo : ℕ) (t : Term) → (lower defs lo t).free ≤ lo + 3 * counted_nodes defs t
   pub functions : (defs : List Def) (r : Routine) → (function_of defs r).slots ≤ max 1 (3 * block_counted defs r.body)

@@ -7,8 +7,7 @@
 //! wasn't evaluated, and what the turns of an initialiser held comes back from a chain, turn by turn.
 //!
 //! `specs/` in the order of reading: `Slots`, `Code`, `Machine`, `Terms` (the code of expressions), `Statements` (of statements, functions
-//! and programs). `Control`, `Using`, `Standing`, `Naming`, `Nodes`, `Sizes`, `Frames`, `Rooms`
-//! and `Whole` say the laws.
+//! and programs). `Control`, `Using`, `Standing`, `Naming`, `Nodes`, `Sizes`, `Frames`, `Rooms` and `Whole` say the laws.
 //!
 //! In `proofs/`, `Examples` and `Programs` compute that the code of programs tells what the programs tell, to the values of the heap that
 //! go and when. `Closed`, `Used`, `Counts`, `Typed`, `Slotted`, `Names`, `Rounds`, `Whole` and `Stepping` show the laws.
