@@ -35,7 +35,8 @@ are_alike a b = (a.size == b.size) && pointwise nat_eq a.map b.map
 abbrev pub overwritten : (source target : Elements) → (at : ℕ) → Access (List Word)
 overwritten s t at =
     if refers s.element
-    then taken s.words (s.start * (s.element.size / 4)) (s.long * (s.element.size / 4)) >>= put t.words ((t.start + at) * (t.element.size / 4))
+    then taken s.words (s.start * (s.element.size / 4)) (s.long * (s.element.size / 4)) >>=
+    put t.words ((t.start + at) * (t.element.size / 4))
     else moved s.words (s.start * s.element.size) t.words ((t.start + at) * t.element.size) (s.long * s.element.size)
 
 -- What is copied from nil, and into it, is nothing.

@@ -3,7 +3,8 @@
 //!
 //! `specs/` in the order of reading: `Blocks`, `Raising`, `Places` (the words that operands name), `Kinds` (what references lead to),
 //! `Process`, `Results`, `Operands`, `Copies`; the families of instructions, `Data`, `Arrays`, `Strings`, `Lists`, `Numbers`, `Formats` and
-//! `Control`; `Step` (one instruction), `Naming` (which blocks are named, and how often), `Rules`; `Laws` and `Sound` (what holds of every instruction).
+//! `Control`; `Step` (one instruction), `Naming` (which blocks are named, and how often), `Rules`; `Laws` and `Sound` (what holds of every
+//! instruction).
 //!
 //! An instruction lets no block go: what nobody names goes behind the step, by `process_model`, in one place for all languages.
 #![tactic(auto)]
