@@ -6,3 +6,4 @@ pub mod Formatting
 pub mod Moving
 pub mod Controlling
 pub mod Steps
+pub mod Answers

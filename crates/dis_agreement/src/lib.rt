@@ -5,9 +5,9 @@
 //!
 //! In `proofs/` an access to one memory follows an access to another (`Following`): `Blocks`, `Reading` and `Storing` say so of what
 //! operands name, `Formatting` of prints, `Moving` of moved words, `Controlling` of calls, modules and prints, and `Steps` goes through
-//! the instructions.
+//! the instructions, `Answers` through replies.
 #![tactic(auto)]
 
 mod laws;
 
-pub use laws::steps_agree;
+pub use laws::{answers_agree, steps_agree};
