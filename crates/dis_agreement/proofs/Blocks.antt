@@ -1,13 +1,15 @@
 -- Blocks that agree, one by one.
-use Rattle.std.proofs.Common.{◌≡◌, ◌≢◌, ℕ, zero, suc, List, [], ◌∷◌, ◌++◌, length, refl, sym, ap, subst, ◌∙◌, ◌⊎◌, inl, inr}
+use Rattle.std.proofs.Common.{◌≡◌, ◌≢◌, ℕ, zero, suc, List, [], ◌∷◌, ◌++◌, length, refl, sym, ap, subst, ◌∙◌, ◌⊎◌, inl, inr, arith}
 use Rattle.std.specs.Prelude.{Option, Some, None, slice_get, slice_set}
-use Rattle.heap_model.specs.Heap.{Heap, at}
+use Rattle.heap_model.specs.Heap.{Heap, at, stays}
+use Rattle.heap_model.proofs.Heap.{stays_length, stays_part}
 use Rattle.dis_meaning.specs.Words.{Word, Access, Found, Wrong, Raises, ◌>>=◌, or_wrong, dead_address}
 use Rattle.dis_meaning.specs.World as today
 use Rattle.dis_meaning.specs.Places as today_places
 use Rattle.dis_memory.specs.Blocks as blocks
 use Rattle.dis_memory.specs.Blocks.{Block, Instance, World, block, with_block, with_changed, reached, next_serial}
 use Rattle.dis_memory.specs.Places.{data_at, with_data}
+use Rattle.dis_memory.specs.Naming.{naming, inside}
 use Rattle.dis_memory.specs.Sound.{IsThere}
 use Rattle.dis_memory.proofs.Growing.{found_same}
 use Rattle.dis_counts.specs.Alike.{block_of}
@@ -77,6 +79,30 @@ more_cases [] c zero d e = inl (let z : c ≡ d = cc in z)
 more_cases [] c (suc n) d e = inr e
 more_cases (b ∷ cs) c zero d e = inr e
 more_cases (b ∷ cs) c (suc n) d e = more_cases cs c n d e
+
+-- Part of the blocks that agree.
+part_same : (cs : List today.Content) (os ps : Heap Block) → SameBlocks cs os → length ps ≡ length os
+    → ((n : ℕ) (b : Block) → at ps n ≡ Some b → at os n ≡ Some b) → SameBlocks cs ps
+part_same [] [] [] s l h = tt
+part_same [] [] (p ∷ ps) s l h = absurd (omega arith)
+part_same [] (o ∷ os) ps s l h = absurd s
+part_same (c ∷ cs) [] ps s l h = absurd s
+part_same (c ∷ cs) (o ∷ os) [] s l h = absurd (omega arith)
+part_same (c ∷ cs) (o ∷ os) (p ∷ ps) s l h = (first p (λ b e. h 0 b e), part_same cs os ps s.1 (omega arith) (λ n b e. h (suc n) b e))
+  where
+    first : (p : Option Block) → ((b : Block) → p ≡ Some b → o ≡ Some b) → SameOrGone c p
+    first None h = tt
+    first (Some b) h = subst (λ u. SameOrGone c u) (h b refl) s.0
+
+-- What nobody names may go.
+pub cut_worlds : (x : today.World) (y : World) (named : ℕ → ℕ) → WorldsAgree x y → WorldsAgree x (naming.trim named y)
+cut_worlds x y named w = record {
+  outside = w.outside;
+  frames = w.frames;
+  blocks = part_same x.blocks y.heap (stays inside named y.heap) w.blocks (stays_length inside named y.heap)
+      (λ n b e. stays_part inside named y.heap n b e);
+  instance = w.instance;
+}
 
 -- ---- in a world
 

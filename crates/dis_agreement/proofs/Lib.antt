@@ -7,3 +7,7 @@ pub mod Moving
 pub mod Controlling
 pub mod Steps
 pub mod Answers
+pub mod Traces
+pub mod Together
+pub mod Runs
+pub mod Openings

@@ -1,6 +1,7 @@
 //! That both machines do the same.
 
 ghost use Rattle.dis_agreement.specs.Laws.{StepsAgree, AnswersAgree};
+ghost use Rattle.dis_agreement.specs.Runs.{OpeningsAgree, TurnsAgree, RunsAgree};
 
 /// From states that agree, an instruction that doesn't fault on the machine that runs today does the same on the machine with memory, and
 /// the states behind it agree.
@@ -11,4 +12,20 @@ pub fn steps_agree()
 /// So does a reply to a print.
 pub fn answers_agree()
     ensures { AnswersAgree }
+{}
+
+/// Both machines of an object begin in states that agree, where the one that runs today begins at all.
+pub fn openings_agree()
+    ensures { OpeningsAgree }
+{}
+
+/// From states that agree, as many instructions of a process as don't fault lead to states that agree, with what goes behind each.
+pub fn turns_agree()
+    ensures { TurnsAgree }
+{}
+
+/// From states that agree, a journal whose replay has no fault on the machine that runs today is one of the machine with memory: the same
+/// is asked and printed, with the same replies and ends, and the states behind it agree.
+pub fn runs_agree()
+    ensures { RunsAgree }
 {}
