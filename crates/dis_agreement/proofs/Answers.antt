@@ -1,5 +1,5 @@
 -- A reply does the same on both machines.
-use Rattle.std.proofs.Common.{◌≡◌, ℕ, ℤ, refl, sym, ap, subst, inl, inr, []}
+use Rattle.std.proofs.Common.{◌≡◌, ℤ, refl, sym, ap, subst, inl}
 use Rattle.std.specs.Prelude.{Option, Some, None}
 use Rattle.styx_msg.specs.declared.message.Rmsg.{Rmsg}
 use Rattle.process_model.specs.Process.{Went}
@@ -13,12 +13,12 @@ use Rattle.dis_meaning.specs.Process.{Process, with_frames}
 use Rattle.dis_meaning.specs.Step as step
 use Rattle.dis_memory.specs.Blocks.{World}
 use Rattle.dis_memory.specs.Control as control
-use Rattle.dis_memory.specs.Sound.{IsThere, NothingDangles}
+use Rattle.dis_memory.specs.Sound.{IsThere}
 use Rattle.dis_counts.proofs.Replies.{hears_keep}
-use Rattle.dis_agreement.specs.Agreement.{WorldsAgree, WaitsInside, Agrees, IsRight, SameDone}
+use Rattle.dis_agreement.specs.Agreement.{WaitsInside, Agrees, IsRight, SameDone}
 use Rattle.dis_agreement.specs.Laws.{AnswersAgree}
-use Rattle.dis_agreement.proofs.Following.{Follows, found, chain}
-use Rattle.dis_agreement.proofs.Storing.{Done, Obeys}
+use Rattle.dis_agreement.proofs.Following.{found, chain}
+use Rattle.dis_agreement.proofs.Storing.{Obeys}
 use Rattle.dis_agreement.proofs.Controlling.{outside_agrees, answered_follows}
 use Rattle.dis_agreement.proofs.Steps.{or_faults}
 

@@ -1,9 +1,9 @@
 -- Blocks that agree, one by one.
-use Rattle.std.proofs.Common.{◌≡◌, ◌≢◌, ℕ, zero, suc, List, [], ◌∷◌, ◌++◌, length, refl, sym, ap, subst, ◌∙◌, ◌⊎◌, inl, inr, arith}
+use Rattle.std.proofs.Common.{◌≡◌, ℕ, zero, suc, List, [], ◌∷◌, ◌++◌, length, refl, sym, ap, subst, ◌∙◌, ◌⊎◌, inl, inr, arith}
 use Rattle.std.specs.Prelude.{Option, Some, None, slice_get, slice_set}
 use Rattle.heap_model.specs.Heap.{Heap, at, stays}
 use Rattle.heap_model.proofs.Heap.{stays_length, stays_part}
-use Rattle.dis_meaning.specs.Words.{Word, Access, Found, Wrong, Raises, ◌>>=◌, or_wrong, dead_address}
+use Rattle.dis_meaning.specs.Words.{Word, Found, ◌>>=◌, or_wrong, dead_address}
 use Rattle.dis_meaning.specs.World as today
 use Rattle.dis_meaning.specs.Places as today_places
 use Rattle.dis_memory.specs.Blocks as blocks
@@ -11,10 +11,9 @@ use Rattle.dis_memory.specs.Blocks.{Block, Instance, World, block, with_block, w
 use Rattle.dis_memory.specs.Places.{data_at, with_data}
 use Rattle.dis_memory.specs.Naming.{naming, inside}
 use Rattle.dis_memory.specs.Sound.{IsThere}
-use Rattle.dis_memory.proofs.Growing.{found_same}
 use Rattle.dis_counts.specs.Alike.{block_of}
 use Rattle.dis_agreement.specs.Agreement.{SameOrGone, SameBlocks, OneInstance, WorldsAgree}
-use Rattle.dis_agreement.proofs.Following.{Follows, found, wrong, raises, Same, finds, fails, throws}
+use Rattle.dis_agreement.proofs.Following.{Follows, found, wrong, Same, finds, fails}
 
 -- A block that is there is the same.
 same_at : (cs : List today.Content) (os : Heap Block) (n : ℕ) (c : today.Content) (b : Block) → SameBlocks cs os → slice_get cs n ≡ Some c

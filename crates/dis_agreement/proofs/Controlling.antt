@@ -3,7 +3,7 @@ use Rattle.std.proofs.Common.{◌≡◌, ℕ, suc, ℤ, Bool, true, false, List,
 use Rattle.std.specs.Prelude.{Option, Some, None, pos, slice_get, nat_lt, nat_eq, codes}
 use Rattle.std.specs.Ordering.{int_eq}
 use Rattle.std.specs.Str.{bytes_eq}
-use Rattle.process_model.specs.Process.{Went, Asks, Ends}
+use Rattle.process_model.specs.Process.{Went, Ends}
 use Rattle.dis_isa.specs.declared.inst.Inst.{Inst}
 use Rattle.dis_isa.specs.declared.inst.Operand.{Operand}
 use Rattle.dis_isa.specs.declared.op.Op.TheVariants as op
@@ -12,9 +12,9 @@ use Rattle.dis_file.specs.declared.types.TypeDesc.{TypeDesc}
 use Rattle.system_model.specs.Values.{Value}
 use Rattle.system_model.specs.World as outside
 use Rattle.system_model.specs.Prints.{Printing, Answers, Requests, NoReply, print}
-use Rattle.system_model.specs.Ending.{Ended, Broken}
-use Rattle.dis_meaning.specs.Words.{Place, InBlock, InFrame, Word, Plain, Refer, Address, Access, Found, Wrong, Raises, ◌>>=◌, type_check}
-use Rattle.dis_meaning.specs.Words.{or_wrong, word_at, reference, blank, dead_address}
+use Rattle.system_model.specs.Ending.{Broken}
+use Rattle.dis_meaning.specs.Words.{Place, InBlock, InFrame, Word, Plain, Refer, Address, Access, Found, Wrong, ◌>>=◌, type_check}
+use Rattle.dis_meaning.specs.Words.{or_wrong, word_at, blank, dead_address}
 use Rattle.dis_meaning.specs.World as today
 use Rattle.dis_meaning.specs.Process as process
 use Rattle.dis_meaning.specs.Process.{Frame, Process, with_frames, at_pc, height}
@@ -28,18 +28,16 @@ use Rattle.dis_memory.specs.Operands as operands
 use Rattle.dis_memory.specs.Control as control
 use Rattle.dis_memory.specs.Results as results
 use Rattle.dis_memory.specs.Process.{Does, next}
-use Rattle.dis_memory.specs.Kinds.{text_at}
 use Rattle.dis_memory.specs.Sound.{IsThere, SomeRefers, FramesRefer, NothingDangles}
 use Rattle.dis_memory.proofs.Growing.{both, found_same}
 use Rattle.dis_memory.proofs.Sound.{reference_sound}
 use Rattle.dis_counts.proofs.Named.{last_refer}
-use Rattle.dis_counts.specs.Alike.{block_of}
 use Rattle.dis_agreement.specs.Agreement.{WorldsAgree, WaitsInside}
 use Rattle.dis_agreement.proofs.Following.{Follows, found, wrong, raises, Same, finds, fails, throws, itself, chain, with_same, on}
 use Rattle.dis_agreement.proofs.Reading.{immediate_same, middle_immediate_same, target_same, behind_same, spot_same, word_same}
 use Rattle.dis_agreement.proofs.Reading.{reference_same}
 use Rattle.dis_agreement.proofs.Reading.{text_same, module_follows, function_same}
-use Rattle.dis_agreement.proofs.Storing.{Done, Obeys, MemoriesAgree, goes_on, then_next, store_follows, gives_reference, gives_sys}
+use Rattle.dis_agreement.proofs.Storing.{Obeys, MemoriesAgree, goes_on, then_next, store_follows, gives_reference, gives_sys}
 use Rattle.dis_agreement.proofs.Formatting.{printed_same}
 
 -- ---- frames

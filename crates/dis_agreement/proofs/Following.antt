@@ -1,6 +1,6 @@
 -- An access to one memory follows an access to another: where the first finds something, so does the second, and what it raises, the
 -- second raises. Where the first is wrong, the second may do anything.
-use Rattle.std.proofs.Common.{◌≡◌, ℕ, Bool, true, false, List, refl, sym, ap, subst, if◌then◌else◌}
+use Rattle.std.proofs.Common.{◌≡◌, ℕ, Bool, true, false, List, refl, if◌then◌else◌}
 use Rattle.std.specs.Prelude.{Option, Some, None}
 use Rattle.dis_meaning.specs.Words.{Access, Found, Wrong, Raises, ◌>>=◌, or_wrong}
 

@@ -1,21 +1,20 @@
 -- What a print prints is the same where its format fits its frame.
-use Rattle.std.proofs.Common.{◌≡◌, ℕ, suc, ℤ, Bool, true, false, List, [], ◌∷◌, ◌++◌, refl, sym, ap, subst, ◌∙◌, if◌then◌else◌}
+use Rattle.std.proofs.Common.{◌≡◌, ℕ, suc, ℤ, Bool, true, false, List, [], ◌∷◌, ◌++◌, ◌∙◌, if◌then◌else◌}
 use Rattle.std.specs.Prelude.{Option, Some, None, pos, negsuc, slice_get, ◌/◌, ◌%◌, ◌==◌, ◌&&◌, ◌+◌}
 use Rattle.std.specs.Fmt.{signed_decimal}
 use Rattle.std.specs.Int.{next_multiple_of}
 use Rattle.system_model.specs.Verbs.{character, hexadecimal}
 use Rattle.limbo_values.specs.declared.number.Kind.{Kind}
 use Rattle.limbo_values.specs.declared.number.Kind.TheVariants.{Byte, Int, Big}
-use Rattle.dis_meaning.specs.Words.{Word, Plain, Refer, Address, Access, Found, Wrong, Raises, ◌>>=◌, type_check, dead_address, or_wrong}
+use Rattle.dis_meaning.specs.Words.{Word, Plain, Refer, Address, Access, Found, Wrong, ◌>>=◌, type_check, dead_address, or_wrong}
 use Rattle.dis_meaning.specs.Words.{at_least_zero, word_number, word_at, number_in, plain, reference}
 use Rattle.dis_meaning.specs.World as today
-use Rattle.dis_meaning.specs.Numbers.{number_at, nth_number, joined}
+use Rattle.dis_meaning.specs.Numbers.{number_at, nth_number}
 use Rattle.dis_meaning.specs.Formats as old
 use Rattle.dis_meaning.specs.Formats.{in_front, bytes_taken}
 use Rattle.dis_meaning.specs.Step as step
 use Rattle.dis_memory.specs.Blocks.{World}
 use Rattle.dis_memory.specs.Formats as new
-use Rattle.dis_memory.specs.Kinds.{text_at}
 use Rattle.dis_memory.specs.Control as control
 use Rattle.dis_memory.specs.Sound.{IsThere, Refers, SomeRefers}
 use Rattle.dis_memory.proofs.Growing.{both, found_same}

@@ -11,3 +11,4 @@ pub mod Traces
 pub mod Together
 pub mod Runs
 pub mod Openings
+pub mod Returning

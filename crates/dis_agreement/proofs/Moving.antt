@@ -1,11 +1,11 @@
 -- A move of plain words is the same on both machines.
-use Rattle.std.proofs.Common.{◌≡◌, ℕ, zero, suc, ℤ, Bool, true, false, List, [], ◌∷◌, refl, sym, ap, subst, ◌∙◌, if◌then◌else◌}
+use Rattle.std.proofs.Common.{◌≡◌, ℕ, zero, suc, ℤ, Bool, true, false, List, [], ◌∷◌, refl, ap, ◌∙◌, if◌then◌else◌}
 use Rattle.std.specs.Prelude.{pos, negsuc, slice_get, ◌/◌, ◌%◌, ◌==◌, ◌&&◌}
-use Rattle.dis_meaning.specs.Words.{Word, Access, Found, Wrong, Raises, ◌>>=◌, type_check, or_wrong, at_least_zero, word_number, plain}
+use Rattle.dis_meaning.specs.Words.{Word, Found, Wrong, ◌>>=◌, type_check, or_wrong, at_least_zero, word_number, plain}
 use Rattle.dis_meaning.specs.Words.{replaced}
 use Rattle.dis_meaning.specs.Step.{plains, all_replaced}
 use Rattle.dis_memory.specs.Copies.{plain_words, put, moved, is_whole, bytes_from, put_bytes}
-use Rattle.dis_agreement.proofs.Following.{Follows, found, wrong, raises, Same, finds, fails, throws, itself, on, Calm, calm_then, calm_or}
+use Rattle.dis_agreement.proofs.Following.{Follows, found, wrong, Same, finds, itself, on, Calm, calm_then, calm_or}
 use Rattle.dis_agreement.proofs.Formatting.{calm_plain}
 
 -- A byte that begins a word, and the number of the word.

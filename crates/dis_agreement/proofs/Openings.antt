@@ -1,16 +1,15 @@
 -- Both machines begin in states that agree: what the first begins with has one instance, and else texts.
-use Rattle.std.proofs.Common.{◌≡◌, ℕ, zero, suc, ◌+◌, Bool, true, false, List, [], ◌∷◌, ◌++◌, length, refl, sym, ap, subst, if◌then◌else◌}
+use Rattle.std.proofs.Common.{◌≡◌, ℕ, zero, suc, Bool, true, false, List, [], ◌∷◌, ◌++◌, length, refl, sym, subst, if◌then◌else◌}
 use Rattle.std.specs.Prelude.{Option, Some, None, pos, slice_get, ◌==◌, map}
 use Rattle.inf_text.specs.Options as options
 use Rattle.process_model.specs.Process.{Doing, Ready}
 use Rattle.process_model.specs.Naming.{total}
-use Rattle.process_model.specs.Law.{begins_code}
 use Rattle.dis_file.specs.declared.object.Item.{Item}
 use Rattle.dis_file.specs.declared.object.Object.{Object}
 use Rattle.dis_file.specs.declared.types.TypeDesc.{TypeDesc}
 use Rattle.system_model.specs.Values.{Value}
 use Rattle.system_model.specs.World.{opening_world}
-use Rattle.dis_meaning.specs.Words.{Word, Refer, Access, stored, blank}
+use Rattle.dis_meaning.specs.Words.{Word, Refer, stored, blank}
 use Rattle.dis_meaning.specs.World as today
 use Rattle.dis_meaning.specs.Process.{Process}
 use Rattle.dis_meaning.specs.Opening as opening
@@ -18,11 +17,10 @@ use Rattle.dis_meaning.specs.Opening.{entered}
 use Rattle.dis_memory.specs.Naming.{naming}
 use Rattle.dis_counts.specs.Alike.{block_of, world_of}
 use Rattle.dis_counts.specs.Opening.{opens}
-use Rattle.dis_counts.specs.Counts.{begun}
 use Rattle.dis_counts.proofs.Beginning.{begins_alike}
 use Rattle.dis_counts.proofs.Exact.{opening_counts}
 use Rattle.dis_agreement.specs.Agreement.{SameBlocks, OneInstance, WorldsAgree, WaitsInside}
-use Rattle.dis_agreement.specs.Runs.{StandsInside, StatesAgree, OpeningsAgree}
+use Rattle.dis_agreement.specs.Runs.{StandsInside, OpeningsAgree}
 use Rattle.dis_agreement.proofs.Blocks.{cut_worlds}
 
 -- What holds of all that may come second.

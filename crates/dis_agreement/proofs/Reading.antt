@@ -1,8 +1,8 @@
 -- What operands name is the same, word by word and number by number.
-use Rattle.std.proofs.Common.{◌≡◌, ℕ, ℤ, Bool, true, false, List, [], ◌∷◌, refl, sym, ap, subst, ◌∙◌, if◌then◌else◌}
-use Rattle.std.specs.Prelude.{Option, Some, None, pos, negsuc, slice_get, nat_eq, nat_lt, length, ◌/◌, ◌%◌, ◌==◌}
+use Rattle.std.proofs.Common.{◌≡◌, ℕ, ℤ, [], refl, sym, ap, subst, ◌∙◌, if◌then◌else◌}
+use Rattle.std.specs.Prelude.{Option, Some, None, pos, slice_get, nat_lt, length, ◌/◌}
 use Rattle.limbo_values.specs.declared.number.Kind.{Kind}
-use Rattle.limbo_values.specs.declared.number.Kind.TheVariants.{Byte, Int, Big}
+use Rattle.limbo_values.specs.declared.number.Kind.TheVariants.{Int}
 use Rattle.limbo_values.specs.declared.operator.Comparison.{Comparison}
 use Rattle.limbo_values.specs.Operators.{compared}
 use Rattle.dis_isa.specs.declared.inst.Middle.{Middle}
@@ -13,7 +13,7 @@ use Rattle.dis_file.specs.declared.object.Object.{Object}
 use Rattle.dis_meaning.specs.Words.{InBlock, InFrame, Word, Plain, Refer, Address, Access, Found, Wrong, Raises, ◌>>=◌, type_check}
 use Rattle.dis_meaning.specs.Words.{or_wrong, at_least_zero, word_at, number_in, plain, reference, dead_address}
 use Rattle.dis_meaning.specs.World as today
-use Rattle.dis_meaning.specs.Numbers.{number_at, immediate_as}
+use Rattle.dis_meaning.specs.Numbers.{number_at}
 use Rattle.dis_meaning.specs.Process.{Process}
 use Rattle.dis_meaning.specs.Places as old
 use Rattle.dis_meaning.specs.Places.{Spot, Own, Data, Far, words_in, all_frames, place_in}
@@ -25,10 +25,9 @@ use Rattle.dis_memory.specs.Kinds.{text_at, text_in}
 use Rattle.dis_memory.specs.Control as control
 use Rattle.dis_memory.specs.Numbers as numbers
 use Rattle.dis_memory.specs.Sound.{IsThere}
-use Rattle.dis_memory.proofs.Growing.{found_same}
 use Rattle.dis_counts.specs.Alike.{block_of}
 use Rattle.dis_agreement.specs.Agreement.{WorldsAgree}
-use Rattle.dis_agreement.proofs.Following.{Follows, found, wrong, raises, Same, finds, fails, throws, itself, chain, with_same, on}
+use Rattle.dis_agreement.proofs.Following.{Follows, found, wrong, raises, Same, finds, fails, throws, itself, with_same, on}
 use Rattle.dis_agreement.proofs.Blocks.{same_block, block_follows, data_same}
 
 -- ---- operands that are immediates

@@ -1,7 +1,6 @@
 -- Runs of both machines agree, instruction by instruction and event by event.
-use Rattle.std.proofs.Common.{◌≡◌, ℕ, zero, suc, ◌+◌, ◌<◌, Bool, true, false, List, [], ◌∷◌, ◌++◌, refl, sym, ap, subst, ◌∙◌}
+use Rattle.std.proofs.Common.{◌≡◌, ℕ, zero, suc, Bool, true, false, List, [], ◌∷◌, ◌++◌, refl, sym, ap, subst, ◌∙◌}
 use Rattle.std.specs.Prelude.{Option, Some, None, slice_get, nat_lt, nat_eq, if◌then◌else◌}
-use Rattle.std.proofs.Math.ListN.{set}
 use Rattle.styx_msg.specs.declared.message.Rmsg.{Rmsg}
 use Rattle.process_model.specs.Process.{Went, Parks, Polls, Spawns, Asks, Ends, Doing, Ready, Waiting, Asking, Gone, Requested, Replied}
 use Rattle.process_model.specs.Process.{Over}
@@ -20,7 +19,7 @@ use Rattle.dis_memory.specs.Naming.{naming}
 use Rattle.dis_memory.specs.Process.{Does}
 use Rattle.dis_memory.specs.Rules.{rules}
 use Rattle.dis_memory.specs.Step as memory_step
-use Rattle.dis_counts.specs.Counts.{Machine, CountsAreExact}
+use Rattle.dis_counts.specs.Counts.{Machine}
 use Rattle.dis_counts.proofs.Exact.{events_keep_counts}
 use Rattle.dis_agreement.specs.Agreement.{IsRight, SameDone}
 use Rattle.dis_agreement.specs.Runs.{Today, NoFault, StatesAgree, ComesTo, TurnsAgree, RunsAgree}
@@ -30,27 +29,25 @@ use Rattle.dis_agreement.proofs.Together.{does_right, does_back}
 use Rattle.dis_agreement.proofs.Steps.{steps_agree}
 use Rattle.dis_agreement.proofs.Answers.{answers_agree}
 
-abbrev NextTurns : (limit : ℕ) → List Object → (i n : ℕ) → Option Today → Option Today
+abbrev pub NextTurns : (limit : ℕ) → List Object → (i n : ℕ) → Option Today → Option Today
 NextTurns limit objects i n o =
     elim o as (λ _. Option Today) [ None ↦ None | Some u ↦ machine.turns (today_rules.rules limit objects) no_names i n u ]
 
 module _ (limit : ℕ) (objects : List Object) where
   -- ---- instructions
 
-  abbrev obeyed : Today → (i : ℕ) → Option (Doing Process Value) → Option Today
+  abbrev pub obeyed : Today → (i : ℕ) → Option (Doing Process Value) → Option Today
   obeyed s i o = machine.obey (today_rules.rules limit objects) no_names s i (machine.ready o)
 
-  abbrev obeys : Machine → (i : ℕ) → Option (Doing Process Value) → Option Machine
+  abbrev pub obeys : Machine → (i : ℕ) → Option (Doing Process Value) → Option Machine
   obeys t i o = machine.obey (rules limit objects) naming t i (machine.ready o)
 
-  obey_agrees : (i : ℕ) (s last : Today) (t : Machine) → StatesAgree s t → (o : Option (Doing Process Value)) → slice_get s.processes i ≡ o
-      → obeyed s i o ≡ Some last → NoFault last.trace → ComesTo (obeys t i (slice_get t.processes i)) last
-  obey_agrees i s last t a (Some (Ready p)) at e n =
+  pub obey_right : (i : ℕ) (s : Today) (t : Machine) (p : Process) → StatesAgree s t → slice_get s.processes i ≡ Some (Ready p)
+      → IsRight (step.step limit objects s.world p)
+      → ComesTo (obeys t i (slice_get t.processes i))
+      (machine.cut no_names i (machine.does (today_rules.rules limit objects) s i (step.step limit objects s.world p)))
+  obey_right i s t p a at right =
       let d = step.step limit objects s.world p in
-      let v = machine.does (today_rules.rules limit objects) s i d in
-      let same : machine.cut no_names i v ≡ last = cc in
-      let right : IsRight d = does_right limit objects i s d
-      (no_fault_before v.trace [] (subst (λ (u : Today). NoFault u.trace) (sym same) n)) in
       let done : SameDone d (memory_step.step limit objects t.world p) =
       steps_agree limit objects s.world t.world p (process_agrees s t i (Ready p) p a at (λ n q. q) (λ k. k)) right in
       let w = machine.does (rules limit objects) t i (memory_step.step limit objects t.world p) in
@@ -62,10 +59,20 @@ module _ (limit : ℕ) (objects : List Object) where
         after = machine.cut naming i w;
         is = there;
         agrees =
-            subst (λ u. StatesAgree u (machine.cut naming i w)) same
-            (cut_agrees i v w (does_near limit objects i s t (near_of s t a) d (memory_step.step limit objects t.world p) done)
-            (events_keep_counts.instructions limit objects t (machine.cut naming i w) i 1 a.counts turned));
+            cut_agrees i (machine.does (today_rules.rules limit objects) s i d) w
+            (does_near limit objects i s t (near_of s t a) d (memory_step.step limit objects t.world p) done)
+            (events_keep_counts.instructions limit objects t (machine.cut naming i w) i 1 a.counts turned);
       }
+
+  obey_agrees : (i : ℕ) (s last : Today) (t : Machine) → StatesAgree s t → (o : Option (Doing Process Value)) → slice_get s.processes i ≡ o
+      → obeyed s i o ≡ Some last → NoFault last.trace → ComesTo (obeys t i (slice_get t.processes i)) last
+  obey_agrees i s last t a (Some (Ready p)) at e n =
+      let d = step.step limit objects s.world p in
+      let v = machine.does (today_rules.rules limit objects) s i d in
+      let same : machine.cut no_names i v ≡ last = cc in
+      let right : IsRight d = does_right limit objects i s d
+      (no_fault_before v.trace [] (subst (λ (u : Today). NoFault u.trace) (sym same) n)) in
+      subst (λ u. ComesTo (obeys t i (slice_get t.processes i)) u) same (obey_right i s t p a at right)
   obey_agrees i s last t a (Some (Waiting bs p)) at e n = absurd cc
   obey_agrees i s last t a (Some (Asking p)) at e n = absurd cc
   obey_agrees i s last t a (Some Gone) at e n = absurd cc
@@ -160,16 +167,16 @@ module _ (limit : ℕ) (objects : List Object) where
   answered_back s v i a (Polls x bs p q) e n = absurd cc
   answered_back s v i a (Spawns x child p) e n = absurd cc
 
-  abbrev cut_today : (i : ℕ) → Option Today → Option Today
+  abbrev pub cut_today : (i : ℕ) → Option Today → Option Today
   cut_today i o = elim o as (λ _. Option Today) [ None ↦ None | Some u ↦ Some (machine.cut no_names i u) ]
 
-  abbrev cut_memory : (i : ℕ) → Option Machine → Option Machine
+  abbrev pub cut_memory : (i : ℕ) → Option Machine → Option Machine
   cut_memory i o = elim o as (λ _. Option Machine) [ None ↦ None | Some u ↦ Some (machine.cut naming i u) ]
 
-  abbrev reply_today : Today → (i : ℕ) → Rmsg → Option (Doing Process Value) → Option Today
+  abbrev pub reply_today : Today → (i : ℕ) → Rmsg → Option (Doing Process Value) → Option Today
   reply_today s i a o = machine.replied (today_rules.rules limit objects) no_names s i a o
 
-  abbrev reply_memory : Machine → (i : ℕ) → Rmsg → Option (Doing Process Value) → Option Machine
+  abbrev pub reply_memory : Machine → (i : ℕ) → Rmsg → Option (Doing Process Value) → Option Machine
   reply_memory t i a o = machine.replied (rules limit objects) naming t i a o
 
   -- What stands before the cut, of what stands behind it.
@@ -222,16 +229,16 @@ module _ (limit : ℕ) (objects : List Object) where
 
   -- ---- events
 
-  abbrev event_today : (longest : ℕ) → Today → Event Rmsg → Option Today
+  abbrev pub event_today : (longest : ℕ) → Today → Event Rmsg → Option Today
   event_today longest s e = machine.happens (today_rules.rules limit objects) no_names longest s e
 
-  abbrev event_memory : (longest : ℕ) → Machine → Event Rmsg → Option Machine
+  abbrev pub event_memory : (longest : ℕ) → Machine → Event Rmsg → Option Machine
   event_memory longest t e = machine.happens (rules limit objects) naming longest t e
 
-  abbrev whole_today : (longest i n : ℕ) → Option Today → Option Today
+  abbrev pub whole_today : (longest i n : ℕ) → Option Today → Option Today
   whole_today longest i n o = elim o as (λ _. Option Today) [ None ↦ None | Some u ↦ machine.is_whole longest i n u ]
 
-  abbrev whole_memory : (longest i n : ℕ) → Option Machine → Option Machine
+  abbrev pub whole_memory : (longest i n : ℕ) → Option Machine → Option Machine
   whole_memory longest i n o = elim o as (λ _. Option Machine) [ None ↦ None | Some u ↦ machine.is_whole longest i n u ]
 
   -- A quantum is whole on both.
@@ -270,7 +277,7 @@ module _ (limit : ℕ) (objects : List Object) where
           full true e = cc
           full false e = absurd cc
 
-  event_agrees : (longest : ℕ) (e : Event Rmsg) (s last : Today) (t : Machine) → StatesAgree s t → event_today longest s e ≡ Some last
+  pub event_agrees : (longest : ℕ) (e : Event Rmsg) (s last : Today) (t : Machine) → StatesAgree s t → event_today longest s e ≡ Some last
       → NoFault last.trace → ComesTo (event_memory longest t e) last
   event_agrees longest (Quantum i zero) s last t a e n = absurd cc
   event_agrees longest (Quantum i (suc k)) s last t a e n = fits (nat_lt longest (suc k)) e
@@ -316,11 +323,11 @@ module _ (limit : ℕ) (objects : List Object) where
 
   -- ---- journals
 
-  abbrev rest_today : (longest : ℕ) → List (Event Rmsg) → Option Today → Option Today
+  abbrev pub rest_today : (longest : ℕ) → List (Event Rmsg) → Option Today → Option Today
   rest_today longest journal o =
       elim o as (λ _. Option Today) [ None ↦ None | Some u ↦ machine.replay (today_rules.rules limit objects) no_names longest u journal ]
 
-  abbrev rest_memory : (longest : ℕ) → List (Event Rmsg) → Option Machine → Option Machine
+  abbrev pub rest_memory : (longest : ℕ) → List (Event Rmsg) → Option Machine → Option Machine
   rest_memory longest journal o =
       elim o as (λ _. Option Machine) [ None ↦ None | Some u ↦ machine.replay (rules limit objects) naming longest u journal ]
 

@@ -1,10 +1,9 @@
 -- Each instruction that is right does the same on both machines.
-use Rattle.std.proofs.Common.{◌≡◌, ℕ, ℤ, Bool, true, false, List, [], ◌∷◌, refl, sym, ap, subst, ◌∙◌, inl, inr, if◌then◌else◌}
-use Rattle.std.specs.Prelude.{Option, Some, None, pos, slice_get, Result, Ok, Err, ◌/◌}
-use Rattle.process_model.specs.Process.{Went, Parks, Polls, Spawns, Asks, Ends}
+use Rattle.std.proofs.Common.{◌≡◌, ℕ, ℤ, Bool, true, false, List, refl, sym, subst, inl}
+use Rattle.std.specs.Prelude.{Option, Some, None, pos, slice_get, Result, Ok}
+use Rattle.process_model.specs.Process.{Went, Parks, Asks, Ends}
 use Rattle.limbo_values.specs.declared.number.Kind.{Kind}
 use Rattle.limbo_values.specs.declared.number.Kind.TheVariants.{Byte, Int, Big}
-use Rattle.limbo_values.specs.declared.operator.Comparison.{Comparison}
 use Rattle.limbo_values.specs.declared.raised.Raised.{Raised}
 use Rattle.limbo_values.specs.Numbers.{wrapped}
 use Rattle.limbo_values.specs.Operators.{applied, shifted, compared}
@@ -14,7 +13,7 @@ use Rattle.dis_isa.specs.declared.inst.Operand.TheVariants as operand
 use Rattle.dis_isa.specs.declared.op.Op.{Op}
 use Rattle.dis_isa.specs.declared.op.Op.TheVariants as op
 use Rattle.dis_file.specs.declared.object.Object.{Object}
-use Rattle.dis_meaning.specs.Words.{InBlock, InFrame, Word, Plain, Refer, Address, Access, Found, Wrong, Raises, ◌>>=◌, type_check}
+use Rattle.dis_meaning.specs.Words.{Word, Plain, Refer, Address, Access, Found, ◌>>=◌, type_check}
 use Rattle.dis_meaning.specs.Words.{bad_jump}
 use Rattle.dis_meaning.specs.Words.{or_wrong, at_least_zero, word_number, plain, dead_address}
 use Rattle.dis_meaning.specs.World as today
@@ -25,11 +24,10 @@ use Rattle.dis_meaning.specs.Places as old
 use Rattle.dis_meaning.specs.Places.{Spot, Own, Data, Far, place_in, address}
 use Rattle.dis_meaning.specs.Step as step
 use Rattle.dis_meaning.specs.Step.{plains, all_replaced}
-use Rattle.dis_memory.specs.Blocks.{World, Instance, block}
+use Rattle.dis_memory.specs.Blocks.{World, block}
 use Rattle.dis_memory.specs.Places as new
 use Rattle.dis_memory.specs.Process.{Does, next, or_fault}
 use Rattle.dis_memory.specs.Raising.{unless_raised}
-use Rattle.dis_memory.specs.Copies.{moved, put}
 use Rattle.dis_memory.specs.Operands as operands
 use Rattle.dis_memory.specs.Results as results
 use Rattle.dis_memory.specs.Data as data_ops
@@ -38,16 +36,16 @@ use Rattle.dis_memory.specs.Step as memory_step
 use Rattle.dis_memory.specs.Sound.{IsThere, NothingDangles, NothingDanglesAfter}
 use Rattle.dis_memory.proofs.Growing.{both, found_same}
 use Rattle.dis_memory.proofs.Keeping.{nothing_comes_to_dangle}
-use Rattle.dis_agreement.specs.Agreement.{WorldsAgree, Agrees, IsRight, SameDone}
+use Rattle.dis_agreement.specs.Agreement.{WorldsAgree, IsRight, SameDone}
 use Rattle.dis_agreement.specs.Laws.{StepsAgree}
-use Rattle.dis_agreement.proofs.Following.{Follows, found, wrong, raises, Same, finds, fails, throws, itself, chain, with_same, on, besides}
+use Rattle.dis_agreement.proofs.Following.{found, wrong, raises, itself, chain, with_same, on, besides}
 use Rattle.dis_agreement.proofs.Blocks.{same_block}
-use Rattle.dis_agreement.proofs.Reading.{words_same, read_same, around_same, spot_same, source_same, plain_same, reference_same}
+use Rattle.dis_agreement.proofs.Reading.{words_same, around_same, spot_same, source_same, plain_same, reference_same}
 use Rattle.dis_agreement.proofs.Reading.{given_same, middle_same}
 use Rattle.dis_agreement.proofs.Reading.{source_compared, middle_compared, words_compared, target_same}
-use Rattle.dis_agreement.proofs.Storing.{Done, Obeys, then_next, goes_on, words_follow, gives_plain, gives_reference, gives_number}
+use Rattle.dis_agreement.proofs.Storing.{Done, Obeys, then_next, words_follow, gives_plain, gives_reference, gives_number}
 use Rattle.dis_agreement.proofs.Formatting.{calm_number_of}
-use Rattle.dis_agreement.proofs.Moving.{Begins, begins, whole_follows, calm_plains, put_same, moved_is}
+use Rattle.dis_agreement.proofs.Moving.{begins, whole_follows, calm_plains, put_same, moved_is}
 use Rattle.dis_agreement.proofs.Controlling.{returns_same, jmp_same, frame_obeys, call_same, load_same, mcall_same}
 
 -- ---- plain words

@@ -1,12 +1,12 @@
 -- What is stored leaves memories that agree, and so what an instruction that goes on leaves.
-use Rattle.std.proofs.Common.{◌≡◌, ℕ, suc, ℤ, Bool, true, false, List, [], ◌∷◌, ◌++◌, length, refl, sym, ap, subst, ◌∙◌, if◌then◌else◌}
+use Rattle.std.proofs.Common.{◌≡◌, ℕ, suc, ℤ, Bool, true, false, List, length, refl, sym, ap, subst, if◌then◌else◌}
 use Rattle.std.specs.Prelude.{Option, Some, None, pos, negsuc, slice_get, slice_set, ◌/◌, ◌%◌, ◌==◌, Result, Ok, Err}
-use Rattle.process_model.specs.Process.{Went, Parks, Polls, Spawns, Asks, Ends}
+use Rattle.process_model.specs.Process.{Went, Parks, Asks, Ends}
 use Rattle.limbo_values.specs.declared.number.Kind.{Kind}
 use Rattle.limbo_values.specs.declared.raised.Raised.{Raised}
 use Rattle.limbo_values.specs.Operators.{text_of}
 use Rattle.dis_meaning.specs.Words.{InBlock, InFrame, Word, Plain, Refer, Address, Access, Found, Wrong, Raises, ◌>>=◌, type_check}
-use Rattle.dis_meaning.specs.Words.{or_wrong, word_at, word_number, fits, replaced, stored, plain, reference, dead_address}
+use Rattle.dis_meaning.specs.Words.{or_wrong, word_at, fits, replaced, stored, plain, reference}
 use Rattle.dis_meaning.specs.World as today
 use Rattle.dis_meaning.specs.Laws.{ComeAlike}
 use Rattle.dis_meaning.specs.Numbers.{number_at, with_number_at}
@@ -16,19 +16,18 @@ use Rattle.dis_meaning.specs.Places as old
 use Rattle.dis_meaning.specs.Places.{Spot, Own, Data, Far, words_in, all_frames, place_in, with_frame_words}
 use Rattle.dis_meaning.specs.Step as step
 use Rattle.dis_meaning.proofs.Replacing as replacing
-use Rattle.dis_memory.specs.Blocks.{Block, Sys, World, with_block, next_serial}
+use Rattle.dis_memory.specs.Blocks.{Sys, World, with_block}
 use Rattle.dis_memory.specs.Places as new
 use Rattle.dis_memory.specs.Places.{memory}
 use Rattle.dis_memory.specs.Process.{Does, next}
 use Rattle.dis_memory.specs.Raising.{unless_raised}
 use Rattle.dis_memory.specs.Results as results
 use Rattle.dis_memory.specs.Sound.{IsThere}
-use Rattle.dis_memory.proofs.Growing.{found_same, more_there}
-use Rattle.dis_counts.specs.Alike.{block_of}
+use Rattle.dis_memory.proofs.Growing.{more_there}
 use Rattle.dis_agreement.specs.Agreement.{WorldsAgree, WaitsInside}
-use Rattle.dis_agreement.proofs.Following.{Follows, found, wrong, raises, Same, finds, fails, throws, itself, chain, with_same, on}
-use Rattle.dis_agreement.proofs.Blocks.{data_same, data_before, data_changes, with_sys, same_serial}
-use Rattle.dis_agreement.proofs.Reading.{words_same, spot_same, number_same}
+use Rattle.dis_agreement.proofs.Following.{Follows, found, wrong, raises, Same, finds, fails, throws, itself, chain, with_same}
+use Rattle.dis_agreement.proofs.Blocks.{data_before, data_changes, with_sys, same_serial}
+use Rattle.dis_agreement.proofs.Reading.{words_same, number_same}
 
 -- ---- effects
 

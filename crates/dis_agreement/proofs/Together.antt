@@ -1,5 +1,5 @@
 -- What one effect does to all processes keeps states together.
-use Rattle.std.proofs.Common.{◌≡◌, ℕ, zero, suc, ◌+◌, ◌<◌, List, [], ◌∷◌, ◌++◌, refl, sym, ap, subst, ◌∙◌, ◌⊎◌, inl, inr, arith}
+use Rattle.std.proofs.Common.{◌≡◌, ℕ, zero, suc, ◌<◌, List, [], ◌∷◌, ◌++◌, refl, sym, ap, subst, ◌∙◌, ◌⊎◌, inl, inr, arith}
 use Rattle.std.specs.Prelude.{Option, Some, None, slice_get}
 use Rattle.std.proofs.Math.ListN.{set}
 use Rattle.process_model.specs.Process.{Branch, Went, Parks, Polls, Spawns, Asks, Ends, Doing, Ready, Waiting, Asking, Gone}
@@ -14,16 +14,14 @@ use Rattle.system_model.specs.Values.{Value}
 use Rattle.system_model.specs.Ending.{Ending, Ended, Broken, Faulted}
 use Rattle.system_model.specs.Prints.{Request}
 use Rattle.styx_msg.specs.declared.message.Rmsg.{Rmsg}
-use Rattle.heap_model.specs.Heap.{in_all}
 use Rattle.dis_meaning.specs.World as today
 use Rattle.dis_meaning.specs.Rules as today_rules
 use Rattle.dis_meaning.specs.Process as process
 use Rattle.dis_meaning.specs.Process.{Process}
 use Rattle.dis_memory.specs.Blocks.{World}
-use Rattle.dis_memory.specs.Naming.{naming, names, inside}
+use Rattle.dis_memory.specs.Naming.{naming, names}
 use Rattle.dis_memory.specs.Process.{Does}
 use Rattle.dis_memory.specs.Rules.{rules}
-use Rattle.dis_memory.specs.Sound.{NothingDangles}
 use Rattle.dis_counts.specs.Counts.{Machine, CountsAreExact}
 use Rattle.dis_counts.proofs.Named.{nothing_dangles, there_of}
 use Rattle.dis_agreement.specs.Agreement.{WorldsAgree, WaitsInside, Agrees, IsRight, SameDone}

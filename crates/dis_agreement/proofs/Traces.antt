@@ -1,5 +1,5 @@
 -- What traces tell, piece by piece.
-use Rattle.std.proofs.Common.{◌≡◌, ℕ, Bool, true, false, List, [], ◌∷◌, ◌++◌, refl, sym, ap, ◌∙◌, if◌then◌else◌}
+use Rattle.std.proofs.Common.{◌≡◌, ℕ, Bool, true, false, List, [], ◌∷◌, ◌++◌, refl, ap, ◌∙◌, if◌then◌else◌}
 use Rattle.process_model.specs.Process.{Branch, Entry, Requested, Replied, Passed, Over, Released, Lost, released}
 use Rattle.process_model.specs.Process as process
 use Rattle.system_model.specs.Values.{Value}

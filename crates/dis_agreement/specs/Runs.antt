@@ -76,6 +76,26 @@ RunsAgree =
     replay (today_rules.rules limit objects) no_names longest s journal ≡ Some last → NoFault last.trace →
     ComesTo (replay (rules limit objects) naming longest t journal) last
 
+-- From this state no journal comes to a fault on the machine that runs today.
+abbrev pub NeverFaults : (limit longest : ℕ) → List Object → Today → Type 0
+NeverFaults limit longest objects s =
+    (journal : List (Event Rmsg)) (u : Today) → replay (today_rules.rules limit objects) no_names longest s journal ≡ Some u →
+    NoFault u.trace
+
+-- The machine that runs today comes to a state that agrees with this one.
+pub record ComesAlike (o : Option Today) (last : Machine) : Type 0 where
+  pub after : Today
+  pub is : o ≡ Some after
+  pub agrees : StatesAgree after last
+
+-- And back: where today's machine never faults, each journal that has a replay on the machine with memory has one on today's. So what holds
+-- of all that today's machine may tell, holds of all that the machine with memory may.
+abbrev pub RunsReturn : Type 0
+RunsReturn =
+    (limit longest : ℕ) (objects : List Object) (journal : List (Event Rmsg)) (s : Today) (t last : Machine) → StatesAgree s t →
+    NeverFaults limit longest objects s → replay (rules limit objects) naming longest t journal ≡ Some last →
+    ComesAlike (replay (today_rules.rules limit objects) no_names longest s journal) last
+
 -- Both begin in states that agree.
 abbrev pub OpeningsAgree : Type 0
 OpeningsAgree =

@@ -1,7 +1,7 @@
 //! That both machines do the same.
 
 ghost use Rattle.dis_agreement.specs.Laws.{StepsAgree, AnswersAgree};
-ghost use Rattle.dis_agreement.specs.Runs.{OpeningsAgree, TurnsAgree, RunsAgree};
+ghost use Rattle.dis_agreement.specs.Runs.{OpeningsAgree, TurnsAgree, RunsAgree, RunsReturn};
 
 /// From states that agree, an instruction that doesn't fault on the machine that runs today does the same on the machine with memory, and
 /// the states behind it agree.
@@ -28,4 +28,10 @@ pub fn turns_agree()
 /// is asked and printed, with the same replies and ends, and the states behind it agree.
 pub fn runs_agree()
     ensures { RunsAgree }
+{}
+
+/// And back: where today's machine never faults, a journal that has a replay on the machine with memory has one on today's, and the states
+/// behind it agree. So what is proved of all runs of such a program today holds of all its runs with memory.
+pub fn runs_return()
+    ensures { RunsReturn }
 {}

@@ -2,14 +2,14 @@
 //! only definitions and laws: what is proved of programs over the first machine is to hold over the second by them.
 //!
 //! `specs/` in the order of reading: `Agreement` (when two states agree for a process, and when both machines did the same), `Laws` (that
-//! an instruction and a reply do), `Runs` (when whole machines agree, and that openings, instructions and journals keep them so).
+//! an instruction and a reply do), `Runs` (when whole machines agree, that openings, instructions and journals keep them so, and back).
 //!
 //! In `proofs/` an access to one memory follows an access to another (`Following`): `Blocks`, `Reading` and `Storing` say so of what
 //! operands name, `Formatting` of prints, `Moving` of moved words, `Controlling` of calls, modules and prints; `Steps` goes through the
 //! instructions, `Answers` through replies. `Traces` and `Together` say what one effect does to all processes, `Runs` puts these together,
-//! and `Openings` is how both begin.
+//! `Returning` goes back from the machine with memory, and `Openings` is how both begin.
 #![tactic(auto)]
 
 mod laws;
 
-pub use laws::{answers_agree, openings_agree, runs_agree, steps_agree, turns_agree};
+pub use laws::{answers_agree, openings_agree, runs_agree, runs_return, steps_agree, turns_agree};
