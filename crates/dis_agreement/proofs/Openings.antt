@@ -1,8 +1,10 @@
 -- Both machines begin in states that agree: what the first begins with has one instance, and else texts.
-use Rattle.std.proofs.Common.{◌≡◌, ℕ, zero, suc, Bool, true, false, List, [], ◌∷◌, ◌++◌, length, refl, sym, subst, if◌then◌else◌}
+use Rattle.std.proofs.Common.{◌≡◌, ℕ, zero, suc, Bool, true, false, List, [], ◌∷◌, ◌++◌, length, refl, sym, subst, ◌∙◌, if◌then◌else◌}
 use Rattle.std.specs.Prelude.{Option, Some, None, pos, slice_get, ◌==◌, map}
 use Rattle.inf_text.specs.Options as options
 use Rattle.process_model.specs.Process.{Doing, Ready}
+use Rattle.process_model.specs.Law.{begins_code}
+use Rattle.process_model.specs.Machine as machine
 use Rattle.process_model.specs.Naming.{total}
 use Rattle.dis_file.specs.declared.object.Item.{Item}
 use Rattle.dis_file.specs.declared.object.Object.{Object}
@@ -15,13 +17,17 @@ use Rattle.dis_meaning.specs.Process.{Process}
 use Rattle.dis_meaning.specs.Opening as opening
 use Rattle.dis_meaning.specs.Opening.{entered}
 use Rattle.dis_memory.specs.Naming.{naming}
+use Rattle.dis_memory.specs.Rules.{rules}
+use Rattle.dis_memory.proofs.Growing.{found_same}
 use Rattle.dis_counts.specs.Alike.{block_of, world_of}
+use Rattle.dis_counts.specs.Counts.{begun}
 use Rattle.dis_counts.specs.Opening.{opens}
 use Rattle.dis_counts.proofs.Beginning.{begins_alike}
 use Rattle.dis_counts.proofs.Exact.{opening_counts}
 use Rattle.dis_agreement.specs.Agreement.{SameBlocks, OneInstance, WorldsAgree, WaitsInside}
-use Rattle.dis_agreement.specs.Runs.{StandsInside, OpeningsAgree}
+use Rattle.dis_agreement.specs.Runs.{StandsInside, OpeningsAgree, ProgramsRunAlike}
 use Rattle.dis_agreement.proofs.Blocks.{cut_worlds}
+use Rattle.dis_agreement.proofs.Returning.{runs_return}
 
 -- What holds of all that may come second.
 behind : {S T : Type 0} (P : T → Type 0) (a : Option S) (f : S → Option T) → ((s : S) (t : T) → f s ≡ Some t → P t) → (t : T)
@@ -151,3 +157,10 @@ openings_agree o m e =
     stands : (pid : ℕ) (d : Doing Process Value) → m.first.printing ≡ None → slice_get (Ready m.first ∷ []) pid ≡ Some d → StandsInside d
     stands zero d q at = last_of StandsInside (Ready m.first) d (subst (λ k. WaitsInside m.first.frame.instance k) (sym q) tt) at
     stands (suc pid) d q at = absurd cc
+
+pub programs_run_alike : ProgramsRunAlike
+programs_run_alike limit longest o others m n e f never journal last r =
+    let same : opens (world_of m.world) m.first ≡ n = found_same _ n (sym (begins_alike o m e) ∙ f) in
+    runs_return limit longest (o ∷ others) journal (begins_code m.world m.first) (begun (opens (world_of m.world) m.first)) last
+    (openings_agree o m e) never
+    (subst (λ n. machine.replay (rules limit (o ∷ others)) naming longest (begun n) journal ≡ Some last) (sym same) r)

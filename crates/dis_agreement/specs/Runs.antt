@@ -9,6 +9,7 @@ use Rattle.dis_file.specs.declared.object.Object.{Object}
 use Rattle.system_model.specs.Values.{Value}
 use Rattle.system_model.specs.Prints.{Request}
 use Rattle.system_model.specs.Ending.{Ending, Faulted}
+use Rattle.dis_meaning.specs.Words.{Found}
 use Rattle.dis_meaning.specs.World as today
 use Rattle.dis_meaning.specs.Rules as today_rules
 use Rattle.dis_meaning.specs.Opening as today_opening
@@ -16,7 +17,7 @@ use Rattle.dis_meaning.specs.Process.{Process}
 use Rattle.dis_memory.specs.Naming.{naming}
 use Rattle.dis_memory.specs.Rules.{rules}
 use Rattle.dis_counts.specs.Alike.{world_of}
-use Rattle.dis_counts.specs.Opening.{opens}
+use Rattle.dis_counts.specs.Opening.{Opened, opens, opened}
 use Rattle.dis_counts.specs.Counts.{Machine, CountsAreExact, begun}
 use Rattle.dis_agreement.specs.Agreement.{WorldsAgree, WaitsInside}
 
@@ -101,3 +102,14 @@ abbrev pub OpeningsAgree : Type 0
 OpeningsAgree =
     (o : Object) (m : today_opening.Opened) → today_opening.opened o ≡ Some m →
     StatesAgree (begins_code m.world m.first) (begun (opens (world_of m.world) m.first))
+
+-- So it is of a program, by its objects, from the beginning on: where no journal of it faults on today's machine, each journal that has a
+-- replay on the machine with memory has one on today's, of which the same is told.
+abbrev pub ProgramsRunAlike : Type 0
+ProgramsRunAlike =
+    (limit longest : ℕ) (o : Object) (others : List Object) (m : today_opening.Opened) (n : Opened) →
+    today_opening.opened o ≡ Some m → opened o ≡ Found n →
+    NeverFaults limit longest (o ∷ others) (begins_code m.world m.first) →
+    (journal : List (Event Rmsg)) (last : Machine) →
+    replay (rules limit (o ∷ others)) naming longest (begun n) journal ≡ Some last →
+    ComesAlike (replay (today_rules.rules limit (o ∷ others)) no_names longest (begins_code m.world m.first) journal) last

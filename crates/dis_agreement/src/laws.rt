@@ -1,7 +1,7 @@
 //! That both machines do the same.
 
 ghost use Rattle.dis_agreement.specs.Laws.{StepsAgree, AnswersAgree};
-ghost use Rattle.dis_agreement.specs.Runs.{OpeningsAgree, TurnsAgree, RunsAgree, RunsReturn};
+ghost use Rattle.dis_agreement.specs.Runs.{OpeningsAgree, TurnsAgree, RunsAgree, RunsReturn, ProgramsRunAlike};
 
 /// From states that agree, an instruction that doesn't fault on the machine that runs today does the same on the machine with memory, and
 /// the states behind it agree.
@@ -34,4 +34,10 @@ pub fn runs_agree()
 /// behind it agree. So what is proved of all runs of such a program today holds of all its runs with memory.
 pub fn runs_return()
     ensures { RunsReturn }
+{}
+
+/// So it is of a program whose journals never fault today, from the beginning on: each of its journals with memory is one of today's, and
+/// the same is told.
+pub fn programs_run_alike()
+    ensures { ProgramsRunAlike }
 {}

@@ -12,4 +12,7 @@
 
 mod laws;
 
-pub use laws::{answers_agree, openings_agree, runs_agree, runs_return, steps_agree, turns_agree};
+pub use laws::{
+    answers_agree, openings_agree, programs_run_alike, runs_agree, runs_return, steps_agree,
+    turns_agree,
+};
