@@ -12,3 +12,4 @@ pub mod Together
 pub mod Runs
 pub mod Openings
 pub mod Returning
+pub mod Faultless

@@ -60,3 +60,21 @@ no_fault_behind (Over i (Broken text) ∷ es) fs n = no_fault_behind es fs n
 no_fault_behind (Over i (Faulted number pc) ∷ es) fs n = absurd n
 no_fault_behind (Released i ns ∷ es) fs n = no_fault_behind es fs n
 no_fault_behind (Lost l ∷ es) fs n = no_fault_behind es fs n
+
+pub no_fault_on : (es fs : Trace) → NoFault es → NoFault fs → NoFault (es ++ fs)
+no_fault_on [] fs n m = m
+no_fault_on (Requested i r ∷ es) fs n m = no_fault_on es fs n m
+no_fault_on (Replied i a ∷ es) fs n m = no_fault_on es fs n m
+no_fault_on (Passed c v s x r o ∷ es) fs n m = no_fault_on es fs n m
+no_fault_on (Over i Ended ∷ es) fs n m = no_fault_on es fs n m
+no_fault_on (Over i (Broken text) ∷ es) fs n m = no_fault_on es fs n m
+no_fault_on (Over i (Faulted number pc) ∷ es) fs n m = n
+no_fault_on (Released i ns ∷ es) fs n m = no_fault_on es fs n m
+no_fault_on (Lost l ∷ es) fs n m = no_fault_on es fs n m
+
+pub passed_right : (i k : ℕ) (a : Branch Value) (j l : ℕ) (b : Branch Value) → NoFault (process.told i k a j l b ∷ [])
+passed_right i k a j l b = go a.sends
+  where
+    go : (c : Bool) → NoFault ((if c then Passed a.channel a.value i k j l else Passed a.channel b.value j l i k) ∷ [])
+    go true = tt
+    go false = tt

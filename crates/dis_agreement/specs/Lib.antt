@@ -1,3 +1,4 @@
 pub mod Agreement
 pub mod Laws
 pub mod Runs
+pub mod Faultless

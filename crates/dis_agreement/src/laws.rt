@@ -1,5 +1,6 @@
 //! That both machines do the same.
 
+ghost use Rattle.dis_agreement.specs.Faultless.{RightNeverFaults};
 ghost use Rattle.dis_agreement.specs.Laws.{StepsAgree, AnswersAgree};
 ghost use Rattle.dis_agreement.specs.Runs.{OpeningsAgree, TurnsAgree, RunsAgree, RunsReturn, ProgramsRunAlike};
 
@@ -40,4 +41,9 @@ pub fn runs_return()
 /// the same is told.
 pub fn programs_run_alike()
     ensures { ProgramsRunAlike }
+{}
+
+/// Today's machine never faults where, after no journal, the next instruction of a process is wrong, nor what a reply to it does.
+pub fn right_never_faults()
+    ensures { RightNeverFaults }
 {}
