@@ -1,3 +1,4 @@
+mod Examples
 pub mod Following
 pub mod Blocks
 pub mod Reading

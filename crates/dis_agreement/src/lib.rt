@@ -9,7 +9,7 @@
 //! operands name, `Formatting` of prints, `Moving` of moved words, `Controlling` of calls, modules and prints; `Steps` goes through the
 //! instructions, `Answers` through replies. `Traces` and `Together` say what one effect does to all processes, `Runs` puts these together,
 //! `Returning` goes back from the machine with memory, `Openings` is how both begin, and `Faultless` takes journals one instruction at a
-//! time.
+//! time. `Examples` works out an instruction each, where both machines do the same and where today's faults.
 #![tactic(auto)]
 
 mod laws;
