@@ -21,7 +21,7 @@ use Rattle.limbo_compiler.specs.Means.{NoneFault}
 use Rattle.limbo_compiler.proofs.Means.{journals_mean}
 
 -- Nothing of it is a wrong instruction.
-abbrev Sound : Trace → Type 0
+abbrev pub Sound : Trace → Type 0
 Sound es = fault_in es ≡ None
 
 both_sound : (es fs : Trace) → Sound es → Sound fs → Sound (es ++ fs)
@@ -73,7 +73,7 @@ module _ (limit : ℕ) (routines : List Routine) where
   run_sound c i e n still h = h
   run_sound c i e n (next {d = d} run last) h = step_sound d e i last (run_sound c i d _ run h)
 
-  matched_sound : (c e : Meaning) (turns : List Turn) → Matched (rules limit routines) no_names c turns e → Sound c.trace → Sound e.trace
+  pub matched_sound : (c e : Meaning) (turns : List Turn) → Matched (rules limit routines) no_names c turns e → Sound c.trace → Sound e.trace
   matched_sound c e turns begun h = h
   matched_sound c e turns (turn {d = d} i n before run) h = run_sound d i e n run (matched_sound c d _ before h)
   matched_sound c e turns (down {d = d} l w before lost) h = absurd cc
