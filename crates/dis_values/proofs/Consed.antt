@@ -1,5 +1,5 @@
 -- A cell before a list.
-use Rattle.std.proofs.Common.{◌≡◌, ℕ, ◌+◌, List, [], ◌∷◌, Option, Some, refl, sym, ap, subst, ◌∙◌}
+use Rattle.std.proofs.Common.{◌≡◌, ℕ, List, [], ◌∷◌, Option, Some, refl, sym, ap, subst, ◌∙◌}
 use Rattle.std.specs.Prelude.{Result, Ok, Err, OnOk, IfOk}
 use Rattle.ref_heap.specs.declared.word.Ref.{Ref}
 use Rattle.ref_heap.specs.declared.kind.Kind.TheVariants.{Cell as ListCell}
@@ -27,7 +27,7 @@ list_kept h b o (x ∷ xs) ok l =
     )
 
 pub consed : (r : Result Ref HeapFault) (h new : Store) (content : Content) (tail : Option ℕ) (element : List Cell) → IsHeap h → content ≡ wide (refer tail ∷ element)
-    → IfOk r (λ (m : Ref). m.serial ≡ h.made + 1) → OnOk r (new ≡ with_new h (fresh ListCell content))
+    → IfOk r (λ (m : Ref). m.serial ≡ h.made) → OnOk r (new ≡ with_new h (fresh ListCell content))
     → IfOk r (λ (m : Ref). (xs : List (List Cell)) → IsList h tail xs → IsList new (Some m.serial) (element ∷ xs))
 consed (Err e) h new content tail element ok same serial made = tt
 consed (Ok m) h new content tail element ok same serial made = λ xs l.

@@ -63,39 +63,19 @@ distinct h o (x ∷ xs) l =
     )
 
 made : (h : Store) (o : Option ℕ) (xs : List (List Cell)) (l : IsList h o xs) → IsHeap h → (q : ℕ)
-    → list_any (eqb q) (serials h o xs l) ≡ true → (0 < q) × (q ≤ h.made)
+    → list_any (eqb q) (serials h o xs l) ≡ true → q < h.made
 unfolding serials
 made h o [] l ok q e = absurd cc
 made h o (x ∷ xs) l ok q e = elim (eqb_tells q l.1.serial) [
-  | inl y ↦ let b = ok.bounded l.1.serial l.1.block l.1.live in (omega (arith, b.0, y.1), omega (arith, b.1, y.1))
+  | inl y ↦ let b = ok.bounded l.1.serial l.1.block l.1.live in omega (arith, b, y.1)
   | inr y ↦ made h l.0 xs l.2 ok q (sym (ap (λ (b : Bool). b || list_any (eqb q) (serials h l.0 xs l.2)) y.0) ∙ e)
 ]
-
-not_zero : (h : Store) (o : Option ℕ) (xs : List (List Cell)) (l : IsList h o xs) → IsHeap h
-    → AllByRecursion (λ y. eqb 0 y ≡ false) (serials h o xs l)
-unfolding serials
-not_zero h o [] l ok = tt
-not_zero h o (x ∷ xs) l ok = (
-  elim (eqb_tells 0 l.1.serial) [
-    | inl y ↦ let b = ok.bounded l.1.serial l.1.block l.1.live in absurd (omega (arith, b.0, y.1))
-    | inr y ↦ y.0
-  ],
-  not_zero h l.0 xs l.2 ok,
-)
-
-with_zero : (ss : List ℕ) → AllByRecursion (λ y. eqb 0 y ≡ false) ss → IsDistinct eqb ss → IsDistinct eqb (0 ∷ ss)
-unfolding IsDistinct
-with_zero ss a d = (a, d)
 
 -- a list is never longer than the number of blocks made
 pub short : (h : Store) (o : Option ℕ) (xs : List (List Cell)) → IsHeap h → IsList h o xs → length xs ≤ h.made
 short h o xs ok l =
     let ss = serials h o xs l in
-    let all : length (0 ∷ ss) ≤ h.made + 1 = length-le_from_distinct_below (0 ∷ ss) (h.made + 1)
-    (with_zero ss (not_zero h o xs l ok) (distinct h o xs l)) (λ q e. elim (eqb_tells q 0) [
-      | inl y ↦ omega (arith, y.1)
-      | inr y ↦ let b = made h o xs l ok q (sym (ap (λ (b : Bool). b || list_any (eqb q) ss) y.0) ∙ e) in omega (arith, b.1)
-    ]) in
+    let all : length ss ≤ h.made = length-le_from_distinct_below ss h.made (distinct h o xs l) (λ q e. made h o xs l ok q e) in
     omega (arith, serials_length h o xs l)
 
 -- nil is no cell

@@ -29,7 +29,7 @@ bare_held h content none n = omega (arith, none n)
 
 -- what `add` did with a block that names nothing
 pub makes : (r : Result Ref HeapFault) (old new : Store) (kind : Kind) (content : Content) → ((n : ℕ) → naming (cells content) n ≡ 0)
-    → IfOk r (λ (r : Ref). r.serial ≡ old.made + 1) → OnOk r (new ≡ with_new old (fresh kind content))
+    → IfOk r (λ (r : Ref). r.serial ≡ old.made) → OnOk r (new ≡ with_new old (fresh kind content))
     → IfOk r (λ (r : Ref). (n : ℕ) → outside new n + naming (cells content) n ≡ outside old n + one r.serial n)
     → IfOk r (λ (r : Ref). Makes old new r.serial (fresh kind content))
 makes (Ok r) old new kind content none serial ok held = record { serial = serial; makes = ok; held = λ n. omega (arith, none n, held n) }
@@ -46,8 +46,8 @@ faults (Ok r) h f = tt
 faults (Err e) h f = make_fault_is h e f
 
 -- a heap with one more block, read
-pub new_there : (h : Store) (b : Block) → at (with_new h b) (h.made + 1) ≡ Some b
-new_there h b = get-insert nat_cmp_total h.blocks (h.made + 1) b (h.made + 1) ∙ ap (λ v. cond v (Some b) (at h (h.made + 1))) (unsigned_tied (h.made + 1) (h.made + 1) ∙ same (h.made + 1))
+pub new_there : (h : Store) (b : Block) → at (with_new h b) h.made ≡ Some b
+new_there h b = get-insert nat_cmp_total h.blocks h.made b h.made ∙ ap (λ v. cond v (Some b) (at h h.made)) (unsigned_tied h.made h.made ∙ same h.made)
   where
     same : (k : ℕ) → eqb k k ≡ true
     same k = elim (eqb_tells k k) [ inl y ↦ y.0 | inr y ↦ absurd (y.1 refl) ]
@@ -64,9 +64,9 @@ other_block h k b q a = get-insert nat_cmp_total h.blocks k b q ∙ ap (λ v. co
     other : (q k : ℕ) → q ≢ k → eqb q k ≡ false
     other q k a = elim (eqb_tells q k) [ inl y ↦ absurd (a y.1) | inr y ↦ y.0 ]
 
-pub other_new : (h : Store) (b : Block) (q : ℕ) → q ≢ h.made + 1 → at (with_new h b) q ≡ at h q
-other_new h b q a = other_block (record h { made = h.made + 1 }) (h.made + 1) b q a
+pub other_new : (h : Store) (b : Block) (q : ℕ) → q ≢ h.made → at (with_new h b) q ≡ at h q
+other_new h b q a = other_block (record h { made = h.made + 1 }) h.made b q a
 
 -- a live block has another serial than the next one
-pub not_next : (h : Store) (k : ℕ) (b : Block) → IsHeap h → at h k ≡ Some b → k ≢ h.made + 1
-not_next h k b ok is e = (let q = ok.bounded k b is in omega (arith, q.1))
+pub not_next : (h : Store) (k : ℕ) (b : Block) → IsHeap h → at h k ≡ Some b → k ≢ h.made
+not_next h k b ok is e = (let q = ok.bounded k b is in omega (arith, q))

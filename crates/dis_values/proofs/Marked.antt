@@ -4,17 +4,16 @@ use Rattle.std.proofs.Common.{None}
 use Rattle.std.proofs.Common.{refl, sym, ap, subst, ◌∙◌, arith}
 use Rattle.std.specs.Prelude.{slice_get, replicate, ◌==◌, ◌&&◌, if◌then◌else◌}
 use Rattle.std.proofs.lemmas.Nat.{mod-mul-add}
-use Rattle.ref_heap.specs.declared.kind.Kind.{Kind}
 use Rattle.ref_heap.specs.declared.kind.Kind.TheVariants.{Array, Slice}
-use Rattle.ref_heap.specs.Words.{Cell, Content, wide, compact, plain, refer, is_reference}
-use Rattle.ref_heap.specs.Store.{Store, Block, IsHeap, at, words_of, with_block, with_new, fresh, one_more}
+use Rattle.ref_heap.specs.Words.{Cell, wide, compact, plain, refer, is_reference}
+use Rattle.ref_heap.specs.Store.{Store, Block, IsHeap, at, with_block, with_new, fresh, one_more}
 use Rattle.ref_heap.specs.Drops.{IsPart}
 use Rattle.dis_values.specs.Making.{Makes}
 use Rattle.dis_values.specs.Arrays.{Part, part_of, part_in, any_marked, is_marked, zeroed, zeroed_at, zeroed_word, zeroed_words}
-use Rattle.dis_values.specs.Arrays.{words_for, Slices, IsWhole}
+use Rattle.dis_values.specs.Arrays.{words_for, Slices}
 use Rattle.dis_values.specs.References.{IsMarked}
 use Rattle.dis_values.proofs.Made.{new_there, block_there, other_new, not_next}
-use Rattle.dis_values.proofs.Stays.{part_stays, Again, again}
+use Rattle.dis_values.proofs.Stays.{part_stays, again}
 
 zeroed_length : (size : ℕ) (marks : List Bool) (j n : ℕ) → length (zeroed_words size marks j n) ≡ n
 zeroed_length size marks j zero = refl

@@ -43,7 +43,7 @@ given_held h g cur k from cs gs t a o p e n =
 named_live : (h : Store) (k n : ℕ) (b : Block) → IsHeap h → at h k ≡ Some b → 0 < naming (words_of b) n → 0 < count (at h) n
 named_live h k n b ok is some =
     let q = ok.bounded k b is in
-    let a : naming_in (at h k) n ≤ inside h n = sum_has (limit h) (λ s. naming_in (at h s) n) k (omega (arith, q.1)) in
+    let a : naming_in (at h k) n ≤ inside h n = sum_has (limit h) (λ s. naming_in (at h s) n) k q in
     let e : naming_in (at h k) n ≡ naming (words_of b) n = ap (λ (o : Option Block). naming_in o n) is in
     let c = ok.enough n in
     omega arith

@@ -12,7 +12,7 @@ use Rattle.dis_values.proofs.Made.{new_there, block_there, other_new, not_next}
 use Rattle.dis_values.proofs.Parts.{range_elements}
 
 pub slices : (r : Result Ref HeapFault) (h new : Store) (s k f from to : ℕ) → IsArray h s → k ≡ (part_of h s).array → f ≡ (part_of h s).from
-    → IfOk r (λ (m : Ref). m.serial ≡ h.made + 1)
+    → IfOk r (λ (m : Ref). m.serial ≡ h.made)
     → ((b : Block) → at h k ≡ Some b → OnOk r (new ≡ with_new (with_block h k (one_more b)) (fresh (Slice (f + from) (to - from)) (wide (refer (Some k) ∷ [])))))
     → IfOk r (λ (m : Ref). (n : ℕ) → outside new n ≡ outside h n + one m.serial n)
     → IfOk r (λ (m : Ref). Slices h new (part_of h s) from to m.serial)
@@ -78,7 +78,7 @@ if_map (Ok x) P Q f p = f x p
 if_map (Err x) P Q f p = tt
 
 -- a zeroed array is one
-pub made_array : (h new : Store) (made size length : ℕ) (b : Block) → made ≡ h.made + 1 → new ≡ with_new h b → b.kind ≡ Array size length → size * length ≤ 268435456 → length < 2 ^ 32 → IsArray new made
+pub made_array : (h new : Store) (made size length : ℕ) (b : Block) → made ≡ h.made → new ≡ with_new h b → b.kind ≡ Array size length → size * length ≤ 268435456 → length < 2 ^ 32 → IsArray new made
 made_array h new made size length b serial makes kind bytes small =
     let here : at new made ≡ Some b = ap (λ (v : Store). at v made) makes ∙ ap (at (with_new h b)) serial ∙ new_there h b in
     let same : part_of new made ≡ record { array = made; from = 0; length = length } = ap (part_in made) here ∙ whole made b kind in

@@ -74,7 +74,7 @@ abbrev pub length_of : Store → Option ℕ → ℕ
 length_of h None = 0
 length_of h (Some s) = (part_of h s).length
 
--- A block that is an array, of no more bytes than an array may have.
+-- A block that is an array, with how many bytes an element takes; it has no more bytes than an array may have.
 pub record IsWhole (h : Store) (s size length : ℕ) : Type 0 where
   pub block : Block
   pub live : at h s ≡ Some block
@@ -130,6 +130,6 @@ pub record IsElement (h : Store) (s i array byte : ℕ) : Type 0 where
 pub record Slices (old new : Store) (part : Part) (from to made : ℕ) : Type 0 where
   pub block : Block
   pub live : at old part.array ≡ Some block
-  pub serial : made ≡ old.made + 1
+  pub serial : made ≡ old.made
   pub makes : new ≡ with_new (with_block old part.array (one_more block)) (fresh (Slice (part.from + from) (to - from)) (wide (refer (Some part.array) ∷ [])))
   pub held : (n : ℕ) → outside new n ≡ outside old n + one made n

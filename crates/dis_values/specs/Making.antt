@@ -13,7 +13,7 @@ serial_of r = option_map (λ (x : Ref). x.serial) r
 
 -- Block b is made, and the caller has the only reference to it; all else is as it was.
 pub record Makes (old new : Store) (made : ℕ) (b : Block) : Type 0 where
-  pub serial : made ≡ old.made + 1
+  pub serial : made ≡ old.made
   pub makes : new ≡ with_new old b
   pub held : (n : ℕ) → outside new n ≡ outside old n + one made n
 

@@ -41,7 +41,7 @@ pub record Apart (old new : Store) (s made : ℕ) (text : List ℕ) : Type 0 whe
   pub block : Block
   pub live : at old s ≡ Some block
   pub shared : 1 < block.count
-  pub serial : made ≡ old.made + 1
+  pub serial : made ≡ old.made
   pub rest : (n : ℕ) → at new n ≡ at (with_block (with_new old (fresh Text (compact text))) s (one_less block)) n
   pub count : new.made ≡ old.made + 1
 
@@ -54,6 +54,6 @@ pub record InPlace (old new : Store) (s : ℕ) (text : List ℕ) : Type 0 where
 
 -- A reference to a text is given away for one to another text. What others see stays as it is.
 pub data Becomes (old new : Store) : Option ℕ → ℕ → List ℕ → Type 0 where
-  Made : {made : ℕ} {text : List ℕ} → made ≡ old.made + 1 → new ≡ with_new old (fresh Text (compact text)) → Becomes old new None made text
+  Made : {made : ℕ} {text : List ℕ} → made ≡ old.made → new ≡ with_new old (fresh Text (compact text)) → Becomes old new None made text
   Grown : {s : ℕ} {text : List ℕ} → InPlace old new s text → Becomes old new (Some s) s text
   Copied : {s made : ℕ} {text : List ℕ} → Apart old new s made text → Becomes old new (Some s) made text

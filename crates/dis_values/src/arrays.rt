@@ -87,7 +87,13 @@ pub fn new_array(
 {
     let words = array_words(alloc, size, marks, length)?;
     heap.stands();
-    heap.add(Kind::Array { size, length }, words)
+    heap.add(
+        Kind::Array {
+            element: size,
+            length,
+        },
+        words,
+    )
 }
 
 fn array_words(alloc: Global, size: u32, marks: &[bool], length: u32) -> Result<Words, AllocError>
@@ -110,7 +116,7 @@ pub fn part(heap: &Heap, array: Ref) -> Span
     ensures length { result.length ≡ (part_of heap.now array.serial).length }
 {
     match heap.kind_of(array) {
-        Ok(Kind::Array { size: _, length }) => Span {
+        Ok(Kind::Array { element: _, length }) => Span {
             array,
             from: 0,
             length,
@@ -196,7 +202,7 @@ pub fn element(heap: &Heap, array: Ref, i: u32) -> Option<(Ref, u32)>
         return None;
     }
     match heap.kind_of(whole.array) {
-        Ok(Kind::Array { size, length: _ }) => Some((whole.array, size * (whole.from + i))),
+        Ok(Kind::Array { element, length: _ }) => Some((whole.array, element * (whole.from + i))),
         _ => unreachable!(),
     }
 }

@@ -157,7 +157,7 @@ pub(crate) fn element_size(heap: &Heap, array: Ref) -> u32
     ensures { (size len : ℕ) → IsWhole heap.now array.serial size len → result ≡ size }
 {
     match heap.kind_of(array) {
-        Ok(Kind::Array { size, length: _ }) => size,
+        Ok(Kind::Array { element, length: _ }) => element,
         _ => 0,
     }
 }

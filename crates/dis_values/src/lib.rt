@@ -2,7 +2,8 @@
 //!
 //! A string is a compact block with the codes of its characters, and nil is the empty one (`specs/Texts.antt`). An array is
 //! a block with the words of its elements, one element after the other; a slice refers to the array itself, also where it
-//! is a slice of a slice (`specs/Arrays.antt`). A cell of a list has a reference word with the rest, and then the words of
+//! is a slice of a slice; the number that the heap keeps of an array's elements is how many bytes one takes
+//! (`specs/Arrays.antt`). A cell of a list has a reference word with the rest, and then the words of
 //! its element (`specs/Lists.antt`). An array without references is kept as numbers, an array of bytes with four in each
 //! (`specs/Bytes.antt`). Each call is told as the operation on the lists that the blocks stand for.
 //!

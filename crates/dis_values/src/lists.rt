@@ -29,7 +29,7 @@ pub fn cons(
     requires { AreHeld heap.old (naming (refer (serial_of tail) ∷ map cell_of element.now)) }
     ensures list { IfOk result (λ r. (xs : List (List Word32)) → IsList heap.old (serial_of tail) xs → IsList heap.new (Some r.serial) (map cell_of element.now ∷ xs)) }
     ensures ok { OnOk result (heap.new ≡ with_new heap.old (fresh Kind.Cell (wide (refer (serial_of tail) ∷ map cell_of element.now)))) }
-    ensures serial { IfOk result (λ r. r.serial ≡ heap.old.made + 1) }
+    ensures serial { IfOk result (λ r. r.serial ≡ heap.old.made) }
     ensures outside { IfOk result (λ r. (n : ℕ) → outside heap.new n + naming (refer (serial_of tail) ∷ map cell_of element.now) n ≡ outside heap.old n + one r.serial n) }
     ensures fault { IfErr result (IsMakeFault heap.old) }
     ensures full { heap.old.made ≡ most → IsErr result }

@@ -204,6 +204,15 @@ loose_same limit outside before m head rest rest' e l = record {
   bounded = l.bounded;
 }
 
+counted_so : (m : Slab Slot) (i k : ℕ) (s : Slot) (b : Block) (head : ℕ) → IsUnique m → get m i ≡ Some s → s.serial ≡ k → kept m k ≡ Some (record b { count = head }) → s.count ≡ head
+counted_so m i k s b head u is serial e =
+    let f : kept m s.serial ≡ Some (block_of s) = kept_at m i s u is in
+    let g : kept m s.serial ≡ kept m k = ap (kept m) serial in
+    let x : count_in (kept m s.serial) ≡ s.count = ap count_in f in
+    let y : count_in (kept m k) ≡ head = ap count_in e in
+    let z : count_in (kept m s.serial) ≡ count_in (kept m k) = ap count_in g in
+    omega arith
+
 -- a word that names a block
 word_names : (limit : ℕ) (outside : ℕ → ℕ) (before : Blocks) (old new : Slab Slot) (head next k : ℕ) (c : Cell) (cs : List Cell)
     → name_of c ≡ Some k → IsUnique new → DropsOne old new k head next → KeepsOthers old new k
@@ -221,8 +230,7 @@ word_names limit outside before old new head next k c cs e u d o l =
       | inr few ↦
           let q = d.last p.block p.is (omega arith) in
           let a = q.1 in
-          let at : kept new k ≡ Some (block_of a.block) = ap (kept new) (sym a.has_serial) ∙ kept_at new next a.block u a.is in
-          let count : a.block.count ≡ head = (let f : Some (block_of a.block) ≡ Some (record p.block { count = head }) = sym at ∙ q.0.here in ap count_in f) in
+          let count = counted_so new next k a.block p.block head u a.is a.has_serial q.0.here in
           loose_last limit outside before old new head next (naming (c ∷ cs)) (naming cs) k p.block a.block l parts some p.is (omega arith) q.0 o
           a.is a.has_serial count (λ z. let y = u.small next a.block a.is in omega arith)
     ]

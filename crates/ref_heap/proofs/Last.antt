@@ -31,5 +31,5 @@ other_stays h h' k b ok is more held d n =
     let q = ok.bounded k b is in
     freed_one (limit h) out (at h) (at h') (at g) d
     (dropped (limit h) out (at h) (at g) (λ _. 0)
-    (less (limit h) out (at h) (at h) (at g) (one k) (λ _. 0) k b (dropping_of h (one k) ok held) is more (omega (arith, q.1)) (at_with_block h k (one_less b)) (λ n. omega arith))
+    (less (limit h) out (at h) (at h) (at g) (one k) (λ _. 0) k b (dropping_of h (one k) ok held) is more (omega (arith, q)) (at_with_block h k (one_less b)) (λ n. omega arith))
     (λ n. refl)) n

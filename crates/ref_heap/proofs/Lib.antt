@@ -9,3 +9,4 @@ pub mod Reuse
 pub mod Last
 pub mod Outside
 pub mod RefTo
+pub mod Renew

@@ -5,26 +5,26 @@ use Rattle.std.proofs.lemmas.Bool.Decides.{eqb_tells}
 use Rattle.ref_heap.specs.declared.kind.Kind.{Kind}
 use Rattle.ref_heap.specs.declared.kind.HeapFault.{HeapFault}
 use Rattle.ref_heap.specs.declared.kind.HeapFault.TheVariants.{Dead}
-use Rattle.ref_heap.specs.Words.{Cell, plain, refer, in_block, in_frame, Content, wide, compact, cells, naming, with_cell, with_more, is_reference}
+use Rattle.ref_heap.specs.Words.{Cell, plain, refer, in_block, in_frame, Content, wide, compact, cells, naming, with_cell, is_reference}
 use Rattle.ref_heap.specs.Answers.{hold_answer, set_answer, fits_there, fits}
 use Rattle.ref_heap.specs.Store.{Store, Block, words_of, count, count_in, names, naming_in, one, alone, word_in, IsHeap, AreHeld, at, limit, inside, outside, with_block, with_new, with_content, fresh, one_more}
 use Rattle.ref_heap.specs.Drops.{Drops, Reuses}
 use Rattle.ref_heap.proofs.Steps.{names_changed}
 use Rattle.ref_heap.proofs.Naming.{naming_cons, plain_names}
 use Rattle.ref_heap.proofs.View.{heap_after}
-use Rattle.ref_heap.proofs.Put.{at_with_block, none_there, naming_set, more_names}
+use Rattle.ref_heap.proofs.Put.{at_with_block, none_there, naming_set}
 
-one_same : (k n : ℕ) → k ≡ n → one k n ≡ 1
+pub one_same : (k n : ℕ) → k ≡ n → one k n ≡ 1
 one_same k n e = elim (eqb_tells k n) [ inl y ↦ ap (λ b. cond {A = ℕ} b 1 0) y.0 | inr y ↦ absurd (y.1 e) ]
 
-one_other : (k n : ℕ) → k ≢ n → one k n ≡ 0
+pub one_other : (k n : ℕ) → k ≢ n → one k n ≡ 0
 one_other k n e = elim (eqb_tells k n) [ inl y ↦ absurd (e y.1) | inr y ↦ ap (λ b. cond {A = ℕ} b 1 0) y.0 ]
 
 -- a block is put in place of another
 put_inside : (h : Store) (k : ℕ) (b b' : Block) (n : ℕ) → IsHeap h → at h k ≡ Some b → inside (with_block h k b') n + naming (words_of b) n ≡ inside h n + naming (words_of b') n
 put_inside h k b b' n ok is =
     let q = ok.bounded k b is in
-    let e : inside (with_block h k b') n + naming_in (at h k) n ≡ inside h n + naming (words_of b') n = names_changed (limit h) (at h) (at (with_block h k b')) k (Some b') n (omega (arith, q.1)) (at_with_block h k b') in
+    let e : inside (with_block h k b') n + naming_in (at h k) n ≡ inside h n + naming (words_of b') n = names_changed (limit h) (at h) (at (with_block h k b')) k (Some b') n q (at_with_block h k b') in
     let f : naming_in (at h k) n ≡ naming (words_of b) n = ap (λ v. naming_in v n) is in
     omega arith
 
@@ -61,19 +61,20 @@ hold_outside (Ok x) h h' k ok ans step = go (at h k) refl
     go None e n = absurd (let f : Ok x ≡ Err Dead = ans ∙ ap hold_answer e in cc)
     go (Some b) e n = ap (λ (v : Store). outside v n) (step b e) ∙ more_outside h k b n ok e
 
--- `append`
-pub append_outside : (r : Result (Unit {0}) HeapFault) (h h' : Store) (k : ℕ) (more : List ℕ) → IsHeap h → (at h k ≡ None → r ≡ Err Dead)
-    → ((b : Block) → at h k ≡ Some b → OnOk r (h' ≡ with_block h k (with_content b (with_more b.content more)))) → OnOk r ((n : ℕ) → outside h' n ≡ outside h n)
-append_outside (Err x) h h' k more ok dead step = tt
-append_outside (Ok x) h h' k more ok dead step = go (at h k) refl
+-- `append`, `widen`
+pub content_outside : (r : Result (Unit {0}) HeapFault) (h h' : Store) (k : ℕ) (g : Content → Content) → ((c : Content) (q : ℕ) → naming (cells (g c)) q ≡ naming (cells c) q)
+    → IsHeap h → (at h k ≡ None → r ≡ Err Dead)
+    → ((b : Block) → at h k ≡ Some b → OnOk r (h' ≡ with_block h k (with_content b (g b.content)))) → OnOk r ((n : ℕ) → outside h' n ≡ outside h n)
+content_outside (Err x) h h' k g same ok dead step = tt
+content_outside (Ok x) h h' k g same ok dead step = go (at h k) refl
   where
     go : (o : Option Block) → at h k ≡ o → (n : ℕ) → outside h' n ≡ outside h n
     go None e n = absurd (let f : Ok x ≡ Err Dead = dead e in cc)
     go (Some b) e n =
-        let w = with_content b (with_more b.content more) in
+        let w = with_content b (g b.content) in
         let i = put_inside h k b w n ok e in
         let c = put_count h k b w n e refl in
-        let m = more_names b.content more n in
+        let m = same b.content n in
         let o : outside h' n ≡ outside (with_block h k w) n = ap (λ (v : Store). outside v n) (step b e) in
         omega arith
 
@@ -138,16 +139,16 @@ set_outside (Ok x) h h' k i c ok held ans step = go (at h k) refl
 pub drop_outside : (h h' : Store) (given : ℕ → ℕ) → h'.made ≡ h.made → AreHeld h given → Drops h h' given → (n : ℕ) → outside h' n + given n ≡ outside h n
 drop_outside h h' given same held d n =
     let x : count (at h') n ≡ (outside h n - given n) + names (limit h) (at h') n = d.settled.exact n in
-    let y : inside h' n ≡ names (limit h) (at h') n = ap (λ m. names (m + 1) (at h') n) same in
+    let y : inside h' n ≡ names (limit h) (at h') n = ap (λ m. names m (at h') n) same in
     let l : given n ≤ outside h n = held n in
     omega arith
 
 -- a block is made
 pub new_outside : (h : Store) (kind : Kind) (content : Content) → IsHeap h → AreHeld h (naming (cells content)) → (n : ℕ)
-    → outside (with_new h (fresh kind content)) n + naming (cells content) n ≡ outside h n + one (h.made + 1) n
+    → outside (with_new h (fresh kind content)) n + naming (cells content) n ≡ outside h n + one h.made n
 new_outside h kind content ok held n =
     let b = fresh kind content in
-    let k = h.made + 1 in
+    let k = h.made in
     let g : Store = record h { made = h.made + 1 } in
     let h' = with_new h b in
     let none : at h k ≡ None = none_there h ok in
@@ -171,7 +172,7 @@ new_outside h kind content ok held n =
 
 -- the same of a block that names nothing
 pub bare_outside : (h h' : Store) (kind : Kind) (content : Content) → h' ≡ with_new h (fresh kind content) → IsHeap h → ((n : ℕ) → naming (cells content) n ≡ 0) → (n : ℕ)
-    → outside h' n ≡ outside h n + one (h.made + 1) n
+    → outside h' n ≡ outside h n + one h.made n
 bare_outside h h' kind content e ok none n =
     let a = new_outside h kind content ok (λ q. omega (arith, none q)) n in
     let f : outside h' n ≡ outside (with_new h (fresh kind content)) n = ap (λ (v : Store). outside v n) e in
@@ -179,9 +180,9 @@ bare_outside h h' kind content e ok none n =
 
 -- a block is dropped, and another made
 pub reuse_outside : (h h' : Store) (k : ℕ) (kind : Kind) (content : Content) → IsHeap h → AreHeld h (one k) → Reuses h h' k (fresh kind content) → ((n : ℕ) → naming (cells content) n ≡ 0) → (n : ℕ)
-    → outside h' n + one k n ≡ outside h n + one (h.made + 1) n
+    → outside h' n + one k n ≡ outside h n + one h.made n
 reuse_outside h h' k kind content ok held r none n =
     let a = drop_outside h r.middle (one k) r.made held r.drops n in
     let b = bare_outside r.middle h' kind content r.makes (heap_after h r.middle (one k) ok r.made r.drops) none n in
-    let e : one (r.middle.made + 1) n ≡ one (h.made + 1) n = ap (λ (m : ℕ). one (m + 1) n) r.made in
+    let e : one r.middle.made n ≡ one h.made n = ap (λ (m : ℕ). one m n) r.made in
     omega arith

@@ -58,33 +58,33 @@ none_at : (o : Option Block) → ((b : Block) → o ≡ Some b → ⊥) → o �
 none_at None f = refl
 none_at (Some b) f = absurd (f b refl)
 
-pub none_there : (h : Store) → IsHeap h → at h (h.made + 1) ≡ None
-none_there h ok = none_at (at h (h.made + 1)) (λ b e. let q = ok.bounded _ b e in omega (arith, q.1))
+pub none_there : (h : Store) → IsHeap h → at h h.made ≡ None
+none_there h ok = none_at (at h h.made) (λ b e. let q = ok.bounded _ b e in omega (arith, q))
 
 -- what is true of every heap, where one more was made
 heap_raised : (h : Store) → IsHeap h → IsHeap (record h { made = h.made + 1 })
 heap_raised h ok =
-    let none : at h (h.made + 1) ≡ None = none_there h ok in
+    let none : at h h.made ≡ None = none_there h ok in
     record {
-      bounded = λ n b e. let q = ok.bounded n b e in (q.0, omega (arith, q.1));
+      bounded = λ n b e. let q = ok.bounded n b e in omega (arith, q);
       counted = ok.counted;
       enough = λ n.
-          let x : names (suc (h.made + 1)) (at h) n ≡ naming_in (at h (h.made + 1)) n + names (h.made + 1) (at h) n = refl in
-          let y : naming_in (at h (h.made + 1)) n ≡ 0 = ap (λ b. naming_in b n) none in
-          let z : names (h.made + 1 + 1) (at h) n ≡ names (suc (h.made + 1)) (at h) n = (let e : h.made + 1 + 1 ≡ suc (h.made + 1) = omega arith in ap (λ m. names m (at h) n) e) in
-          let w : names (h.made + 1) (at h) n ≤ count (at h) n = ok.enough n in
+          let x : names (suc h.made) (at h) n ≡ naming_in (at h h.made) n + names h.made (at h) n = refl in
+          let y : naming_in (at h h.made) n ≡ 0 = ap (λ b. naming_in b n) none in
+          let z : names (h.made + 1) (at h) n ≡ names (suc h.made) (at h) n = (let e : h.made + 1 ≡ suc h.made = omega arith in ap (λ m. names m (at h) n) e) in
+          let w : names h.made (at h) n ≤ count (at h) n = ok.enough n in
           omega arith;
     }
 
 -- and where a block is put whose words name no more than there are references
-heap_changed : (h : Store) (k : ℕ) (b : Block) → IsHeap h → 0 < k → k ≤ h.made → 0 < b.count
+heap_changed : (h : Store) (k : ℕ) (b : Block) → IsHeap h → k < h.made → 0 < b.count
     → ((n : ℕ) → inside h n + naming (words_of b) n ≤ count (at (with_block h k b)) n + naming_in (at h k) n)
     → IsHeap (with_block h k b)
-heap_changed h k b ok low high some enough =
+heap_changed h k b ok high some enough =
     let c = at_with_block h k b in
     record {
       bounded = λ n a e. elim (eqb_tells n k) [
-        | inl y ↦ (omega (arith, y.1), omega (arith, y.1))
+        | inl y ↦ omega (arith, y.1)
         | inr y ↦ ok.bounded n a (sym (c.apart n y.1) ∙ e)
       ];
       counted = λ n a e. elim (eqb_tells n k) [
@@ -97,18 +97,18 @@ heap_changed h k b ok low high some enough =
           omega arith;
     }
 
-numbered_changed : (h : Store) (k : ℕ) (b : Block) (p : ℕ → Bool) → k ≤ h.made
+pub numbered_changed : (h : Store) (k : ℕ) (b : Block) (p : ℕ → Bool) → k < h.made
     → numbered (limit h) p (at (with_block h k b)) + tells p (number_in (at h k)) ≡ numbered (limit h) p (at h) + tells p (fd_number b.kind)
 numbered_changed h k b p high =
     let c = at_with_block h k b in
     sum_changed (limit h) (λ s. tells p (number_in (at (with_block h k b) s))) (λ s. tells p (number_in (at h s))) k (omega arith) (λ s a. ap (λ v. tells p (number_in v)) (c.apart s a))
     ∙ ap (λ v. numbered (limit h) p (at h) + tells p (number_in v)) c.here
 
-stands_at : (made : ℕ) (m : Slab Slot) (lost : List ℕ) (n : ℕ) (h : Store) → IsUnique m → heap_of made m lost ≡ h → IsHeap h → numbered (made + 1) (λ _. true) (at h) ≡ n → Stands made m lost n
+pub stands_at : (made : ℕ) (m : Slab Slot) (lost : List ℕ) (n : ℕ) (h : Store) → IsUnique m → heap_of made m lost ≡ h → IsHeap h → numbered made (λ _. true) (at h) ≡ n → Stands made m lost n
 stands_at made m lost n h u e ok counts = record {
   unique = u;
   heap = subst (λ (v : Store). IsHeap v) (sym e) ok;
-  counts = ap (λ (v : Store). numbered (made + 1) (λ _. true) (at v)) e ∙ counts;
+  counts = ap (λ (v : Store). numbered made (λ _. true) (at v)) e ∙ counts;
 }
 
 pub same_stands : (made : ℕ) (m m' : Slab Slot) (lost : List ℕ) (n : ℕ) → Stands made m lost n → IsUnique m' → SameBlocks m m' → Stands made m' lost n
@@ -126,12 +126,12 @@ block_stands made m m' lost n k b b' s u is c kind more enough =
     let some = s.heap.counted k b there in
     let ch = at_with_block h k b' in
     let x : numbered (limit h) (λ _. true) (at (with_block h k b')) + tells (λ _. true) (number_in (at h k)) ≡ numbered (limit h) (λ _. true) (at h) + tells (λ _. true) (fd_number b'.kind)
-    = numbered_changed h k b' (λ _. true) q.1 in
+    = numbered_changed h k b' (λ _. true) q in
     let y : tells (λ _. true) (number_in (at h k)) ≡ tells (λ _. true) (fd_number b.kind) = ap (λ v. tells (λ _. true) (number_in v)) there in
     let z : tells (λ _. true) (fd_number b'.kind) ≡ tells (λ _. true) (fd_number b.kind) = ap (λ (v : Kind). tells (λ _. true) (fd_number v)) kind in
-    let w : numbered (made + 1) (λ _. true) (at h) ≡ n = s.counts in
+    let w : numbered made (λ _. true) (at h) ≡ n = s.counts in
     stands_at made m' lost n (with_block h k b') u (changed_view made m m' lost k b' c)
-    (heap_changed h k b' s.heap q.0 q.1 (omega arith) (λ n.
+    (heap_changed h k b' s.heap q (omega arith) (λ n.
     let e : inside h n + naming (words_of b') n ≤ count (at h) n + naming (words_of b) n = enough n in
     let f : naming_in (at h k) n ≡ naming (words_of b) n = ap (λ v. naming_in v n) there in
     elim (eqb_tells n k) [
@@ -194,15 +194,16 @@ pub more_names : (c : Content) (more : List ℕ) (n : ℕ) → naming (cells (wi
 more_names (wide words) more n = refl
 more_names (compact numbers) more n = plain_names (numbers ++ more) n ∙ sym (plain_names numbers n)
 
--- `append`
-pub append_stands : (r : Result (Unit {0}) HeapFault) (made : ℕ) (m m' : Slab Slot) (lost : List ℕ) (n k : ℕ) (more : List ℕ)
+-- a block holds something else that names the same: `append`, `widen`
+pub content_stands : (r : Result (Unit {0}) HeapFault) (made : ℕ) (m m' : Slab Slot) (lost : List ℕ) (n k : ℕ) (g : Content → Content)
+    → ((c : Content) (q : ℕ) → naming (cells (g c)) q ≡ naming (cells c) q)
     → Stands made m lost n → IsUnique m' → (kept m k ≡ None → r ≡ Err Dead)
-    → ((b : Block) → kept m k ≡ Some b → OnOk r (Changed (kept m) (kept m') k (Some (with_content b (with_more b.content more))))) → OnErr r (SameBlocks m m')
+    → ((b : Block) → kept m k ≡ Some b → OnOk r (Changed (kept m) (kept m') k (Some (with_content b (g b.content))))) → OnErr r (SameBlocks m m')
     → Stands made m' lost n
-append_stands r made m m' lost n k more s u dead ok err =
-    result_stands r made m m' lost n k (λ (b : Block). with_content b (with_more b.content more)) (kept m k) refl dead s u ok err (λ b x e is c.
-    block_stands made m m' lost n k b (with_content b (with_more b.content more)) s u is c refl (omega arith) (λ q.
-    let f = s.heap.enough q in let g = more_names b.content more q in omega arith))
+content_stands r made m m' lost n k g same s u dead ok err =
+    result_stands r made m m' lost n k (λ (b : Block). with_content b (g b.content)) (kept m k) refl dead s u ok err (λ b x e is c.
+    block_stands made m m' lost n k b (with_content b (g b.content)) s u is c refl (omega arith) (λ q.
+    let f = s.heap.enough q in let i = same b.content q in omega arith))
 
 slice_get_some : (xs : List Cell) (i : ℕ) (a d : Cell) → slice_get xs i ≡ Some a → (i < length xs) × (get_or xs i d ≡ a)
 slice_get_some [] i a d e = absurd cc
@@ -247,58 +248,56 @@ set_stands r made m m' lost n k i c h view held s u ans ok err =
     let l : naming (c ∷ []) q ≤ outside (heap_of made m lost) q = subst (λ (v : Store). naming (c ∷ []) q ≤ outside v q) (sym view) (held q) in
     omega arith))
 
+inside_raised : (h : Store) → IsHeap h → (q : ℕ) → inside (record h { made = h.made + 1 }) q ≡ inside h q
+inside_raised h ok q =
+    let x : names (suc h.made) (at h) q ≡ naming_in (at h h.made) q + names h.made (at h) q = refl in
+    let y : naming_in (at h h.made) q ≡ 0 = ap (λ b. naming_in b q) (none_there h ok) in
+    let z : names (h.made + 1) (at h) q ≡ names (suc h.made) (at h) q = (let e : h.made + 1 ≡ suc h.made = omega arith in ap (λ m. names m (at h) q) e) in
+    omega arith
+
 -- one more block was made; what it names was held outside
+pub new_heap : (h : Store) (kind : Kind) (content : Content) → IsHeap h → AreHeld h (naming (cells content)) → IsHeap (with_new h (fresh kind content))
+new_heap h kind content ok held =
+    let b = fresh kind content in
+    let h1 : Store = record h { made = h.made + 1 } in
+    let raised : IsHeap h1 = heap_raised h ok in
+    let put = at_with_block h1 h.made b in
+    let bare : count (at h) h.made ≡ 0 = ap count_in (none_there h ok) in
+    heap_changed h1 h.made b raised (omega arith) (omega arith) (λ q.
+    let a : inside h1 q ≤ count (at h) q = raised.enough q in
+    let a1 : inside h1 q ≡ inside h q = inside_raised h ok q in
+    let d : naming (cells content) q ≤ outside h q = held q in
+    elim (eqb_tells q h.made) [
+      | inl z ↦ let f : count (at h) q ≡ 0 = ap (count (at h)) z.1 ∙ bare in omega arith
+      | inr z ↦ let f : count (at (with_block h1 h.made b)) q ≡ count (at h) q = ap count_in (put.apart q z.1) in omega arith
+    ])
+
+pub new_numbered : (h : Store) (b : Block) (p : ℕ → Bool) → IsHeap h → numbered (h.made + 1) p (at (with_new h b)) ≡ numbered h.made p (at h) + tells p (fd_number b.kind)
+new_numbered h b p ok =
+    let h1 : Store = record h { made = h.made + 1 } in
+    let u : numbered (h.made + 1) p (at (with_block h1 h.made b)) + tells p (number_in (at h h.made)) ≡ numbered (h.made + 1) p (at h) + tells p (fd_number b.kind) = numbered_changed h1 h.made b p (omega arith) in
+    let v : tells p (number_in (at h h.made)) ≡ 0 = ap (λ o. tells p (number_in o)) (none_there h ok) in
+    let w : numbered (suc h.made) p (at h) ≡ tells p (number_in (at h h.made)) + numbered h.made p (at h) = refl in
+    let x : numbered (h.made + 1) p (at h) ≡ numbered (suc h.made) p (at h) = (let e : h.made + 1 ≡ suc h.made = omega arith in ap (λ z. numbered z p (at h)) e) in
+    omega arith
+
 pub new_stands : (made : ℕ) (m m' : Slab Slot) (lost : List ℕ) (n : ℕ) (h : Store) (kind : Kind) (content : Content)
-    → Stands made m lost n → heap_of made m lost ≡ h → IsUnique m' → Changed (kept m) (kept m') (made + 1) (Some (fresh kind content)) → AreHeld h (naming (cells content))
+    → Stands made m lost n → heap_of made m lost ≡ h → IsUnique m' → Changed (kept m) (kept m') made (Some (fresh kind content)) → AreHeld h (naming (cells content))
     → Stands (made + 1) m' lost (n + tells (λ _. true) (fd_number kind))
 new_stands made m m' lost n g kind content s view u c held =
     let b = fresh kind content in
     let h = heap_of made m lost in
-    let h1 = heap_of (made + 1) m lost in
-    let k = made + 1 in
-    let none : at h k ≡ None = none_there h s.heap in
-    let raised : IsHeap h1 = heap_raised h s.heap in
-    let put = at_with_block h1 k b in
-    let bare : count (at h1) k ≡ 0 = ap count_in none in
-    let u0 : numbered (k + 1) (λ _. true) (at (with_block h1 k b)) + tells (λ _. true) (number_in (at h1 k)) ≡ numbered (k + 1) (λ _. true) (at h1) + tells (λ _. true) (fd_number kind)
-    = numbered_changed h1 k b (λ _. true) (omega arith) in
-    let v : tells (λ _. true) (number_in (at h1 k)) ≡ 0 = ap (λ o. tells (λ _. true) (number_in o)) none in
-    let w : numbered (suc k) (λ _. true) (at h1) ≡ tells (λ _. true) (number_in (at h1 k)) + numbered k (λ _. true) (at h1) = refl in
-    let x : numbered (k + 1) (λ _. true) (at h1) ≡ numbered (suc k) (λ _. true) (at h1) = (let e : k + 1 ≡ suc k = omega arith in ap (λ z. numbered z (λ _. true) (at h1)) e) in
-    let y : numbered k (λ _. true) (at h1) ≡ n = s.counts in
-    stands_at k m' lost (n + tells (λ _. true) (fd_number kind)) (with_block h1 k b) u (changed_view k m m' lost k b c)
-    (heap_changed h1 k b raised (omega arith) (omega arith) (omega arith) (λ q.
-    let a : inside h1 q ≤ count (at h1) q = raised.enough q in
-    let a1 : inside h1 q ≡ inside h q = inside_raised q in
-    let d : naming (cells content) q ≤ outside h q = subst (λ (v : Store). naming (cells content) q ≤ outside v q) (sym view) (held q) in
-    elim (eqb_tells q k) [
-      | inl z ↦
-          let f : count (at h1) q ≡ 0 = ap (count (at h1)) z.1 ∙ bare in
-          let f' : count (at h) q ≡ count (at h1) q = refl in
-          omega arith
-      | inr z ↦
-          let f : count (at (with_block h1 k b)) q ≡ count (at h1) q = ap count_in (put.apart q z.1) in
-          let f' : count (at h) q ≡ count (at h1) q = refl in
-          omega arith
-    ]))
-    (omega arith)
-  where
-    inside_raised : (q : ℕ) → inside (heap_of (made + 1) m lost) q ≡ inside (heap_of made m lost) q
-    inside_raised q =
-        let h = heap_of made m lost in
-        let none : at h (made + 1) ≡ None = none_there h s.heap in
-        let x : names (suc (made + 1)) (at h) q ≡ naming_in (at h (made + 1)) q + names (made + 1) (at h) q = refl in
-        let y : naming_in (at h (made + 1)) q ≡ 0 = ap (λ b. naming_in b q) none in
-        let z : names (made + 1 + 1) (at h) q ≡ names (suc (made + 1)) (at h) q = (let e : made + 1 + 1 ≡ suc (made + 1) = omega arith in ap (λ m. names m (at h) q) e) in
-        omega arith
+    stands_at (made + 1) m' lost (n + tells (λ _. true) (fd_number kind)) (with_new h b) u (changed_view (made + 1) m m' lost made b c)
+    (new_heap h kind content s.heap (subst (λ (v : Store). AreHeld v (naming (cells content))) (sym view) held))
+    (new_numbered h b (λ _. true) s.heap ∙ ap (λ x. x + tells (λ _. true) (fd_number kind)) s.counts)
 
 pub new_view : (made : ℕ) (m m' : Slab Slot) (lost : List ℕ) (b : Block) (h : Store) → heap_of made m lost ≡ h
-    → Changed (kept m) (kept m') (made + 1) (Some b) → heap_of (made + 1) m' lost ≡ with_new h b
-new_view made m m' lost b h e c = changed_view (made + 1) m m' lost (made + 1) b c ∙ ap (λ (v : Store). with_new v b) e
+    → Changed (kept m) (kept m') made (Some b) → heap_of (made + 1) m' lost ≡ with_new h b
+new_view made m m' lost b h e c = changed_view (made + 1) m m' lost made b c ∙ ap (λ (v : Store). with_new v b) e
 
 -- no block has the next serial
-pub next_free : (made : ℕ) (m m' : Slab Slot) (lost : List ℕ) (n : ℕ) → Stands made m lost n → SameBlocks m m' → kept m' (made + 1) ≡ None
-next_free made m m' lost n s e = e.same (made + 1) ∙ sym (at_each m (made + 1)) ∙ none_there (heap_of made m lost) s.heap
+pub next_free : (made : ℕ) (m m' : Slab Slot) (lost : List ℕ) (n : ℕ) → Stands made m lost n → SameBlocks m m' → kept m' made ≡ None
+next_free made m m' lost n s e = e.same made ∙ sym (at_each m made) ∙ none_there (heap_of made m lost) s.heap
 
 pub blank_names : (marks : List Bool) (q : ℕ) → naming (blank_cells marks) q ≡ 0
 blank_names [] q = refl

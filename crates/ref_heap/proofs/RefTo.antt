@@ -21,11 +21,11 @@ use Rattle.ref_heap.proofs.Outside.{more_outside, new_outside}
 pub record Referred (made : ℕ) (m3 : Slab Slot) (lost : List ℕ) (n k : ℕ) (kind : Kind) (h : Store) : Type 0 where
   pub stands : Stands (made + 1) m3 lost n
   pub view : (b : Block) → at h k ≡ Some b → heap_of (made + 1) m3 lost ≡ with_new (with_block h k (one_more b)) (fresh kind (wide (refer (Some k) ∷ [])))
-  pub outside : (q : ℕ) → outside (heap_of (made + 1) m3 lost) q ≡ outside h q + one (made + 1) q
+  pub outside : (q : ℕ) → outside (heap_of (made + 1) m3 lost) q ≡ outside h q + one made q
 
 referred_here : (made : ℕ) (m1 m2 m3 : Slab Slot) (lost : List ℕ) (n k : ℕ) (kind : Kind) (b : Block)
     → Stands made m1 lost n → IsUnique m2 → kept m1 k ≡ Some b → Changed (kept m1) (kept m2) k (Some (one_more b))
-    → IsUnique m3 → Changed (kept m2) (kept m3) (made + 1) (Some (fresh kind (wide (refer (Some k) ∷ [])))) → fd_number kind ≡ None
+    → IsUnique m3 → Changed (kept m2) (kept m3) made (Some (fresh kind (wide (refer (Some k) ∷ [])))) → fd_number kind ≡ None
     → Referred made m3 lost n k kind (heap_of made m1 lost)
 referred_here made m1 m2 m3 lost n k kind b s u2 is c u3 p none =
     let h = heap_of made m1 lost in
@@ -54,7 +54,7 @@ referred_here made m1 m2 m3 lost n k kind b s u2 is c u3 p none =
 pub referred : (made : ℕ) (m m1 m2 m3 : Slab Slot) (lost : List ℕ) (n k : ℕ) (kind : Kind) (h : Store)
     → Stands made m lost n → heap_of made m lost ≡ h → IsUnique m1 → SameBlocks m m1 → IsLive h k → IsUnique m2
     → ((b : Block) → kept m1 k ≡ Some b → Changed (kept m1) (kept m2) k (Some (one_more b)))
-    → IsUnique m3 → Changed (kept m2) (kept m3) (made + 1) (Some (fresh kind (wide (refer (Some k) ∷ [])))) → fd_number kind ≡ None
+    → IsUnique m3 → Changed (kept m2) (kept m3) made (Some (fresh kind (wide (refer (Some k) ∷ [])))) → fd_number kind ≡ None
     → Referred made m3 lost n k kind h
 referred made m m1 m2 m3 lost n k kind h s view u1 same live u2 c u3 p none =
     let is : kept m1 k ≡ Some live.block = same.same k ∙ sym (at_view made m lost h k view) ∙ live.live in
@@ -64,12 +64,12 @@ referred made m m1 m2 m3 lost n k kind h s view u1 same live u2 c u3 p none =
 -- no block has the next serial, also after one more reference is held
 pub still_free : (made : ℕ) (m m1 m2 : Slab Slot) (lost : List ℕ) (n k : ℕ) (h : Store)
     → Stands made m lost n → heap_of made m lost ≡ h → SameBlocks m m1 → IsLive h k
-    → ((b : Block) → kept m1 k ≡ Some b → Changed (kept m1) (kept m2) k (Some (one_more b))) → kept m2 (made + 1) ≡ None
+    → ((b : Block) → kept m1 k ≡ Some b → Changed (kept m1) (kept m2) k (Some (one_more b))) → kept m2 made ≡ None
 still_free made m m1 m2 lost n k h s view same live c =
     let there : at (heap_of made m lost) k ≡ Some live.block = ap (λ (v : Store). at v k) view ∙ live.live in
     let q = s.heap.bounded k live.block there in
     let is : kept m1 k ≡ Some live.block = same.same k ∙ sym (at_each m k) ∙ there in
-    (c live.block is).apart (made + 1) (λ e. omega (arith, q.1)) ∙ same.same (made + 1) ∙ sym (at_each m (made + 1)) ∙ none_there (heap_of made m lost) s.heap
+    (c live.block is).apart made (λ e. omega (arith, q)) ∙ same.same made ∙ sym (at_each m made) ∙ none_there (heap_of made m lost) s.heap
 
 -- why one more reference isn't held
 hold_fault : (o : Option Block) (e : HeapFault) → Err e ≡ hold_answer o → (o ≡ None → ⊥) → (e ≡ Full) × (count_in o ≡ most)

@@ -39,7 +39,7 @@ pub record Emptied (made : ℕ) (m' : Slab Slot) (lost' : List ℕ) (n k : ℕ) 
   pub lists : Lists h (heap_of made m' lost')
   pub stands : Stands made m' lost' (n - length lost')
   pub room : length lost' ≤ n
-  pub free : kept m' (made + 1) ≡ None
+  pub free : kept m' made ≡ None
 
 emptied_here : (made : ℕ) (m m' : Slab Slot) (lost lost' : List ℕ) (n k : ℕ)
     → Stands made m lost n → IsAlone (heap_of made m lost) k → IsUnique m' → Changed (kept m) (kept m') k None
@@ -53,11 +53,11 @@ emptied_here made m m' lost lost' n k s a u c listed sorted =
     let ch : Changed (at h) (at h') k None = record { here = at_each m' k ∙ c.here; apart = λ q a. at_each m' q ∙ c.apart q a ∙ sym (at_each m q) } in
     let self : one k k ≡ 1 = one_same k k refl in
     let d : Drops h h' (one k) = dropped (limit h) (λ n. outside h n - one k n) (at h) (at h') (λ _. 0)
-    (goes (limit h) (λ n. outside h n - one k n) (at h) (at h) (at h') (one k) (λ _. 0) k b (dropping_of h (one k) s.heap (alone_held h k a)) a.live a.only (omega (arith, q.1)) ch (omega arith)
+    (goes (limit h) (λ n. outside h n - one k n) (at h) (at h) (at h') (one k) (λ _. 0) k b (dropping_of h (one k) s.heap (alone_held h k a)) a.live a.only (omega (arith, q)) ch (omega arith)
     (λ n. omega (arith, a.bare n))) (λ n. refl) in
     let each : (p : ℕ → Bool) → count_by p lost' + numbered (limit h) p (at h') ≡ numbered (limit h) p (at h) = λ p.
     (let x : numbered (limit h) p (at h') + tells p (number_in (at h k)) ≡ numbered (limit h) p (at h) + tells p (number_in (at h' k)) =
-    sum_changed (limit h) (λ s. tells p (number_in (at h' s))) (λ s. tells p (number_in (at h s))) k (omega (arith, q.1)) (λ s a. ap (λ v. tells p (number_in v)) (ch.apart s a)) in
+    sum_changed (limit h) (λ s. tells p (number_in (at h' s))) (λ s. tells p (number_in (at h s))) k (omega (arith, q)) (λ s a. ap (λ v. tells p (number_in v)) (ch.apart s a)) in
     let y : tells p (number_in (at h' k)) ≡ 0 = ap (λ v. tells p (number_in v)) ch.here in
     let z : tells p (number_in (at h k)) ≡ tells p (number_in (kept m k)) = ap (λ v. tells p (number_in v)) (at_each m k) in
     let w = listed p in
@@ -70,7 +70,7 @@ emptied_here made m m' lost lost' n k s a u c listed sorted =
       lists = record { sorted = sorted; each = each };
       stands = record { unique = u; heap = heap_after h h' (one k) s.heap refl d; counts = omega arith };
       room = omega arith;
-      free = c.apart (made + 1) (λ e. omega (arith, q.1)) ∙ sym (at_each m (made + 1)) ∙ none_there h s.heap;
+      free = c.apart made (λ e. omega (arith, q)) ∙ sym (at_each m made) ∙ none_there h s.heap;
     }
 
 pub emptied : (made : ℕ) (m m' : Slab Slot) (lost lost' : List ℕ) (n k : ℕ) (h : Store)
@@ -87,7 +87,7 @@ empty_room made m lost n capacity k h s view a room =
     let g = heap_of made m lost in
     let a' : IsAlone g k = subst (λ (v : Store). IsAlone v k) (sym view) a in
     let q = s.heap.bounded k a'.block a'.live in
-    let x : tells (λ _. true) (number_in (at g k)) ≤ numbered (limit g) (λ _. true) (at g) = sum_has (limit g) (λ s. tells (λ _. true) (number_in (at g s))) k (omega (arith, q.1)) in
+    let x : tells (λ _. true) (number_in (at g k)) ≤ numbered (limit g) (λ _. true) (at g) = sum_has (limit g) (λ s. tells (λ _. true) (number_in (at g s))) k (omega (arith, q)) in
     let y : numbered (limit g) (λ _. true) (at g) ≡ n = s.counts in
     let z : tells (λ _. true) (number_in (at g k)) ≡ tells (λ _. true) (number_in (kept m k)) = ap (λ v. tells (λ _. true) (number_in v)) (at_each m k) in
     omega arith

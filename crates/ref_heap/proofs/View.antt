@@ -56,11 +56,11 @@ heap_after h h' given ok same d = record {
   bounded = λ n b e.
       let p = part_some (at h' n) (at h n) b (d.part n) e in
       let q = ok.bounded n p.0 p.1 in
-      (q.0, omega (arith, q.1));
+      omega (arith, q);
   counted = d.settled.counted;
   enough = λ n.
       let x : count (at h') n ≡ (outside h n - given n) + names (limit h) (at h') n = d.settled.exact n in
-      let y : names (limit h') (at h') n ≡ names (limit h) (at h') n = ap (λ m. names (m + 1) (at h') n) same in
+      let y : names (limit h') (at h') n ≡ names (limit h) (at h') n = ap (λ m. names m (at h') n) same in
       omega arith;
 }
 
@@ -75,16 +75,16 @@ dropping_of h given ok held = starting (limit h) (λ n. outside h n - given n) (
     omega arith) ok.counted
 
 loose_of : (made : ℕ) (m : Slab Slot) (lost : List ℕ) (words : List Word) → IsHeap (heap_of made m lost) → AreHeld (heap_of made m lost) (named words)
-    → Loose (made + 1) (λ n. outside (heap_of made m lost) n - named words n) (kept m) m most (named words)
+    → Loose made (λ n. outside (heap_of made m lost) n - named words n) (kept m) m most (named words)
 loose_of made m lost words ok held =
     let h = heap_of made m lost in
     let out : ℕ → ℕ = λ n. outside h n - named words n in
-    let d : Dropping (made + 1) out (kept m) (kept m) (named words) = subst (λ (f : Blocks). Dropping (made + 1) out f f (named words)) (at_kept m) (dropping_of h (named words) ok held) in
+    let d : Dropping made out (kept m) (kept m) (named words) = subst (λ (f : Blocks). Dropping made out f f (named words)) (at_kept m) (dropping_of h (named words) ok held) in
     record {
       links = [];
       threaded = refl;
       dropping = record { exact = λ n. omega (arith, d.exact n); counted = d.counted; part = d.part; greatest = d.greatest };
-      bounded = λ n b e. let q = ok.bounded n b (at_each m n ∙ e) in omega (arith, q.1);
+      bounded = λ n b e. let q = ok.bounded n b (at_each m n ∙ e) in q;
     }
 
 pub count_all : (xs : List ℕ) → count_by (λ _. true) xs ≡ length xs
@@ -96,12 +96,12 @@ pub releasable : (made : ℕ) (m : Slab Slot) (lost : List ℕ) (words : List Wo
 releasable made m lost words capacity n h s view held room =
     record {
       unique = s.unique;
-      limit = made + 1;
+      limit = made;
       outside = λ n. outside (heap_of made m lost) n - named words n;
       loose = loose_of made m lost words s.heap (subst (λ (v : Store). AreHeld v (named words)) (sym view) held);
       room =
-          let e : numbered (made + 1) (λ _. true) (at (heap_of made m lost)) ≡ numbered (made + 1) (λ _. true) (kept m) = ap (numbered (made + 1) (λ _. true)) (at_kept m) in
-          let f : numbered (made + 1) (λ _. true) (at (heap_of made m lost)) ≡ n = s.counts in
+          let e : numbered made (λ _. true) (at (heap_of made m lost)) ≡ numbered made (λ _. true) (kept m) = ap (numbered made (λ _. true)) (at_kept m) in
+          let f : numbered made (λ _. true) (at (heap_of made m lost)) ≡ n = s.counts in
           omega arith;
     }
 
@@ -110,7 +110,7 @@ pub record Released (made : ℕ) (m' : Slab Slot) (lost' : List ℕ) (words : Li
   pub drops : Drops h (heap_of made m' lost') (named words)
   pub lists : Lists h (heap_of made m' lost')
   pub heap : IsHeap (heap_of made m' lost')
-  pub room : length lost' + numbered (made + 1) (λ _. true) (at (heap_of made m' lost')) ≡ n
+  pub room : length lost' + numbered made (λ _. true) (at (heap_of made m' lost')) ≡ n
 
 released_here : (made : ℕ) (m m' : Slab Slot) (lost lost' : List ℕ) (words : List Word) (n : ℕ)
     → Stands made m lost n → AreHeld (heap_of made m lost) (named words) → Releases m m' words lost' → IsSorted nat_cmp lost'
@@ -119,21 +119,21 @@ released_here made m m' lost lost' words n s held g sorted =
     let h = heap_of made m lost in
     let h' = heap_of made m' lost' in
     let out : ℕ → ℕ = λ n. outside h n - named words n in
-    let r = g (made + 1) out (loose_of made m lost words s.heap held) in
+    let r = g made out (loose_of made m lost words s.heap held) in
     let d : Drops h h' (named words) =
-    subst (λ (f : Blocks). Freed (made + 1) out f (at h')) (sym (at_kept m)) (subst (λ (f : Blocks). Freed (made + 1) out (kept m) f) (sym (at_kept m')) r.0) in
-    let each : (p : ℕ → Bool) → count_by p lost' + numbered (made + 1) p (at h') ≡ numbered (made + 1) p (at h) = λ p.
-    (let x : count_by p lost' + numbered (made + 1) p (kept m') ≡ numbered (made + 1) p (kept m) = r.1 p in
-    let y : numbered (made + 1) p (at h) ≡ numbered (made + 1) p (kept m) = ap (numbered (made + 1) p) (at_kept m) in
-    let z : numbered (made + 1) p (at h') ≡ numbered (made + 1) p (kept m') = ap (numbered (made + 1) p) (at_kept m') in
+    subst (λ (f : Blocks). Freed made out f (at h')) (sym (at_kept m)) (subst (λ (f : Blocks). Freed made out (kept m) f) (sym (at_kept m')) r.0) in
+    let each : (p : ℕ → Bool) → count_by p lost' + numbered made p (at h') ≡ numbered made p (at h) = λ p.
+    (let x : count_by p lost' + numbered made p (kept m') ≡ numbered made p (kept m) = r.1 p in
+    let y : numbered made p (at h) ≡ numbered made p (kept m) = ap (numbered made p) (at_kept m) in
+    let z : numbered made p (at h') ≡ numbered made p (kept m') = ap (numbered made p) (at_kept m') in
     omega arith) in
     record {
       drops = d;
       lists = record { sorted = sorted; each = each };
       heap = heap_after h h' (named words) s.heap refl d;
       room =
-          let x : count_by (λ _. true) lost' + numbered (made + 1) (λ _. true) (at h') ≡ numbered (made + 1) (λ _. true) (at h) = each (λ _. true) in
-          let y : numbered (made + 1) (λ _. true) (at h) ≡ n = s.counts in
+          let x : count_by (λ _. true) lost' + numbered made (λ _. true) (at h') ≡ numbered made (λ _. true) (at h) = each (λ _. true) in
+          let y : numbered made (λ _. true) (at h) ≡ n = s.counts in
           let z : count_by (λ _. true) lost' ≡ length lost' = count_all lost' in
           omega arith;
     }

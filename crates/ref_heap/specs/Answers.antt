@@ -65,7 +65,7 @@ abbrev pub set_answer : Option Block → ℕ → Cell → Result (Unit {0}) Heap
 set_answer None i c = Err Dead
 set_answer (Some b) i c = fits_there (slice_get (words_of b) i) c
 
--- why numbers aren't added behind those of a block
+-- why a block isn't given more room
 abbrev pub extend_fault : Option Block → HeapFault
 extend_fault None = Dead
 extend_fault (Some b) = NoMemory

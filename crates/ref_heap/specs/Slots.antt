@@ -59,3 +59,9 @@ pub record Takes (old new : Slab Slot) (i : ℕ) (b : Option Slot) : Type 0 wher
 
 pub record SameBlocks (old new : Slab Slot) : Type 0 where
   pub same : (q : ℕ) → kept new q ≡ kept old q
+
+-- what was kept at k, whatever it was, is gone, and w is kept at j
+pub record Renamed (m m' : Blocks) (k j : ℕ) (w : Block) : Type 0 where
+  pub middle : Blocks
+  pub gone : Changed m middle k None
+  pub placed : Changed middle m' j (Some w)

@@ -1,11 +1,11 @@
 -- A heap: live blocks by their serials, and how often each is named. Where a block lies is no part of it.
 use Rattle.std.specs.Prelude.{◌≡◌, ℕ, zero, suc, ◌+◌, ◌-◌, ◌<◌, ◌≤◌, Bool, true, false, cond, eqb, List, [], ◌∷◌, map, slice_get, Option, Some, None, refl}
 use Rattle.std.specs.Ordering.{nat_cmp}
-use Rattle.std.specs.FinMap.{FinMap, get, insert, code}
+use Rattle.std.specs.FinMap.{FinMap, get, insert, remove, code}
 use Rattle.std.specs.Coded.{Coded, code_by, coded_ℕ, coded×, coded_list}
 use Rattle.ref_heap.specs.declared.kind.Kind.{Kind}
 use Rattle.ref_heap.specs.Kinds.{kind_code}
-use Rattle.ref_heap.specs.Words.{Cell, Content, content_code, cells, naming, numbers_in, plain, refer}
+use Rattle.ref_heap.specs.Words.{Cell, Content, content_code, cells, naming, numbers_in, plain, refer, wide}
 
 -- A block: what it is, how many references to it there are, and what it holds.
 pub record Block : Type 0 where
@@ -59,9 +59,9 @@ sum_below (suc n) f = f n + sum_below n f
 abbrev pub names : ℕ → Blocks → ℕ → ℕ
 names limit m n = sum_below limit (λ s. naming_in (m s) n)
 
--- Serials begin with 1, and the last one is the number of blocks made.
+-- Serials begin with 0, so each is below the number of blocks made.
 abbrev pub limit : Store → ℕ
-limit h = h.made + 1
+limit h = h.made
 
 -- How many words in blocks name block n.
 abbrev pub inside : Store → ℕ → ℕ
@@ -73,7 +73,7 @@ outside h n = count (at h) n - inside h n
 
 -- What is true of every heap. A count is never below the number of words in blocks that name the block.
 pub record IsHeap (h : Store) : Type 0 where
-  pub bounded : (n : ℕ) (b : Block) → at h n ≡ Some b → (0 < n) × (n ≤ h.made)
+  pub bounded : (n : ℕ) (b : Block) → at h n ≡ Some b → n < h.made
   pub counted : (n : ℕ) (b : Block) → at h n ≡ Some b → 0 < b.count
   pub enough : (n : ℕ) → inside h n ≤ count (at h) n
 
@@ -107,6 +107,13 @@ pub record IsAlone (h : Store) (k : ℕ) : Type 0 where
   pub unnamed : inside h k ≡ 0
   pub bare : (n : ℕ) → naming (words_of block) n ≡ 0
 
+-- Block k is live, and the only reference to it is held outside of blocks.
+pub record IsSole (h : Store) (k : ℕ) : Type 0 where
+  pub block : Block
+  pub live : at h k ≡ Some block
+  pub only : block.count ≡ 1
+  pub unnamed : inside h k ≡ 0
+
 -- 1 at k and 0 elsewhere
 abbrev pub one : ℕ → ℕ → ℕ
 one k n = cond (eqb k n) 1 0
@@ -115,9 +122,13 @@ one k n = cond (eqb k n) 1 0
 abbrev pub with_block : Store → ℕ → Block → Store
 with_block h s b = record h { blocks = insert h.blocks s b }
 
--- The heap in which one more block was made; its serial was never used before.
+-- The heap without the block there.
+abbrev pub without_block : Store → ℕ → Store
+without_block h s = record h { blocks = remove h.blocks s }
+
+-- The heap in which one more block was made; its serial is the number of blocks made before, and was never used.
 abbrev pub with_new : Store → Block → Store
-with_new h b = with_block (record h { made = h.made + 1 }) (h.made + 1) b
+with_new h b = with_block (record h { made = h.made + 1 }) h.made b
 
 -- A new block, to which its maker has the only reference.
 abbrev pub fresh : Kind → Content → Block
@@ -140,3 +151,7 @@ one_less b = record b { count = b.count - 1 }
 
 abbrev pub with_content : Block → Content → Block
 with_content b content = record b { content = content }
+
+-- The same block, kept in words that take addresses too.
+abbrev pub widened : Block → Block
+widened b = with_content b (wide (words_of b))

@@ -1,5 +1,5 @@
 -- What a heap of slots holds.
-use Rattle.std.specs.Prelude.{◌≡◌, ℕ, ◌+◌, ◌≤◌, true, List, [], ◌∷◌, Option, Some, None}
+use Rattle.std.specs.Prelude.{◌≡◌, ℕ, ◌≤◌, true, List, [], ◌∷◌, Option, Some, None}
 use Rattle.std.specs.Ordering.{nat_cmp}
 use Rattle.std.specs.FinMap.{FinMap, from_entries}
 use Rattle.std.specs.Vec.{vec_capacity}
@@ -29,7 +29,7 @@ store_of a = heap_of a.made a.slots a.lost.items
 pub record Stands (made : ℕ) (m : Slab Slot) (lost : List ℕ) (n : ℕ) : Type 0 where
   pub unique : IsUnique m
   pub heap : IsHeap (heap_of made m lost)
-  pub counts : numbered (made + 1) (λ _. true) (at (heap_of made m lost)) ≡ n
+  pub counts : numbered made (λ _. true) (at (heap_of made m lost)) ≡ n
 
 pub record IsKept (a : Inside) : Type 0 where
   pub stands : Stands a.made a.slots a.lost.items a.numbered

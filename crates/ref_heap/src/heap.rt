@@ -1,15 +1,15 @@
-ghost use Rattle.std.specs.Prelude.{◌≡◌, ℕ, ◌+◌, ◌<◌, ◌≤◌, Some, None, [], ◌∷◌, length, map, OnOk, OnErr, IfOk, IfErr, IsErr, Err, true, Bool, option_copied};
+ghost use Rattle.std.specs.Prelude.{◌≡◌, ℕ, ◌+◌, ◌<◌, ◌≤◌, Some, None, [], ◌∷◌, length, map, OnOk, OnErr, IfOk, IfErr, IsErr, IsOk, Err, true, Bool, option_copied};
 ghost use Rattle.std.specs.Vec.{vec_capacity};
 ghost use Rattle.ref_heap.specs.Words.{cell_of, cells, naming, wide, numbers_in, with_cell, with_more, MayTake, IsCompact, plain, refer};
 ghost use Rattle.ref_heap.specs.Kept.{blank_word};
 ghost use Rattle.ref_heap.specs.Kinds.{fd_number as fd_number_of};
-ghost use Rattle.ref_heap.specs.Store.{Block, IsHeap, AreHeld, IsAlone, IsLive, at, count, outside, one, with_block, with_new, with_content, fresh, blank_cells, one_more, one_less, words_of, word_in, live_numbers};
+ghost use Rattle.ref_heap.specs.Store.{Block, IsHeap, AreHeld, IsAlone, IsLive, IsSole, at, count, outside, one, with_block, with_new, without_block, widened, with_content, fresh, blank_cells, one_more, one_less, words_of, word_in, live_numbers};
 ghost use Rattle.ref_heap.specs.Drops.{Drops, Lists, Reuses};
 ghost use Rattle.ref_heap.specs.Answers.{answer_for, drop_answer, hold_answer, get_answer, set_answer, as_cell, make_fault, extend_fault, IsRefFault, most};
 
 use crate::freeing::{empty, release};
 use crate::kind::{Freed, HeapFault, Kind};
-use crate::slots::{Slot, extend, look, make_room, place, put, raise};
+use crate::slots::{Slot, extend, look, make_room, place, put, raise, rename, widen};
 use crate::word::{Ref, Word};
 use crate::words::Words;
 use slab::Slab;
@@ -20,7 +20,7 @@ use std::marker::Model;
 #[derive(Drop)]
 pub struct Heap {
     alloc: Global,
-    // How many blocks were made; the last one's serial.
+    // How many blocks were made: the next one's serial.
     made: u64,
     // How many live blocks are for open files: so many numbers `lost` has room for.
     numbered: usize,
@@ -69,7 +69,7 @@ impl Heap {
         let _ = &self.made;
     }
 
-    /// How many blocks were made; the serial of the last one.
+    /// How many blocks were made: the serial of the next one.
     pub fn made(&self) -> u64
         ensures { result ≡ self.now.made }
     {
@@ -167,7 +167,7 @@ impl Heap {
     /// # Errors
     /// 94 `Full` exactly where 18,446,744,073,709,551,615 blocks were made before; `NoMemory`. Then the heap is as before.
     pub fn alloc(&mut self, map: &[bool]) -> Result<Ref, HeapFault>
-        ensures serial { IfOk result (λ r. r.serial ≡ self.old.made + 1) }
+        ensures serial { IfOk result (λ r. r.serial ≡ self.old.made) }
         ensures ok { OnOk result (self.new ≡ with_new self.old (fresh Kind.Record (wide (blank_cells map.now)))) }
         ensures outside { IfOk result (λ r. (n : ℕ) → outside self.new n ≡ outside self.old n + one r.serial n) }
         ensures fault { IfErr result (λ e. e ≡ make_fault self.old) }
@@ -188,7 +188,7 @@ impl Heap {
     pub fn add(&mut self, kind: Kind, words: Words) -> Result<Ref, HeapFault>
         requires no_file { fd_number_of kind ≡ None }
         requires held { AreHeld self.old (naming (cells words)) }
-        ensures serial { IfOk result (λ r. r.serial ≡ self.old.made + 1) }
+        ensures serial { IfOk result (λ r. r.serial ≡ self.old.made) }
         ensures ok { OnOk result (self.new ≡ with_new self.old (fresh kind words)) }
         ensures outside { IfOk result (λ r. (n : ℕ) → outside self.new n + naming (cells words) n ≡ outside self.old n + one r.serial n) }
         ensures fault { IfErr result (λ e. e ≡ make_fault self.old) }
@@ -199,9 +199,9 @@ impl Heap {
             return Err(HeapFault::Full);
         }
         make_room(&mut self.slots)?;
-        let serial = self.made + 1;
+        let serial = self.made;
         let slot = place(&mut self.slots, serial, kind, words);
-        self.made = serial;
+        self.made += 1;
         Ok(Ref { slot, serial })
     }
 
@@ -213,7 +213,7 @@ impl Heap {
     pub fn add_ref(&mut self, kind: Kind, r: Ref) -> Result<Ref, HeapFault>
         requires no_file { fd_number_of kind ≡ None }
         requires live { IsLive self.old r.serial }
-        ensures serial { IfOk result (λ made. made.serial ≡ self.old.made + 1) }
+        ensures serial { IfOk result (λ made. made.serial ≡ self.old.made) }
         ensures ok { (b : Block) → at self.old r.serial ≡ Some b → OnOk result (self.new ≡ with_new (with_block self.old r.serial (one_more b)) (fresh kind (wide (refer (Some r.serial) ∷ [])))) }
         ensures outside { IfOk result (λ made. (n : ℕ) → outside self.new n ≡ outside self.old n + one made.serial n) }
         ensures fault { IfErr result (IsRefFault self.old r.serial) }
@@ -224,15 +224,15 @@ impl Heap {
         if self.made == u64::MAX {
             return Err(HeapFault::Full);
         }
-        let words = one_reference(self.alloc, r)?;
+        let words = single(self.alloc, Word::Refer(Some(r)))?;
         make_room(&mut self.slots)?;
         match raise(&mut self.slots, r) {
             Ok(()) => {}
             Err(fault) => return Err(fault),
         }
-        let serial = self.made + 1;
+        let serial = self.made;
         let slot = place(&mut self.slots, serial, kind, words);
-        self.made = serial;
+        self.made += 1;
         Ok(Ref { slot, serial })
     }
 
@@ -241,7 +241,7 @@ impl Heap {
     /// # Errors
     /// As `alloc`.
     pub fn alloc_fd(&mut self, number: u32) -> Result<Ref, HeapFault>
-        ensures serial { IfOk result (λ r. r.serial ≡ self.old.made + 1) }
+        ensures serial { IfOk result (λ r. r.serial ≡ self.old.made) }
         ensures ok { OnOk result (self.new ≡ with_new self.old (fresh (Kind.Fd number) (wide (plain number ∷ [])))) }
         ensures outside { IfOk result (λ r. (n : ℕ) → outside self.new n ≡ outside self.old n + one r.serial n) }
         ensures fault { IfErr result (λ e. e ≡ make_fault self.old) }
@@ -251,12 +251,12 @@ impl Heap {
         if self.made == u64::MAX {
             return Err(HeapFault::Full);
         }
-        let words = one_word(self.alloc, number)?;
+        let words = single(self.alloc, Word::Plain(number))?;
         let numbered = room_for(&mut self.lost, self.numbered)?;
         make_room(&mut self.slots)?;
-        let serial = self.made + 1;
+        let serial = self.made;
         let slot = place(&mut self.slots, serial, Kind::Fd { number }, words);
-        self.made = serial;
+        self.made += 1;
         self.numbered = numbered;
         Ok(Ref { slot, serial })
     }
@@ -268,7 +268,7 @@ impl Heap {
     /// As `alloc`.
     pub fn reuse(&mut self, r: Ref, map: &[bool]) -> Result<Ref, HeapFault>
         requires { IsAlone self.old r.serial }
-        ensures serial { IfOk result (λ r. r.serial ≡ self.old.made + 1) }
+        ensures serial { IfOk result (λ r. r.serial ≡ self.old.made) }
         ensures ok { OnOk result (Reuses self.old self.new r.serial (fresh Kind.Record (wide (blank_cells map.now)))) }
         ensures outside { IfOk result (λ made. (n : ℕ) → outside self.new n + one r.serial n ≡ outside self.old n + one made.serial n) }
         ensures fault { IfErr result (λ e. e ≡ make_fault self.old) }
@@ -281,9 +281,34 @@ impl Heap {
         let words = blank_words(self.alloc, map)?;
         empty(&mut self.slots, &mut self.lost, r);
         self.numbered -= self.lost.len();
-        let serial = self.made + 1;
+        let serial = self.made;
         let slot = place(&mut self.slots, serial, Kind::Record, words);
-        self.made = serial;
+        self.made += 1;
+        Ok(Ref { slot, serial })
+    }
+
+    /// A block to which the caller has the only reference gets the next serial, and keeps what it is and holds. So it is a
+    /// new block, and no block has its old serial. It takes no memory.
+    ///
+    /// # Errors
+    /// 94 `Full` exactly where 18,446,744,073,709,551,615 blocks were made before. Then the heap is as before.
+    pub fn renew(&mut self, r: Ref) -> Result<Ref, HeapFault>
+        requires { IsSole self.old r.serial }
+        ensures serial { IfOk result (λ renewed. renewed.serial ≡ self.old.made) }
+        ensures ok { (b : Block) → at self.old r.serial ≡ Some b → OnOk result (self.new ≡ with_new (without_block self.old r.serial) b) }
+        ensures gone { OnOk result (at self.new r.serial ≡ None) }
+        ensures outside { IfOk result (λ renewed. (n : ℕ) → outside self.new n + one r.serial n ≡ outside self.old n + one renewed.serial n) }
+        ensures fault { IfErr result (λ e. e ≡ HeapFault.Full) }
+        ensures full { self.old.made ≡ most → IsErr result }
+        ensures only_full { IsErr result → self.old.made ≡ most }
+        ensures err { OnErr result (self.new ≡ self.old) }
+    {
+        if self.made == u64::MAX {
+            return Err(HeapFault::Full);
+        }
+        let serial = self.made;
+        let slot = rename(&mut self.slots, r, serial);
+        self.made += 1;
         Ok(Ref { slot, serial })
     }
 
@@ -374,6 +399,22 @@ impl Heap {
     {
         extend(&mut self.slots, r, more)
     }
+
+    /// Keeps the words of a block so that they take addresses: a compact block is one no more. Its words, what it is and
+    /// how many references to it there are stay as they were.
+    ///
+    /// # Errors
+    /// 90 `Dead` exactly where the block isn't live; `NoMemory`, only of a compact block. Then the heap is as before.
+    pub fn widen(&mut self, r: Ref) -> Result<(), HeapFault>
+        ensures ok { (b : Block) → at self.old r.serial ≡ Some b → OnOk result (self.new ≡ with_block self.old r.serial (widened b)) }
+        ensures outside { OnOk result ((n : ℕ) → outside self.new n ≡ outside self.old n) }
+        ensures fault { IfErr result (λ e. e ≡ extend_fault (at self.old r.serial)) }
+        ensures wide { (b : Block) → at self.old r.serial ≡ Some b → numbers_in b.content ≡ None → IsOk result }
+        ensures dead { at self.old r.serial ≡ None → result ≡ Err HeapFault.Dead }
+        ensures err { OnErr result (self.new ≡ self.old) }
+    {
+        widen(&mut self.slots, self.alloc, r)
+    }
 }
 
 // Zeroed words by their marks.
@@ -397,17 +438,10 @@ fn blank_words(alloc: Global, map: &[bool]) -> Result<Words, AllocError>
     Ok(Words::wide(words))
 }
 
-fn one_word(alloc: Global, number: u32) -> Result<Words, AllocError>
-    ensures { IfOk result (λ words. words ≡ wide (plain number ∷ [])) }
+fn single(alloc: Global, word: Word) -> Result<Words, AllocError>
+    ensures { IfOk result (λ words. words ≡ wide (cell_of word ∷ [])) }
 {
-    let words = vec![in alloc; Word::Plain(number)]?;
-    Ok(Words::wide(words))
-}
-
-fn one_reference(alloc: Global, r: Ref) -> Result<Words, AllocError>
-    ensures { IfOk result (λ words. words ≡ wide (refer (Some r.serial) ∷ [])) }
-{
-    let words = vec![in alloc; Word::Refer(Some(r))]?;
+    let words = vec![in alloc; word]?;
     Ok(Words::wide(words))
 }
 

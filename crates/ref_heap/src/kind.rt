@@ -13,16 +13,18 @@ pub enum Kind {
     Fd { number: u32 },
     /// A string: a word for each character.
     Text,
-    /// An array of so many elements of so many bytes.
-    Array { size: u32, length: u32 },
+    /// An array of so many elements. What one of them is, a number tells that means what the heap's user says.
+    Array { element: u32, length: u32 },
     /// So many elements of an array, which its word refers to, from one on.
     Slice { from: u32, length: u32 },
     /// A cell of a list: a reference word with the rest, then the words of the element.
     Cell,
-    /// A channel.
-    Channel,
-    /// An instance of a module.
-    Instance,
+    /// A channel; the number tells what its elements are.
+    Channel { element: u32 },
+    /// An instance of the module of this number.
+    Instance { object: u32 },
+    /// The built-in module, linked to the names of this number.
+    Sys { names: u32 },
 }
 
 impl Kind {

@@ -1,16 +1,16 @@
-ghost use Rattle.std.specs.Prelude.{◌≡◌, ◌≢◌, ℕ, ◌+◌, ◌<◌, ◌≤◌, ◌-◌, Some, None, OnOk, OnErr, IfOk, IfErr, Err, IfSome, IfNone, OnSome, option_copied, slice_get};
+ghost use Rattle.std.specs.Prelude.{◌≡◌, ◌≢◌, ℕ, ◌+◌, ◌<◌, ◌≤◌, ◌-◌, Some, None, OnOk, OnErr, IfOk, IfErr, IsOk, Err, IfSome, IfNone, OnSome, option_copied, slice_get};
 ghost use Rattle.std.specs.Option.{option_map};
 ghost use Rattle.slab.specs.Slab.{get, slab_len, Updates, HasRoomFor};
 ghost use Rattle.ref_heap.specs.Answers.{hold_answer, set_answer, fits_there, extend_fault};
-ghost use Rattle.ref_heap.specs.Store.{Block, fresh, one_more, with_content, words_of};
-ghost use Rattle.ref_heap.specs.Words.{Content, cell_of, cells, with_cell, with_more, IsCompact};
-ghost use Rattle.ref_heap.specs.Slots.{IsAt, IsUnique, Absent, kept, block_of, Changed, DropsOne, Takes, KeepsOthers, KeepsNumbers, SameBlocks};
+ghost use Rattle.ref_heap.specs.Store.{Block, fresh, one_more, widened, with_content, words_of};
+ghost use Rattle.ref_heap.specs.Words.{Content, cell_of, cells, wide, with_cell, with_more, numbers_in, IsCompact};
+ghost use Rattle.ref_heap.specs.Slots.{IsAt, IsUnique, Absent, kept, block_of, Changed, DropsOne, Takes, KeepsOthers, KeepsNumbers, SameBlocks, Renamed};
 
 use crate::kind::{HeapFault, Kind};
 use crate::word::{Ref, Word};
 use crate::words::Words;
 use slab::Slab;
-use std::alloc::AllocError;
+use std::alloc::{AllocError, Global};
 
 /// A block in its slot. The count of a block that goes is the key of the next slot of the chain, or `u64::MAX`.
 #[derive(Drop)]
@@ -236,5 +236,53 @@ fn extend_at(slots: &mut Slab<Slot>, i: usize, more: &[u32]) -> Result<(), HeapF
             Err(_) => Err(HeapFault::NoMemory),
         },
         None => Err(HeapFault::Dead),
+    }
+}
+
+// Keeps the words of a block so that they take addresses.
+pub(crate) fn widen(slots: &mut Slab<Slot>, alloc: Global, r: Ref) -> Result<(), HeapFault>
+    requires { IsUnique slots.old }
+    ensures unique { IsUnique slots.new }
+    ensures fault { IfErr result (λ e. e ≡ extend_fault (kept slots.old r.serial)) }
+    ensures wide { (b : Block) → kept slots.old r.serial ≡ Some b → numbers_in b.content ≡ None → IsOk result }
+    ensures dead { kept slots.old r.serial ≡ None → result ≡ Err HeapFault.Dead }
+    ensures ok { (b : Block) → kept slots.old r.serial ≡ Some b → OnOk result (Changed (kept slots.old) (kept slots.new) r.serial (Some (widened b))) }
+    ensures err { OnErr result (SameBlocks slots.old slots.new) }
+{
+    match find(slots, r) {
+        Some(i) => widen_at(slots, alloc, i),
+        None => Err(HeapFault::Dead),
+    }
+}
+
+fn widen_at(slots: &mut Slab<Slot>, alloc: Global, i: usize) -> Result<(), HeapFault>
+    ensures fault { (b : Slot) → get slots.old i ≡ Some b → IfErr result (λ e. e ≡ HeapFault.NoMemory) }
+    ensures wide { (b : Slot) → get slots.old i ≡ Some b → numbers_in b.words ≡ None → IsOk result }
+    ensures ok { (b : Slot) → get slots.old i ≡ Some b → OnOk result (Updates slots.old slots.new i (Some (record b { words = wide (cells b.words) }))) }
+    ensures err { OnErr result (slots.new ≡ slots.old) }
+{
+    match slots.get_mut(i) {
+        Some(block) => match block.words.widen(alloc) {
+            Ok(()) => Ok(()),
+            Err(_) => Err(HeapFault::NoMemory),
+        },
+        None => Err(HeapFault::Dead),
+    }
+}
+
+// Gives a block to which there is one reference another serial. It answers where the block lies then.
+pub(crate) fn rename(slots: &mut Slab<Slot>, r: Ref, serial: u64) -> usize
+    requires unique { IsUnique slots.old }
+    requires live { kept slots.old r.serial ≢ None }
+    requires absent { kept slots.old serial ≡ None }
+    ensures unique { IsUnique slots.new }
+    ensures renamed { (b : Block) → kept slots.old r.serial ≡ Some b → Renamed (kept slots.old) (kept slots.new) r.serial serial (fresh b.kind b.content) }
+{
+    match find(slots, r) {
+        Some(i) => match take(slots, i as u64) {
+            Some(block) => place(slots, serial, block.kind, block.words),
+            None => unreachable!(),
+        },
+        None => unreachable!(),
     }
 }

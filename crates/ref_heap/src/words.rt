@@ -1,9 +1,9 @@
-ghost use Rattle.std.specs.Prelude.{◌≡◌, ◌++◌, ℕ, ◌<◌, Some, None, IfOk, OnOk, OnErr, map, length, slice_get, slice_set, option_copied, cond};
+ghost use Rattle.std.specs.Prelude.{◌≡◌, ◌++◌, ℕ, ◌<◌, Some, None, IfOk, IsOk, OnOk, OnErr, map, length, slice_get, slice_set, option_copied, cond};
 ghost use Rattle.std.specs.Option.{option_map};
 ghost use Rattle.ref_heap.specs.Words.{Content, wide as wide_of, compact as compact_of, cells, cell_of, naming, IsCompact, with_cell, with_more, numbers_in};
 
 use crate::word::{Place, Word};
-use std::alloc::AllocError;
+use std::alloc::{AllocError, Global};
 use std::marker::Model;
 
 /// The words of a block. Numbers alone may be kept compactly, in four bytes each; such words take no address and no
@@ -112,6 +112,30 @@ impl Words {
             Kept::Compact(numbers) => numbers.extend_from_slice(more),
         }
     }
+
+    /// Keeps the same words so that they take addresses.
+    pub(crate) fn widen(&mut self, alloc: Global) -> Result<(), AllocError>
+        ensures ok { OnOk result (self.new ≡ wide_of (cells self.old)) }
+        ensures wide { numbers_in self.old ≡ None → IsOk result }
+        ensures err { OnErr result (self.new ≡ self.old) }
+    {
+        let words = match &self.kept {
+            Kept::Wide(_) => return Ok(()),
+            Kept::Compact(numbers) => as_words(alloc, numbers)?,
+        };
+        self.kept = Kept::Wide(words);
+        Ok(())
+    }
+}
+
+fn as_words(alloc: Global, numbers: &[u32]) -> Result<Vec<Word>, AllocError>
+    ensures { IfOk result (λ words. words.items ≡ map Word.Plain numbers.now) }
+{
+    let mut words = Vec::with_capacity(alloc, numbers.len())?;
+    for number in numbers {
+        words.push(Word::Plain(*number))?;
+    }
+    Ok(words)
 }
 
 fn put_word(words: &mut Vec<Word>, i: usize, word: Word)

@@ -36,5 +36,5 @@ returns-clause-ok c =
 pub returns-clause-outside : goal.returns-clause-outside
 returns-clause-outside c n =
     let a = new_outside c.args.self.now c.args.kind c.args.words (subst (λ (v : Store). IsHeap v) c.self.view_is c.self.invariant.stands.heap) c.requires.held n in
-    let e : one (c.args.self.now.made + 1) n ≡ one (c.self.inside.made + 1) n = ap (λ (v : Store). one (v.made + 1) n) (sym c.self.view_is) in
-    subst (λ (v : Store). outside v n + naming (cells c.args.words) n ≡ outside c.args.self.now n + one (c.self.inside.made + 1) n) (sym (returns-clause-ok c)) (a ∙ ap (λ (x : ℕ). outside c.args.self.now n + x) e)
+    let e : one c.args.self.now.made n ≡ one c.self.inside.made n = ap (λ (v : Store). one v.made n) (sym c.self.view_is) in
+    subst (λ (v : Store). outside v n + naming (cells c.args.words) n ≡ outside c.args.self.now n + one c.self.inside.made n) (sym (returns-clause-ok c)) (a ∙ ap (λ (x : ℕ). outside c.args.self.now n + x) e)

@@ -1,4 +1,4 @@
-use Rattle.std.proofs.Common.{◌+◌, Some, sym, ◌∙◌, subst}
+use Rattle.std.proofs.Common.{Some, sym, ◌∙◌, subst}
 use Rattle.ref_heap.specs.Words.{Content}
 use Rattle.ref_heap.specs.Store.{fresh}
 use Rattle.ref_heap.specs.Slots.{Changed, kept}
@@ -26,13 +26,13 @@ pub place-slot-requires-clause-absent : goal.place-slot-requires-clause-absent
 place-slot-requires-clause-absent c = still_free c.self.inside.made c.self.inside.slots c.make_room.new.slots c.raise.new.slots c.self.inside.lost.items c.self.inside.numbered c.args.r.serial c.args.self.now c.self.invariant.stands c.self.view_is c.make_room.ensures.same c.requires.live c.in-Ok.ensures.ok
 
 pub invariant_of-self-2 : goal.invariant_of-self-2
-invariant_of-self-2 c = record { stands = (referred c.self.inside.made c.self.inside.slots c.make_room.new.slots c.raise.new.slots c.place-slot.new.slots c.self.inside.lost.items c.self.inside.numbered c.args.r.serial c.args.kind c.args.self.now c.self.invariant.stands c.self.view_is c.make_room.ensures.unique c.make_room.ensures.same c.requires.live c.raise.ensures.unique c.in-Ok.ensures.ok c.place-slot.ensures.unique (subst (λ (w : Content). Changed (kept c.raise.new.slots) (kept c.place-slot.new.slots) (c.self.inside.made + 1) (Some (fresh c.args.kind w))) c.in_ok-words.ensures c.place-slot.ensures.placed) c.requires.no_file).stands; room = c.self.invariant.room }
+invariant_of-self-2 c = record { stands = (referred c.self.inside.made c.self.inside.slots c.make_room.new.slots c.raise.new.slots c.place-slot.new.slots c.self.inside.lost.items c.self.inside.numbered c.args.r.serial c.args.kind c.args.self.now c.self.invariant.stands c.self.view_is c.make_room.ensures.unique c.make_room.ensures.same c.requires.live c.raise.ensures.unique c.in-Ok.ensures.ok c.place-slot.ensures.unique (subst (λ (w : Content). Changed (kept c.raise.new.slots) (kept c.place-slot.new.slots) c.self.inside.made (Some (fresh c.args.kind w))) c.in_ok-words.ensures c.place-slot.ensures.placed) c.requires.no_file).stands; room = c.self.invariant.room }
 
 pub returns-clause-ok : goal.returns-clause-ok
-returns-clause-ok c = (referred c.self.inside.made c.self.inside.slots c.make_room.new.slots c.raise.new.slots c.place-slot.new.slots c.self.inside.lost.items c.self.inside.numbered c.args.r.serial c.args.kind c.args.self.now c.self.invariant.stands c.self.view_is c.make_room.ensures.unique c.make_room.ensures.same c.requires.live c.raise.ensures.unique c.in-Ok.ensures.ok c.place-slot.ensures.unique (subst (λ (w : Content). Changed (kept c.raise.new.slots) (kept c.place-slot.new.slots) (c.self.inside.made + 1) (Some (fresh c.args.kind w))) c.in_ok-words.ensures c.place-slot.ensures.placed) c.requires.no_file).view
+returns-clause-ok c = (referred c.self.inside.made c.self.inside.slots c.make_room.new.slots c.raise.new.slots c.place-slot.new.slots c.self.inside.lost.items c.self.inside.numbered c.args.r.serial c.args.kind c.args.self.now c.self.invariant.stands c.self.view_is c.make_room.ensures.unique c.make_room.ensures.same c.requires.live c.raise.ensures.unique c.in-Ok.ensures.ok c.place-slot.ensures.unique (subst (λ (w : Content). Changed (kept c.raise.new.slots) (kept c.place-slot.new.slots) c.self.inside.made (Some (fresh c.args.kind w))) c.in_ok-words.ensures c.place-slot.ensures.placed) c.requires.no_file).view
 
 pub returns-clause-outside : goal.returns-clause-outside
-returns-clause-outside c = (referred c.self.inside.made c.self.inside.slots c.make_room.new.slots c.raise.new.slots c.place-slot.new.slots c.self.inside.lost.items c.self.inside.numbered c.args.r.serial c.args.kind c.args.self.now c.self.invariant.stands c.self.view_is c.make_room.ensures.unique c.make_room.ensures.same c.requires.live c.raise.ensures.unique c.in-Ok.ensures.ok c.place-slot.ensures.unique (subst (λ (w : Content). Changed (kept c.raise.new.slots) (kept c.place-slot.new.slots) (c.self.inside.made + 1) (Some (fresh c.args.kind w))) c.in_ok-words.ensures c.place-slot.ensures.placed) c.requires.no_file).outside
+returns-clause-outside c = (referred c.self.inside.made c.self.inside.slots c.make_room.new.slots c.raise.new.slots c.place-slot.new.slots c.self.inside.lost.items c.self.inside.numbered c.args.r.serial c.args.kind c.args.self.now c.self.invariant.stands c.self.view_is c.make_room.ensures.unique c.make_room.ensures.same c.requires.live c.raise.ensures.unique c.in-Ok.ensures.ok c.place-slot.ensures.unique (subst (λ (w : Content). Changed (kept c.raise.new.slots) (kept c.place-slot.new.slots) c.self.inside.made (Some (fresh c.args.kind w))) c.in_ok-words.ensures c.place-slot.ensures.placed) c.requires.no_file).outside
 
 pub returns-clause-full_count : goal.returns-clause-full_count
 returns-clause-full_count c e = absurd (held_small c.self.inside.made c.self.inside.slots c.make_room.new.slots c.self.inside.lost.items c.args.r.serial c.args.self.now c.self.view_is c.make_room.ensures.same c.requires.live (sym c.in-Ok.is ∙ c.raise.ensures.answer) e)

@@ -60,5 +60,5 @@ returns-clause-ok c =
 pub returns-clause-outside : goal.returns-clause-outside
 returns-clause-outside c n =
     let a = bare_outside c.args.self.now _ (Fd c.args.number) (wide (plain c.args.number ∷ [])) (returns-clause-ok c) (subst (λ (v : Store). IsHeap v) c.self.view_is c.self.invariant.stands.heap) (λ q. naming_cons (plain c.args.number) [] q ∙ omega arith) n in
-    let e : one (c.args.self.now.made + 1) n ≡ one (c.self.inside.made + 1) n = ap (λ (v : Store). one (v.made + 1) n) (sym c.self.view_is) in
+    let e : one c.args.self.now.made n ≡ one c.self.inside.made n = ap (λ (v : Store). one v.made n) (sym c.self.view_is) in
     a ∙ ap (λ (x : ℕ). outside c.args.self.now n + x) e

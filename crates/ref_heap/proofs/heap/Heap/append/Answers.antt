@@ -1,13 +1,13 @@
 use Rattle.std.proofs.Common.{◌≡◌, Option, sym, ◌∙◌, subst}
 use Rattle.std.specs.Prelude.{IfErr}
 use Rattle.ref_heap.specs.declared.kind.HeapFault.{HeapFault}
-use Rattle.ref_heap.specs.Words.{with_more}
+use Rattle.ref_heap.specs.Words.{Content, with_more}
 use Rattle.ref_heap.specs.Store.{Block, with_content}
 use Rattle.ref_heap.specs.Answers.{extend_fault}
 use Rattle.ref_heap.proofs.View.{at_view}
-use Rattle.ref_heap.proofs.Put.{append_stands, ok_view, err_view}
+use Rattle.ref_heap.proofs.Put.{content_stands, more_names, ok_view, err_view}
 use Rattle.ref_heap.specs.Store.{Store, IsHeap}
-use Rattle.ref_heap.proofs.Outside.{append_outside}
+use Rattle.ref_heap.proofs.Outside.{content_outside}
 use Rattle.ref_heap.proofs.heap.Heap.append.Goals as goal
 
 pub extend-requires-clause-compact : goal.extend-requires-clause-compact
@@ -17,7 +17,7 @@ pub invariant_of-self : goal.invariant_of-self
 invariant_of-self c =
     let i = c.self.invariant in
     record {
-      stands = append_stands c.extend.result c.self.inside.made c.self.inside.slots c.extend.new.slots c.self.inside.lost.items c.self.inside.numbered c.args.r.serial c.args.more.now
+      stands = content_stands c.extend.result c.self.inside.made c.self.inside.slots c.extend.new.slots c.self.inside.lost.items c.self.inside.numbered c.args.r.serial (λ (v : Content). with_more v c.args.more.now) (λ v q. more_names v c.args.more.now q)
           i.stands c.extend.ensures.unique c.extend.ensures.dead c.extend.ensures.ok c.extend.ensures.err;
       room = i.room;
     }
@@ -35,4 +35,4 @@ pub returns-clause-err : goal.returns-clause-err
 returns-clause-err c = err_view c.extend.result c.self.inside.made c.self.inside.slots c.extend.new.slots c.self.inside.lost.items c.args.self.now c.self.view_is c.extend.ensures.err
 
 pub returns-clause-outside : goal.returns-clause-outside
-returns-clause-outside c = append_outside c.extend.result c.args.self.now _ c.args.r.serial c.args.more.now (subst (λ (v : Store). IsHeap v) c.self.view_is c.self.invariant.stands.heap) (returns-clause-dead c) (returns-clause-ok c)
+returns-clause-outside c = content_outside c.extend.result c.args.self.now _ c.args.r.serial (λ (v : Content). with_more v c.args.more.now) (λ v q. more_names v c.args.more.now q) (subst (λ (v : Store). IsHeap v) c.self.view_is c.self.invariant.stands.heap) (returns-clause-dead c) (returns-clause-ok c)

@@ -61,5 +61,5 @@ returns-clause-ok c =
 pub returns-clause-outside : goal.returns-clause-outside
 returns-clause-outside c n =
     let a = reuse_outside c.args.self.now _ c.args.r.serial Record (wide (blank_cells c.args.map.now)) (subst (λ (v : Store). IsHeap v) c.self.view_is c.self.invariant.stands.heap) (alone_held c.args.self.now c.args.r.serial c.requires) (returns-clause-ok c) (λ q. blank_names c.args.map.now q) n in
-    let e : one (c.args.self.now.made + 1) n ≡ one (c.self.inside.made + 1) n = ap (λ (v : Store). one (v.made + 1) n) (sym c.self.view_is) in
+    let e : one c.args.self.now.made n ≡ one c.self.inside.made n = ap (λ (v : Store). one v.made n) (sym c.self.view_is) in
     a ∙ ap (λ (x : ℕ). outside c.args.self.now n + x) e
