@@ -1,5 +1,6 @@
 -- What a drop leaves is what stays.
-use Rattle.std.proofs.Common.{◌≡◌, ℕ, zero, suc, ◌+◌, ◌-◌, ◌<◌, ◌≤◌, Bool, true, false, cond, Option, Some, None, refl, sym, ap, subst, ◌∙◌, arith, ◌⊎◌, inl, inr}
+use Rattle.std.proofs.Common.{◌≡◌, ℕ, zero, suc, ◌+◌, ◌-◌, ◌<◌, ◌≤◌, Bool, true, false, cond}
+use Rattle.std.proofs.Common.{Option, Some, None, refl, sym, ap, subst, ◌∙◌, arith, ◌⊎◌, inl, inr}
 use Rattle.std.specs.Option.{option_map}
 use Rattle.ref_heap.specs.Words.{Content, cells, naming}
 use Rattle.ref_heap.specs.Store.{Block, Blocks, IsHeap, Store, at, count, count_in, inside, limit, names, naming_in, outside, sum_below}
@@ -50,7 +51,8 @@ counted_some true c (Some b) x e = (refl, (let f : c ≡ x.count = ap count_in e
 counted_some true c None x e = absurd cc
 counted_some false c o x e = absurd cc
 
-counted_there : (k : Bool) (c : ℕ) (o a : Option Block) (b : Block) → k ≡ true → o ≡ Some b → IsSameBut (only_if k (with_count c o)) a → (x : Block) × (a ≡ Some x)
+counted_there : (k : Bool) (c : ℕ) (o a : Option Block) (b : Block) → k ≡ true → o ≡ Some b
+    → IsSameBut (only_if k (with_count c o)) a → (x : Block) × (a ≡ Some x)
 counted_there true c (Some b') None b e f s = absurd s
 counted_there true c (Some b') (Some x) b e f s = (x, refl)
 counted_there true c None a b e f s = absurd cc
@@ -112,35 +114,42 @@ module _ (lim : ℕ) (out : ℕ → ℕ) (before after : Blocks) (freed : Freed 
   abbrev h : Heap Shape
   h = shapes_below lim before
 
-  abbrev stay : ℕ → Bool
-  stay = part naming_of out (shapes_below lim before)
+  abbrev HeldBy : (ℕ → Type 0) → ℕ → Type 0
+  HeldBy some n = Held (graph naming_of h) out some n
 
-  at_all : (n : ℕ) → place (shapes_below lim before) n ≡ option_map shape_of (before n)
+  abbrev stay : ℕ → Bool
+  stay = part naming_of out h
+
+  at_all : (n : ℕ) → place h n ≡ option_map shape_of (before n)
   at_all n = at_below_all lim before bounded n
 
-  uses_is : (a n : ℕ) → in_one naming_of (place (shapes_below lim before) a) n ≡ naming_in (before a) n
+  uses_is : (a n : ℕ) → in_one naming_of (place h a) n ≡ naming_in (before a) n
   uses_is a n = ap (λ (o : Option Shape). in_one naming_of o n) (at_all a) ∙ one_named (before a) n
 
-  alive : (n : ℕ) (b : Block) → before n ≡ Some b → there (place (shapes_below lim before) n) ≡ true
+  alive : (n : ℕ) (b : Block) → before n ≡ Some b → there (place h n) ≡ true
   alive n b e = ap there (at_all n) ∙ ap (λ (o : Option Block). there (option_map shape_of o)) e
 
-  is : IsKept (graph naming_of (shapes_below lim before)) out (part naming_of out (shapes_below lim before))
-  is = stays_is naming_of out (shapes_below lim before)
+  is : IsKept (graph naming_of h) out (part naming_of out h)
+  is = stays_is naming_of out h
 
   was : (n : ℕ) → stay n ≡ true → (b : Block) × (before n ≡ Some b)
   was n e = shape_some (before n) (ap there (sym (at_all n)) ∙ is.alive n e)
 
   -- what is there, and held by what stays, stays
-  join : (n : ℕ) → there (place (shapes_below lim before) n) ≡ true → Held (graph naming_of (shapes_below lim before)) out (λ a. stay a ≡ true) n → stay n ≡ true
+  join : (n : ℕ) → there (place h n) ≡ true → HeldBy (λ a. stay a ≡ true) n → stay n ≡ true
   join n live held = is.greatest (λ k. (stay k ≡ true) ⊎ (k ≡ n)) (λ k e. both k e) n (inr refl)
     where
-      more : (k : ℕ) → Held (graph naming_of (shapes_below lim before)) out (λ a. stay a ≡ true) k → Held (graph naming_of (shapes_below lim before)) out (λ a. (stay a ≡ true) ⊎ (a ≡ n)) k
+      more : (k : ℕ) → HeldBy (λ a. stay a ≡ true) k → HeldBy (λ a. (stay a ≡ true) ⊎ (a ≡ n)) k
       more k (inl p) = inl p
       more k (inr p) = inr (p.0, inl p.1, p.2)
 
-      both : (k : ℕ) → (stay k ≡ true) ⊎ (k ≡ n) → (there (place (shapes_below lim before) k) ≡ true) × Held (graph naming_of (shapes_below lim before)) out (λ a. (stay a ≡ true) ⊎ (a ≡ n)) k
+      both : (k : ℕ) → (stay k ≡ true) ⊎ (k ≡ n)
+          → (there (place h k) ≡ true) × HeldBy (λ a. (stay a ≡ true) ⊎ (a ≡ n)) k
       both k (inl y) = (is.alive k y, more k (is.held k y))
-      both k (inr y) = (ap (λ q. there (place (shapes_below lim before) q)) y ∙ live, more k (subst (λ q. Held (graph naming_of (shapes_below lim before)) out (λ a. stay a ≡ true) q) (sym y) held))
+      both k (inr y) = (
+        ap (λ q. there (place h q)) y ∙ live,
+        more k (subst (λ q. HeldBy (λ a. stay a ≡ true) q) (sym y) held),
+      )
 
   abbrev left : Blocks
   left n = only_if (stay n) (before n)
@@ -194,12 +203,14 @@ module _ (lim : ℕ) (out : ℕ → ℕ) (before after : Blocks) (freed : Freed 
   back : (n : ℕ) → stay n ≡ true → (b : Block) × (after n ≡ Some b)
   back n e =
       let b = was n e in
-      counted_there (stay n) (number n) (before n) (after n) b.0 e b.1 (freed.greatest rest (λ s. counted_same (stay s) (number s) (before s)) rest_settled n)
+      let same = freed.greatest rest (λ s. counted_same (stay s) (number s) (before s)) rest_settled n in
+      counted_there (stay n) (number n) (before n) (after n) b.0 e b.1 same
 
   forth : (n : ℕ) (b : Block) → after n ≡ Some b → stay n ≡ true
   forth n b e = is.greatest (λ k. (b : Block) × (after k ≡ Some b)) both n (b, e)
     where
-      both : (k : ℕ) → (b : Block) × (after k ≡ Some b) → (there (place (shapes_below lim before) k) ≡ true) × Held (graph naming_of (shapes_below lim before)) out (λ k. (b : Block) × (after k ≡ Some b)) k
+      both : (k : ℕ) → (b : Block) × (after k ≡ Some b)
+          → (there (place h k) ≡ true) × HeldBy (λ k. (b : Block) × (after k ≡ Some b)) k
       both k x =
           let w = same_some (after k) (before k) x.0 (freed.part k) x.1 in
           let c = freed.settled.counted k x.0 x.1 in
@@ -210,7 +221,8 @@ module _ (lim : ℕ) (out : ℕ → ℕ) (before after : Blocks) (freed : Freed 
               | inl r ↦ inl r
               | inr t ↦
                   let a = sum_some lim (λ s. naming_in (after s) k) t in
-                  inr (a.0, named_some (after a.0) k a.1, subst (λ v. 0 < v) (sym (uses_is a.0 k)) (same_named (after a.0) (before a.0) k (freed.part a.0) a.1))
+                  let named = same_named (after a.0) (before a.0) k (freed.part a.0) a.1 in
+                  inr (a.0, named_some (after a.0) k a.1, subst (λ v. 0 < v) (sym (uses_is a.0 k)) named)
             ],
           )
 
@@ -221,7 +233,7 @@ module _ (lim : ℕ) (out : ℕ → ℕ) (before after : Blocks) (freed : Freed 
   ]
 
   abbrev kept_if : Bool → ℕ → Option Shape
-  kept_if b n = cond {A = Option Shape} b (place (shapes_below lim before) n) None
+  kept_if b n = cond {A = Option Shape} b (place h n) None
 
   pub left_is : (n : ℕ) → place (stays naming_of out (shapes_below lim before)) n ≡ option_map shape_of (after n)
   left_is n = stays_at naming_of out (shapes_below lim before) n ∙ elim (none_or (after n)) [
@@ -235,20 +247,24 @@ count_some : (o : Option Block) → 0 < count_in o → (b : Block) × (o ≡ Som
 count_some None p = absurd (omega arith)
 count_some (Some b) p = (b, refl)
 
-pub cut_held : (before after : Store) (given : ℕ → ℕ) → GivesAway before after given → (n : ℕ) → outside after n + given n ≡ outside before n
+pub cut_held : (before after : Store) (given : ℕ → ℕ) → GivesAway before after given
+    → (n : ℕ) → outside after n + given n ≡ outside before n
 cut_held before after given away = drop_outside before after given away.made away.held away.drops
 
-pub cut_stays : (before after : Store) (given : ℕ → ℕ) → GivesAway before after given → shapes after ≡ stays naming_of (outside after) (shapes before)
+pub cut_stays : (before after : Store) (given : ℕ → ℕ) → GivesAway before after given
+    → shapes after ≡ stays naming_of (outside after) (shapes before)
 cut_stays before after given away =
     let held = cut_held before after given away in
     let ok = away.heap in
     let same : (λ n. outside before n - given n) ≡ outside after = fun_ext (λ n. let z = held n in omega arith) in
-    let freed : Freed (limit before) (outside after) (at before) (at after) = subst (λ (f : ℕ → ℕ). Freed (limit before) f (at before) (at after)) same away.drops in
+    let freed : Freed (limit before) (outside after) (at before) (at after) =
+    subst (λ (f : ℕ → ℕ). Freed (limit before) f (at before) (at after)) same away.drops in
     let left = left_is (limit before) (outside after) (at before) (at after) freed ok.bounded
     (λ n p. count_some (at before n) (let z = held n in let y : outside before n ≤ count (at before) n = omega arith in omega arith))
     (λ a n p. count_some (at before n) (
     let b = named_some (at before a) n p in
-    let x : naming_in (at before a) n ≤ inside before n = sum_has (limit before) (λ s. naming_in (at before s) n) a (ok.bounded a b.0 b.1) in
+    let x : naming_in (at before a) n ≤ inside before n =
+    sum_has (limit before) (λ s. naming_in (at before s) n) a (ok.bounded a b.0 b.1) in
     let y = ok.enough n in
     omega arith)) in
     same_places (shapes after) (stays naming_of (outside after) (shapes before))

@@ -1,12 +1,14 @@
 -- A heap whose values are told in another way.
-use Rattle.std.proofs.Common.{◌≡◌, ℕ, zero, suc, ◌+◌, Bool, true, false, [], ◌∷◌, ◌++◌, length, map, Option, Some, None, refl, ap, ◌∙◌, arith}
+use Rattle.std.proofs.Common.{◌≡◌, ℕ, zero, suc, ◌+◌, Bool, true, false, [], ◌∷◌, ◌++◌, length, map}
+use Rattle.std.proofs.Common.{Option, Some, None, refl, ap, ◌∙◌, arith}
 use Rattle.std.specs.Prelude.{eqb}
 use Rattle.std.specs.Option.{option_map}
 use Rattle.heap_model.specs.Heap.{Heap, at, gone, if_named, in_all, listed, lost_from, named_of, number, round, rounds, stays, there, went}
 use Rattle.heap_model.proofs.Heap.{fun_ext}
 use Rattle.heap_cuts.specs.Laws.{NamesAlike}
 
-pub stays_same : {A : Type 0} (inside : A → ℕ → ℕ) (roots roots' : ℕ → ℕ) (h : Heap A) → ((n : ℕ) → roots n ≡ roots' n) → stays inside roots h ≡ stays inside roots' h
+pub stays_same : {A : Type 0} (inside : A → ℕ → ℕ) (roots roots' : ℕ → ℕ) (h : Heap A) → ((n : ℕ) → roots n ≡ roots' n)
+    → stays inside roots h ≡ stays inside roots' h
 stays_same inside roots roots' h e = ap (λ (r : ℕ → ℕ). stays inside r h) (fun_ext e)
 
 module _ {A B : Type 0} (f : A → B) (inside : A → ℕ → ℕ) (inside' : B → ℕ → ℕ) where
@@ -52,15 +54,18 @@ module _ {A B : Type 0} (f : A → B) (inside : A → ℕ → ℕ) (inside' : B 
   round_alike : (roots : ℕ → ℕ) (h : Heap A) → NamesAlike f inside inside' h → NamesAlike f inside inside' (round inside roots h)
   round_alike roots h e k a is n = e k a (named_was (λ n. roots n + in_all inside h n) 0 h k a is) n
 
-  rounds_told : (roots : ℕ → ℕ) (fuel : ℕ) (h : Heap A) → NamesAlike f inside inside' h → rounds inside' roots fuel (told h) ≡ told (rounds inside roots fuel h)
+  rounds_told : (roots : ℕ → ℕ) (fuel : ℕ) (h : Heap A) → NamesAlike f inside inside' h
+      → rounds inside' roots fuel (told h) ≡ told (rounds inside roots fuel h)
   rounds_told roots zero h e = refl
   rounds_told roots (suc fuel) h e =
       let r = round_told roots h e in
-      go (eqb (number inside' (round inside' roots (told h))) (number inside' (told h))) (eqb (number inside (round inside roots h)) (number inside h))
+      go (eqb (number inside' (round inside' roots (told h))) (number inside' (told h)))
+      (eqb (number inside (round inside roots h)) (number inside h))
       ((λ i. eqb (number inside' (r i)) (number_told h i)) ∙ ap (λ m. eqb m (number inside h)) (number_told (round inside roots h)))
       (ap (λ (t : Heap B). rounds inside' roots fuel t) r ∙ rounds_told roots fuel (round inside roots h) (round_alike roots h e))
     where
-      go : (b c : Bool) → b ≡ c → rounds inside' roots fuel (round inside' roots (told h)) ≡ told (rounds inside roots fuel (round inside roots h))
+      go : (b c : Bool) → b ≡ c
+          → rounds inside' roots fuel (round inside' roots (told h)) ≡ told (rounds inside roots fuel (round inside roots h))
           → (elim b as (λ _. Heap B) [ true ↦ told h | false ↦ rounds inside' roots fuel (round inside' roots (told h)) ])
           ≡ told (elim c as (λ _. Heap A) [ true ↦ h | false ↦ rounds inside roots fuel (round inside roots h) ])
       go true true e s = refl
@@ -68,7 +73,8 @@ module _ {A B : Type 0} (f : A → B) (inside : A → ℕ → ℕ) (inside' : B 
       go true false e s = absurd cc
       go false true e s = absurd cc
 
-  pub stays_told : (roots : ℕ → ℕ) (h : Heap A) → NamesAlike f inside inside' h → stays inside' roots (map (option_map f) h) ≡ map (option_map f) (stays inside roots h)
+  pub stays_told : (roots : ℕ → ℕ) (h : Heap A) → NamesAlike f inside inside' h
+      → stays inside' roots (map (option_map f) h) ≡ map (option_map f) (stays inside roots h)
   stays_told roots h e = ap (λ l. rounds inside' roots l (told h)) (length_told h) ∙ rounds_told roots (length h) h e
 
   there_told : (o : Option A) → there (option_map f o) ≡ there o
@@ -78,7 +84,10 @@ module _ {A B : Type 0} (f : A → B) (inside : A → ℕ → ℕ) (inside' : B 
   lost_told : (n : ℕ) (g h : Heap A) → lost_from n (told g) (told h) ≡ lost_from n g h
   lost_told n [] h = refl
   lost_told n (o ∷ os) [] = refl
-  lost_told n (o ∷ os) (p ∷ ps) = let x = there_told o in let y = there_told p in let z = lost_told (suc n) os ps in λ i. listed (went (x i) (y i)) n ++ z i
+  lost_told n (o ∷ os) (p ∷ ps) =
+      let x = there_told o in let y = there_told p in let z = lost_told (suc n) os ps in
+      λ i. listed (went (x i) (y i)) n ++ z i
 
-  pub gone_told : (roots : ℕ → ℕ) (h : Heap A) → NamesAlike f inside inside' h → gone inside' roots (map (option_map f) h) ≡ gone inside roots h
+  pub gone_told : (roots : ℕ → ℕ) (h : Heap A) → NamesAlike f inside inside' h
+      → gone inside' roots (map (option_map f) h) ≡ gone inside roots h
   gone_told roots h e = ap (λ (t : Heap B). lost_from 0 (told h) t) (stays_told roots h e) ∙ lost_told 0 h (stays inside roots h)

@@ -1,11 +1,11 @@
 //! How a heap with counts and a heap that is cut stand together.
 
-ghost use Rattle.std.specs.Prelude.{◌≡◌, ℕ, ◌+◌, Some, None, [], ◌∷◌, ◌++◌, length, map, slice_set};
+ghost use Rattle.std.specs.Prelude.{◌≡◌, ℕ, ◌+◌, ◌≤◌, Some, None, [], ◌∷◌, ◌++◌, length, map, slice_set};
 ghost use Rattle.std.specs.Option.{option_map};
 ghost use Rattle.ref_heap.specs.Store.{Block, IsHeap, Store, at, count, inside, one_more, outside, with_block, with_new, without_block};
 ghost use Rattle.heap_model.specs.Heap.{Heap, at as place, gone, in_all, stays};
-ghost use Rattle.heap_cuts.specs.Laws.{GivesAway, NamesAlike};
-ghost use Rattle.heap_cuts.specs.Shapes.{naming_of, shape_of, shapes};
+ghost use Rattle.heap_cuts.specs.Laws.{GivesAway, LosesOnlyWhatGoes, NamesAlike, StandsFor};
+ghost use Rattle.heap_cuts.specs.Shapes.{Shape, naming_of, shape_of, shapes};
 
 /// What a drop leaves of the blocks is what stays of them, named so often as references are still held outside; those that are
 /// still held are the ones that weren't given away.
@@ -19,6 +19,12 @@ pub fn cut()
 /// A heap of which nothing is given away is its own cut.
 pub fn uncut()
     ensures { (h : Store) → IsHeap h → shapes h ≡ stays naming_of (outside h) (shapes h) }
+{}
+
+/// A block with one reference that becomes the next one, changed or not, is a block that is made while the old one goes.
+pub fn renewed()
+    ensures { (before after : Store) (k : ℕ) (s : Shape) → StandsFor before after k s
+        → shapes after ≡ stays naming_of (outside after) (shapes before ++ Some s ∷ []) }
 {}
 
 /// Each block is at the place of its serial; a block that is made comes to the end, one that is put changes its place alone, and so
@@ -50,4 +56,15 @@ pub fn mapped<A, B>()
 pub fn same_roots<A>()
     ensures { (inside : A → ℕ → ℕ) (roots roots' : ℕ → ℕ) (h : Heap A) → ((n : ℕ) → roots n ≡ roots' n)
         → stays inside roots h ≡ stays inside roots' h }
+{}
+
+/// What wouldn't stay may go before, and the same stays: a place that nobody names may be emptied, and a heap that was cut by more
+/// roots may be cut by fewer.
+pub fn early<A>()
+    ensures any { (inside : A → ℕ → ℕ) (roots : ℕ → ℕ) (h g : Heap A) → LosesOnlyWhatGoes inside roots h g
+        → stays inside roots g ≡ stays inside roots h }
+    ensures unnamed { (inside : A → ℕ → ℕ) (roots : ℕ → ℕ) (h : Heap A) (k : ℕ) → roots k ≡ 0 → in_all inside h k ≡ 0
+        → stays inside roots (slice_set h k None) ≡ stays inside roots h }
+    ensures twice { (inside : A → ℕ → ℕ) (roots fewer : ℕ → ℕ) (h : Heap A) → ((n : ℕ) → fewer n ≤ roots n)
+        → stays inside fewer (stays inside roots h) ≡ stays inside fewer h }
 {}

@@ -11,4 +11,4 @@
 
 mod laws;
 
-pub use laws::{cut, mapped, names, places, same_roots, uncut};
+pub use laws::{cut, early, mapped, names, places, renewed, same_roots, uncut};
