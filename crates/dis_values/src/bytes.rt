@@ -59,7 +59,7 @@ fn byte_of_word(word: &Word, k: u32) -> u8
 pub(crate) fn byte_in_block(heap: &Heap, block: Ref, i: u32) -> u8
     ensures { (b : Block) → at heap.now block.serial ≡ Some b → result ≡ byte_of (words_of b) i }
 {
-    match heap.get(block, i / 4) {
+    match heap.get(block, (i / 4) as usize) {
         Ok(word) => byte_of_word(&word, i % 4),
         Err(_) => 0,
     }
@@ -84,7 +84,7 @@ pub(crate) fn put_byte(heap: &mut Heap, block: Ref, i: u32, value: u8)
 {
     let number = number_in_block(heap, block, i / 4);
     let word = Word::Plain(with_byte(number, i % 4, value));
-    match heap.set_word(block, i / 4, word) {
+    match heap.set_word(block, (i / 4) as usize, word) {
         Ok(()) => {}
         Err(_) => unreachable!(),
     }

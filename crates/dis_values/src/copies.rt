@@ -99,7 +99,7 @@ fn put_number(heap: &mut Heap, block: Ref, i: u32, number: u32)
     ensures writes { Writes slice_get heap.old heap.new block.serial i 1 (λ _. Some (plain number)) }
     ensures outside { (n : ℕ) → outside heap.new n ≡ outside heap.old n }
 {
-    match heap.set_word(block, i, Word::Plain(number)) {
+    match heap.set_word(block, i as usize, Word::Plain(number)) {
         Ok(()) => {}
         Err(_) => unreachable!(),
     }

@@ -48,7 +48,7 @@ pub fn head(heap: &Heap, list: Ref, i: u32) -> Result<Word, HeapFault>
     requires { i < 4294967295 }
     ensures { (x : List Word32) (xs : List (List Word32)) → IsList heap.now (Some list.serial) (x ∷ xs) → as_cell result ≡ found (slice_get x i) }
 {
-    heap.get(list, i + 1)
+    heap.get(list, i as usize + 1)
 }
 
 /// The rest of a list behind its first element: none where that is nil.

@@ -31,7 +31,7 @@ fn read_words(
 {
     let mut words = Vec::with_capacity(alloc, count as usize)?;
     for i in 0..count {
-        match heap.get(block, from + i) {
+        match heap.get(block, (from + i) as usize) {
             Ok(word) => words.push(word)?,
             Err(_) => unreachable!(),
         }
@@ -138,7 +138,7 @@ fn put_word(heap: &mut Heap, block: Ref, i: u32, word: Word)
     requires held { AreHeld heap.old (naming (cell_of word ∷ [])) }
     ensures puts { Puts heap.old heap.new block.serial i (cell_of word ∷ []) }
 {
-    match heap.set_word(block, i, word) {
+    match heap.set_word(block, i as usize, word) {
         Ok(()) => {}
         Err(_) => unreachable!(),
     }

@@ -257,7 +257,7 @@ fn put_code(alloc: Global, heap: &mut Heap, r: Ref, i: u32, c: u32) -> Result<Re
     ensures err { OnErr result (heap.new ≡ heap.old) }
 {
     if is_alone(heap, r) {
-        return match heap.set_word(r, i, Word::Plain(c)) {
+        return match heap.set_word(r, i as usize, Word::Plain(c)) {
             Ok(()) => Ok(r),
             Err(_) => unreachable!(),
         };

@@ -48,7 +48,7 @@ pub fn put(heap: &mut Heap, r: Ref, i: u32, number: u32) -> Result<(), HeapFault
     if is_address(&word) {
         return Err(HeapFault::NotData);
     }
-    heap.set_word(r, i, word)
+    heap.set_word(r, i as usize, word)
 }
 
 impl Frame {
@@ -110,7 +110,7 @@ impl Frame {
                 if is_address(&word) {
                     return Err(HeapFault::NotData);
                 }
-                self.heap.set_word(r, i, word)
+                self.heap.set_word(r, i as usize, word)
             }
             None => Err(HeapFault::NotData),
         }

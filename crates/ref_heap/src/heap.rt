@@ -139,11 +139,11 @@ impl Heap {
     ///
     /// # Errors
     /// 90 `Dead` exactly where the block isn't live; 93 `OutOfBlock` exactly where it has no such word.
-    pub fn get(&self, r: Ref, i: u32) -> Result<Word, HeapFault>
+    pub fn get(&self, r: Ref, i: usize) -> Result<Word, HeapFault>
         ensures { as_cell result ≡ get_answer (at self.now r.serial) i }
     {
         match look(&self.slots, r) {
-            Some(block) => match block.words.get(i as usize) {
+            Some(block) => match block.words.get(i) {
                 Some(word) => Ok(word),
                 None => Err(HeapFault::OutOfBlock),
             },
@@ -374,7 +374,7 @@ impl Heap {
     /// # Errors
     /// 90 `Dead` exactly where the block isn't live; 93 `OutOfBlock` where it has no such word; 91 `NotPointer` where a
     /// reference meets a plain word; 92 `NotData` where a plain value or an address meets a reference word.
-    pub fn set_word(&mut self, r: Ref, i: u32, word: Word) -> Result<(), HeapFault>
+    pub fn set_word(&mut self, r: Ref, i: usize, word: Word) -> Result<(), HeapFault>
         requires held { AreHeld self.old (naming (cell_of word ∷ [])) }
         requires taken { (b : Block) → at self.old r.serial ≡ Some b → MayTake b.content (cell_of word) }
         ensures answer { result ≡ set_answer (at self.old r.serial) i (cell_of word) }

@@ -165,7 +165,7 @@ fn raise_at(slots: &mut Slab<Slot>, i: usize) -> Result<(), HeapFault>
 }
 
 // Sets word `at` of a block.
-pub(crate) fn put(slots: &mut Slab<Slot>, r: Ref, at: u32, word: Word) -> Result<(), HeapFault>
+pub(crate) fn put(slots: &mut Slab<Slot>, r: Ref, at: usize, word: Word) -> Result<(), HeapFault>
     requires { IsUnique slots.old }
     ensures unique { IsUnique slots.new }
     ensures answer { result ≡ set_answer (kept slots.old r.serial) at (cell_of word) }
@@ -178,7 +178,7 @@ pub(crate) fn put(slots: &mut Slab<Slot>, r: Ref, at: u32, word: Word) -> Result
     }
 }
 
-fn put_at(slots: &mut Slab<Slot>, i: usize, at: u32, word: Word) -> Result<(), HeapFault>
+fn put_at(slots: &mut Slab<Slot>, i: usize, at: usize, word: Word) -> Result<(), HeapFault>
     ensures answer { (b : Slot) → get slots.old i ≡ Some b → result ≡ set_answer (Some (block_of b)) at (cell_of word) }
     ensures ok { (b : Slot) → get slots.old i ≡ Some b → OnOk result (Updates slots.old slots.new i (Some (record b { words = with_cell b.words at (cell_of word) }))) }
     ensures err { OnErr result (slots.new ≡ slots.old) }
@@ -189,12 +189,12 @@ fn put_at(slots: &mut Slab<Slot>, i: usize, at: u32, word: Word) -> Result<(), H
     }
 }
 
-fn put_in(words: &mut Words, at: u32, word: Word) -> Result<(), HeapFault>
+fn put_in(words: &mut Words, at: usize, word: Word) -> Result<(), HeapFault>
     ensures answer { result ≡ fits_there (slice_get (cells words.old) at) (cell_of word) }
     ensures ok { OnOk result (words.new ≡ with_cell words.old at (cell_of word)) }
     ensures err { OnErr result (words.new ≡ words.old) }
 {
-    let here = match words.get(at as usize) {
+    let here = match words.get(at) {
         Some(here) => here,
         None => return Err(HeapFault::OutOfBlock),
     };
@@ -204,7 +204,7 @@ fn put_in(words: &mut Words, at: u32, word: Word) -> Result<(), HeapFault>
     if !here.is_reference() && word.is_reference() {
         return Err(HeapFault::NotPointer);
     }
-    words.set(at as usize, word);
+    words.set(at, word);
     Ok(())
 }
 

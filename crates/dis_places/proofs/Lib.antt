@@ -1,0 +1,4 @@
+pub mod Lists
+pub mod Serials
+pub mod Heaps
+pub mod Regions

@@ -1,0 +1,5 @@
+pub mod Words
+pub mod Blocks
+pub mod Frames
+pub mod View
+pub mod Regions
