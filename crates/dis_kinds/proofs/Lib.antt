@@ -1,3 +1,4 @@
 pub mod Heaps
 pub mod Found
 pub mod Chained
+pub mod Steps

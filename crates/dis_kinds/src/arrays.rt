@@ -77,10 +77,9 @@ fn part_of(memory: &Memory, part: Ref, start: u32, long: u32) -> Result<Elements
         Some(array) => {
             let whole = all_of(memory, array)?;
             Ok(Elements {
-                array: whole.array,
-                element: whole.element,
                 start,
                 long,
+                ..whole
             })
         }
         None => Err(Fault::TypeCheck),
