@@ -23,7 +23,7 @@ pub use blocks::data_of;
 pub use fault::{Fault, Halt, Raise};
 pub use frame::{Frame, blank};
 pub use frames::{Slot, find, position};
-pub use memory::Memory;
+pub use memory::{Memory, Tables};
 pub use numbers::{nth_number, number_at};
 pub use operands::{
     address, given_of, middle_of, middle_spot, middle_word, plain, read, read_number, reference,
