@@ -87,25 +87,25 @@ drop_goes n k (Chain rs) = omega arith
 
 -- ---- slots
 
-names_put : (n : ℕ) (slots : Slots) (s : ℕ) (v : Slot) → s < length slots
+pub names_put : (n : ℕ) (slots : Slots) (s : ℕ) (v : Slot) → s < length slots
     → slots_name (put slots s v) n + slot_names (slot slots s) n ≡ slots_name slots n + slot_names v n
 names_put n [] s v l = absurd (omega arith)
 names_put n (x ∷ slots) zero v l = omega arith
 names_put n (x ∷ slots) (suc s) v l = let a = names_put n slots s v (omega arith) in omega arith
 
-slot_other : (slots : Slots) (s d : ℕ) (v : Slot) → d ≢ s → slot (put slots s v) d ≡ slot slots d
+pub slot_other : (slots : Slots) (s d : ℕ) (v : Slot) → d ≢ s → slot (put slots s v) d ≡ slot slots d
 slot_other slots s d v e = get_or-set_other slots s d v empty e
 
-long_cleared : (slots : Slots) (from words : ℕ) → length (cleared slots from words) ≡ length slots
+pub long_cleared : (slots : Slots) (from words : ℕ) → length (cleared slots from words) ≡ length slots
 long_cleared slots from zero = refl
 long_cleared slots from (suc n) = length-set (cleared slots (suc from) n) from _ ∙ long_cleared slots (suc from) n
 
-cleared_below : (slots : Slots) (from words d : ℕ) → d < from → slot (cleared slots from words) d ≡ slot slots d
+pub cleared_below : (slots : Slots) (from words d : ℕ) → d < from → slot (cleared slots from words) d ≡ slot slots d
 cleared_below slots from zero d l = refl
 cleared_below slots from (suc n) d l =
     slot_other (cleared slots (suc from) n) from d empty (omega arith) ∙ cleared_below slots (suc from) n d (omega arith)
 
-names_cleared : (n : ℕ) (slots : Slots) (from words : ℕ) → from + words ≤ length slots
+pub names_cleared : (n : ℕ) (slots : Slots) (from words : ℕ) → from + words ≤ length slots
     → slots_name (cleared slots from words) n + region_names (region slots from words) n ≡ slots_name slots n
 names_cleared n slots from zero l = omega arith
 names_cleared n slots from (suc words) l =
@@ -115,20 +115,20 @@ names_cleared n slots from (suc words) l =
     let d = ap (λ (s : Slot). slot_names s n) (cleared_below slots (suc from) words from (omega arith)) in
     omega arith
 
-names_chained : (n : ℕ) (rs : Regions) (g : Region) → regions_name (chained rs g) n ≡ regions_name rs n + region_names g n
+pub names_chained : (n : ℕ) (rs : Regions) (g : Region) → regions_name (chained rs g) n ≡ regions_name rs n + region_names g n
 names_chained n NoRegion g = omega arith
 names_chained n (MoreRegions h rs) g = let a = names_chained n rs g in omega arith
 
-long_placed : (slots : Slots) (from : ℕ) (g : Region) → length (placed slots from g) ≡ length slots
+pub long_placed : (slots : Slots) (from : ℕ) (g : Region) → length (placed slots from g) ≡ length slots
 long_placed slots from NoSlot = refl
 long_placed slots from (MoreSlots s g) = length-set (placed slots (suc from) g) from _ ∙ long_placed slots (suc from) g
 
-placed_below : (slots : Slots) (from d : ℕ) (g : Region) → d < from → slot (placed slots from g) d ≡ slot slots d
+pub placed_below : (slots : Slots) (from d : ℕ) (g : Region) → d < from → slot (placed slots from g) d ≡ slot slots d
 placed_below slots from d NoSlot l = refl
 placed_below slots from d (MoreSlots s g) l =
     slot_other (placed slots (suc from) g) from d s (omega arith) ∙ placed_below slots (suc from) d g (omega arith)
 
-names_placed : (n : ℕ) (slots : Slots) (from : ℕ) (g : Region) → from + size g ≤ length slots
+pub names_placed : (n : ℕ) (slots : Slots) (from : ℕ) (g : Region) → from + size g ≤ length slots
     → slots_name (placed slots from g) n + region_names (region slots from (size g)) n ≡ slots_name slots n + region_names g n
 names_placed n slots from NoSlot l = omega arith
 names_placed n slots from (MoreSlots s g) l =
@@ -163,12 +163,12 @@ zero_adt : (n : ℕ) (defs : List Def) (depth k : ℕ) → among n (references (
 zero_adt n defs zero k = refl
 zero_adt n defs (suc d) k = zero_by_def n (adt_formed defs d) (zero_adt n defs d) (slice_get defs k)
 
-zero_fitted : (n : ℕ) (defs : List Def) (t : Ty) → among n (references (fitted defs t nothing)) ≡ 0
+pub zero_fitted : (n : ℕ) (defs : List Def) (t : Ty) → among n (references (fitted defs t nothing)) ≡ 0
 zero_fitted n defs t = zero_names n (adt_formed defs (length defs)) (zero_adt n defs (length defs)) t
 
 -- ---- a part that is taken out
 
-part_goes : (n k : ℕ) (z : Value) (vs : Values) → among n (references z) ≡ 0
+pub part_goes : (n k : ℕ) (z : Value) (vs : Values) → among n (references z) ≡ 0
     → among n (all_references (put_part k z vs)) + among n (references (value_part k vs)) ≡ among n (all_references vs)
 part_goes n zero z NoValues e = omega arith
 part_goes n (suc k) z NoValues e = let a = part_goes n k z NoValues e in omega arith
@@ -257,15 +257,15 @@ moves_parts limit program w v p q t part into from vs e c f apart li lf z =
 
 -- ---- a tuple's parts
 
-emptied_other : (slots : Slots) (ss : List ℕ) (d : ℕ) → DiffersFrom d ss → slot (emptied slots ss) d ≡ slot slots d
+pub emptied_other : (slots : Slots) (ss : List ℕ) (d : ℕ) → DiffersFrom d ss → slot (emptied slots ss) d ≡ slot slots d
 emptied_other slots [] d h = refl
 emptied_other slots (s ∷ ss) d h = slot_other (emptied slots ss) s d empty h.0 ∙ emptied_other slots ss d h.1
 
-long_emptied : (slots : Slots) (ss : List ℕ) → length (emptied slots ss) ≡ length slots
+pub long_emptied : (slots : Slots) (ss : List ℕ) → length (emptied slots ss) ≡ length slots
 long_emptied slots [] = refl
 long_emptied slots (s ∷ ss) = length-set (emptied slots ss) s _ ∙ long_emptied slots ss
 
-names_emptied : (n : ℕ) (slots : Slots) (ss : List ℕ) → AllDiffer ss → HoldValues slots ss
+pub names_emptied : (n : ℕ) (slots : Slots) (ss : List ℕ) → AllDiffer ss → HoldValues slots ss
     → slots_name (emptied slots ss) n + among n (references_in (values_of slots ss)) ≡ slots_name slots n
 names_emptied n slots [] d h = omega arith
 names_emptied n slots (s ∷ ss) d h =
@@ -277,15 +277,15 @@ names_emptied n slots (s ∷ ss) d h =
     let f = among_join n (references (value_of (slot slots s))) (references_in (values_of slots ss)) in
     omega arith
 
-listed_row : (vs : List Value) → listed (row vs) ≡ vs
+pub listed_row : (vs : List Value) → listed (row vs) ≡ vs
 listed_row [] = refl
 listed_row (v ∷ vs) = ap (λ (us : List Value). v ∷ us) (listed_row vs)
 
-row_references : (vs : List Value) → all_references (row vs) ≡ references_in vs
+pub row_references : (vs : List Value) → all_references (row vs) ≡ references_in vs
 row_references [] = refl
 row_references (v ∷ vs) = ap (λ (rs : List (Option ℕ)). references v ++ rs) (row_references vs)
 
-names_in_join : (n : ℕ) (us vs : List Value) → among n (references_in (us ++ vs)) ≡ among n (references_in us) + among n (references_in vs)
+pub names_in_join : (n : ℕ) (us vs : List Value) → among n (references_in (us ++ vs)) ≡ among n (references_in us) + among n (references_in vs)
 names_in_join n [] vs = omega arith
 names_in_join n (u ∷ us) vs =
     let a = names_in_join n us vs in
@@ -294,7 +294,7 @@ names_in_join n (u ∷ us) vs =
     omega arith
 
 -- as ones of their types values have the names that they have
-fitted_names : (n : ℕ) (defs : List Def) (ts : List Ty) (vs : List Value) → AreOf defs ts vs
+pub fitted_names : (n : ℕ) (defs : List Def) (ts : List Ty) (vs : List Value) → AreOf defs ts vs
     → among n (references_in (all_fitted defs ts vs)) ≡ among n (references_in vs)
 fitted_names n defs [] [] h = refl
 fitted_names n defs [] (v ∷ vs) h = absurd h
@@ -315,7 +315,7 @@ fitted_names n defs (t ∷ ts) (v ∷ vs) h =
     omega arith
 
 -- a value made of parts has their names
-made_names : (n : ℕ) (defs : List Def) (ts : List Ty) (vs : List Value) → AreOf defs ts vs
+pub made_names : (n : ℕ) (defs : List Def) (ts : List Ty) (vs : List Value) → AreOf defs ts vs
     → among n (references (with_parts defs ts (Parts (row vs)))) ≡ among n (references_in vs)
 made_names n defs ts vs h =
     ap (λ (us : List Value). among n (all_references (row (all_fitted defs ts us)))) (listed_row vs)
@@ -336,7 +336,7 @@ split_names n (suc k) (v ∷ vs) =
     omega arith
 
 -- the tag, and what other variants have, name nothing
-adt_names : (n : ℕ) (d : Def) (variant : Option ℕ) (vs : List Value)
+pub adt_names : (n : ℕ) (d : Def) (variant : Option ℕ) (vs : List Value)
     → among n (references_in (adt_parts (Some d) variant vs)) ≡ among n (references_in vs)
 adt_names n d None vs = refl
 adt_names n d (Some k) vs =

@@ -159,7 +159,7 @@ module _ (defs : List Def) where
   use_cell_drops n (suc count) free l = (omega arith, use_cell_drops n count (suc free) (omega arith))
 
   -- how a node leaves the slots: it takes some or none
-  node_up : (u t : Ty) (o : Work) (l : LoweredAll) → l.free ≤ (node defs u t o l).free
+  pub node_up : (u t : Ty) (o : Work) (l : LoweredAll) → l.free ≤ (node defs u t o l).free
   node_up u t (Operate o) l = go (passes_on o)
     where
       go : (h : Bool) → l.free ≤ (if h then gathers defs t o l else gives defs t (Operate o) l).free
@@ -228,22 +228,22 @@ module _ (defs : List Def) where
 
   -- ---- each part takes the slots behind those before it
 
-  either_up : (h : Bool) (lo s : ℕ) (e : Term) → lo ≤ (lower defs lo e).free
+  pub either_up : (h : Bool) (lo s : ℕ) (e : Term) → lo ≤ (lower defs lo e).free
       → lo ≤ (if h then (lower defs (if h then lo else s) e).free else lo)
   either_up true lo s e l = l
   either_up false lo s e l = omega arith
 
-  others_up : (h : Bool) (t : Ty) (a : ℕ) (zs : List ℤ) (lo s : ℕ) (e : Term) → suc (suc lo) ≤ (lower defs (suc (suc lo)) e).free
+  pub others_up : (h : Bool) (t : Ty) (a : ℕ) (zs : List ℤ) (lo s : ℕ) (e : Term) → suc (suc lo) ≤ (lower defs (suc (suc lo)) e).free
       → lo ≤ (others defs h t a zs lo (lower defs (if h then suc (suc lo) else s) e)).free
   others_up true t a zs lo s e l = omega arith
   others_up false t a zs lo s e l = omega arith
 
-  end_up : (s : ℕ) (is : Items) → s ≤ items_end defs s is
+  pub end_up : (s : ℕ) (is : Items) → s ≤ items_end defs s is
   end_up s NoItems = omega arith
   end_up s (MoreItems i e is) = let a = end_up s is in omega arith
 
   mutual
-    term_up : (lo : ℕ) (t : Term) → lo ≤ (lower defs lo t).free
+    pub term_up : (lo : ℕ) (t : Term) → lo ≤ (lower defs lo t).free
     term_up lo (Evaluated v) = omega arith
     term_up lo (Node t o ts) = let a = terms_up lo ts in let b = node_up (type_at defs 0 ts) t o (lower_all defs lo ts) in omega arith
     term_up lo (Lazy c l r) =
@@ -265,11 +265,11 @@ module _ (defs : List Def) where
         omega arith
     term_up lo t = omega arith
 
-    terms_up : (lo : ℕ) (ts : Terms) → lo ≤ (lower_all defs lo ts).free
+    pub terms_up : (lo : ℕ) (ts : Terms) → lo ≤ (lower_all defs lo ts).free
     terms_up lo NoTerms = omega arith
     terms_up lo (MoreTerms t ts) = let a = term_up lo t in let b = terms_up (lower defs lo t).free ts in omega arith
 
-    items_up : (t : Ty) (a s lo : ℕ) (is : Items) → lo ≤ (lower_items defs t a s lo is).free
+    pub items_up : (t : Ty) (a s lo : ℕ) (is : Items) → lo ≤ (lower_items defs t a s lo is).free
     items_up t a s lo NoItems = omega arith
     items_up t a s lo (MoreItems i e is) =
         let x = lower defs (if may_hold defs e then lo else s) e in
@@ -277,7 +277,7 @@ module _ (defs : List Def) where
         let g = items_up t a s (if may_hold defs e then x.free else lo) is in
         omega arith
 
-    rest_up : (t : Ty) (a : ℕ) (zs : List ℤ) (s lo : ℕ) (ts : Terms) → lo ≤ (lower_rest defs t a zs s lo ts).free
+    pub rest_up : (t : Ty) (a : ℕ) (zs : List ℤ) (s lo : ℕ) (ts : Terms) → lo ≤ (lower_rest defs t a zs s lo ts).free
     rest_up t a zs s lo NoTerms = omega arith
     rest_up t a zs s lo (MoreTerms e es) = others_up (may_hold defs e) t a zs lo s e (term_up (suc (suc lo)) e)
 

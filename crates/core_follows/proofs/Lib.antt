@@ -1,0 +1,14 @@
+pub mod Slots
+pub mod Drops
+pub mod Holding
+pub mod Contexts
+pub mod Static
+pub mod Nodes
+pub mod Given
+pub mod Works
+pub mod Terms
+pub mod Dropped
+pub mod Blocks
+pub mod Valued
+pub mod Statements
+pub mod Follows

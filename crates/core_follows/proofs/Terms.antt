@@ -1,0 +1,653 @@
+-- Expressions: what the code of a tree does is what the tree does, whatever comes behind.
+use Rattle.std.proofs.Common.{◌≡◌, ℕ, ℤ, suc, pos, ◌+◌, ◌-◌, ◌<◌, ◌≤◌, Bool, true, false, List, [], ◌∷◌, ◌++◌, length, Option, Some}
+use Rattle.std.proofs.Common.{None, Ok, Err, refl, sym, ap, subst, ◌∙◌, arith, append-nil, append_assoc, length-append, inl, inr, ⊎_elim, ◌⊎◌}
+use Rattle.std.specs.Prelude.{slice_get, if◌then◌else◌}
+use Rattle.limbo_types.specs.Types.{Ty}
+use Rattle.limbo_layout.specs.Adts.{Def}
+use Rattle.limbo_typed.specs.declared.operation.Operation.{Operation}
+use Rattle.limbo_typed.specs.declared.operation.Connective.{Connective}
+use Rattle.limbo_typed.specs.declared.operation.Given.{Given}
+use Rattle.limbo_typed.specs.declared.operation.Given.TheVariants as given_kind
+use Rattle.limbo_meaning.specs.Values.{Value, Num, fitted, references, among}
+use Rattle.limbo_meaning.specs.Memory.{Memory}
+use Rattle.limbo_meaning.specs.Exceptions.{Raising}
+use Rattle.limbo_meaning.specs.Places.{Way, Place, read, written}
+use Rattle.limbo_values.specs.Operators.{truth}
+use Rattle.limbo_meaning.specs.Operations.{Outcome, result_of, decides, holds, truth_of}
+use Rattle.limbo_meaning.specs.Trees as tree
+use Rattle.limbo_meaning.specs.Trees.{Aim, Term, Evaluated, Node, Lazy, Deciding, Update, Change, Put, Fill, Block, Work, Operate, Terms}
+use Rattle.limbo_meaning.specs.Trees.{NoTerms, MoreTerms}
+use Rattle.limbo_meaning.specs.Evaluation as evaluation
+use Rattle.limbo_meaning.specs.Evaluation.{Progress, Finished, Stepped, after, unless_raised, next, next_all, fill, fill_all, performed}
+use Rattle.limbo_meaning.specs.Evaluation.{passes_on, got_by, work_refers, refers, may_hold, note, operands_for, decided, reads_first, changes}
+use Rattle.limbo_meaning.specs.Evaluation.{given_by}
+use Rattle.limbo_meaning.specs.Program.{Program}
+use Rattle.core_code.specs.Slots.{Slot, Holds, Slots, slot, put, value_of, values_of, slot_names}
+use Rattle.core_code.specs.Code.{Instr, Give, Known, Write, Skip, Truth, Mirror}
+use Rattle.core_code.specs.Machine as machine
+use Rattle.core_code.specs.Machine.{Frame, at, memory_of}
+use Rattle.core_code.specs.Terms.{Lowered, LoweredAll, drops_from, drops_if, count_of, slot_at, writes, type_at}
+use Rattle.core_code.specs.Terms.{gives, gathers, node, lower, lower_all, given_slot}
+use Rattle.core_code.specs.Statements.{code_of}
+use Rattle.core_code.proofs.Used.{term_up, terms_up}
+use Rattle.core_follows.specs.Drops.{Clean, Between, AllTouch, HasAt, none, enters, passes, Holding}
+use Rattle.core_follows.specs.Stands.{coded, Stands, Going, going, obeying}
+use Rattle.core_follows.specs.Stands.{place_at, rests}
+use Rattle.core_follows.specs.Handled.{count, Suits, Declares, Handled, AllHandled}
+use Rattle.std.proofs.lemmas.Bool.{cases_eq}
+use Rattle.core_follows.proofs.Slots.{put_same, put_other, put_long, name_clean}
+use Rattle.core_follows.proofs.Holding.{has_front, has_back, Room, room_front, room_behind, holding_none, holding_more}
+use Rattle.core_follows.proofs.Holding.{holding_put}
+use Rattle.core_follows.proofs.Contexts.{Carries, carry}
+use Rattle.core_follows.proofs.Static.{touch_wide, drops_within, no_drops, values_counted}
+use Rattle.core_follows.proofs.Nodes.{AllBetween, between_wide, AllHold, hold_same, hold_values, evaluated}
+use Rattle.core_follows.proofs.Nodes.{evaluated_done, spot, pc_is, Behind, store_goes, gives_always}
+use Rattle.core_follows.proofs.Given.{Both, gave, raised, give_goes, owns_row, owns_none, owns_fitted, counted}
+use Rattle.core_follows.proofs.Works.{Own, own_gives, own_channel, own_call, own_print, own_writes, own_nothing, own_copy, own_link}
+
+-- ---- nothing waits in a tree of which nothing is evaluated
+
+mutual
+  pub handled_fill : (v : Value) (t : Term) → Handled t → fill v t ≡ t
+  handled_fill v (Node t o ts) h = ap (Node t o) (⊎_elim
+      (λ (x : Suits o (count ts) × AllHandled ts). handled_fill_all v ts x.1)
+      (λ (x : Declares o ts). declared_fill v o ts x) h)
+  handled_fill v (Lazy c l r) h = ap (λ (x : Term). Lazy c x r) (handled_fill v l h.0)
+  handled_fill v (Update o g t w ts us) h = ap (λ (x : Terms). Update o g t w x us) (handled_fill_all v ts h.1)
+  handled_fill v _ h = absurd h
+
+  pub handled_fill_all : (v : Value) (ts : Terms) → AllHandled ts → fill_all v ts ≡ ts
+  handled_fill_all v NoTerms h = refl
+  handled_fill_all v (MoreTerms t ts) h =
+      ap (λ (x : Term). MoreTerms x (fill_all v ts)) (handled_fill v t h.0) ∙ ap (MoreTerms t) (handled_fill_all v ts h.1)
+
+  declared_fill : (v : Value) (o : Work) (ts : Terms) → Declares o ts → fill_all v ts ≡ ts
+  declared_fill v (tree.Assign (a ∷ aims)) (MoreTerms (Evaluated x) NoTerms) h = refl
+  declared_fill v _ _ h = absurd h
+
+module _ (limit : ℕ) (program : Program) where
+  abbrev defs : List Def
+  defs = program.adts
+
+  -- ---- what is to be shown of a tree and its code
+
+  abbrev pub GoesBy : (lo : ℕ) → Term → Lowered → Type 0
+  GoesBy lo t x =
+      (C : Term → Block) → Carries limit program (next program.adts) fill C → (g : Frame) (held : List (Option ℕ))
+      → HasAt g.code g.pc x.code → Room g.slots lo x.free held
+      → Behind limit program g lo x.free x.value (g.pc + length x.code) x.drops held (λ v. C (Evaluated v)) → Going limit program g held (C t)
+
+  -- Operands behind which a step of the program may come that no instruction stands for, or an instruction.
+  abbrev pub Comes : Bool → Frame → List (Option ℕ) → Block → Type 0
+  Comes true g held b = Going limit program g held b
+  Comes false g held b = Stands limit program g held b
+
+  comes : (b : Bool) (g : Frame) (held : List (Option ℕ)) (todo : Block) → Comes b g held todo → Stands limit program g held todo
+  comes true g held todo x = going x
+  comes false g held todo x = x
+
+  abbrev pub begun : Bool → Terms → Bool
+  begun b NoTerms = b
+  begun b (MoreTerms t ts) = true
+
+  begins : (ts : Terms) (g : Frame) (held : List (Option ℕ)) (todo : Block) → Comes (begun true ts) g held todo → Going limit program g held todo
+  begins NoTerms g held todo x = x
+  begins (MoreTerms t ts) g held todo x = x
+
+  abbrev pub AllBy : Bool → (lo : ℕ) → Terms → LoweredAll → Type 0
+  AllBy b lo ts x =
+      (C : Terms → Block) → Carries limit program (next_all program.adts) fill_all C → (g : Frame) (held : List (Option ℕ))
+      → HasAt g.code g.pc x.code → Room g.slots lo x.free held
+      → ((j : ℕ) (variables : List Value) (slots : Slots) (vs : List Value) (got held' : List (Option ℕ)) → Holding g.slots slots lo x.free x.drops got
+      → AllHold slots x.values vs → AllBetween lo x.free x.values → held' ≡ held ++ got
+      → Comes b (spot g j (g.pc + length x.code) variables slots) held' (C (evaluated vs)))
+      → Comes (begun b ts) g held (C ts)
+
+  in_node : (C : Term → Block) → Carries limit program (next program.adts) fill C → (t : Ty) (o : Work)
+      → Carries limit program (next_all program.adts) fill_all (λ ts. C (Node t o ts))
+  in_node C c t o = carry limit program (next_all program.adts) fill_all (next program.adts) fill C c (Node t o)
+      (λ m. performed program.adts m t o) (λ m ts. refl) (λ v ts. refl)
+
+  -- ---- a node behind its operands
+
+  -- what the node does where its operands are evaluated
+  behind_operands : (X : Frame → List (Option ℕ) → Block → Type 0) (lo hi into : ℕ) (t : Ty) (o : Work) (ts : Terms) (l : LoweredAll)
+      (is ds : List Instr) → lo ≤ l.free → l.free ≤ hi → Own limit program X lo l.free hi into t o l.values is ds
+      → (C : Term → Block) → Carries limit program (next program.adts) fill C → (g : Frame) (held : List (Option ℕ))
+      → HasAt g.code g.pc (l.code ++ is) → Room g.slots lo hi held
+      → Behind limit program g lo hi into (g.pc + length (l.code ++ is)) (l.drops ++ ds) held (λ v. C (Evaluated v))
+      → (j : ℕ) (variables : List Value) (slots : Slots) (vs : List Value) (got held' : List (Option ℕ))
+      → Holding g.slots slots lo l.free l.drops got → AllHold slots l.values vs → AllBetween lo l.free l.values → held' ≡ held ++ got
+      → X (spot g j (g.pc + length l.code) variables slots) held' (C (Node t o (evaluated vs)))
+  behind_operands X lo hi into t o ts l is ds p q own C c g held has room k j variables slots vs got held' h hold bs eq =
+      own C c (spot g j (g.pc + length l.code) variables slots) held' vs (has_back g.code g.pc l.code is has)
+      (room_behind g.slots slots lo l.free hi l.drops held got held' p q room h eq) hold bs
+      (λ j2 variables2 slots2 v got2 held2 h2 e2 b2 eq2.
+      let n = length-append l.code is in
+      pc_is limit program g j2 (g.pc + length (l.code ++ is)) (g.pc + length l.code + length is) variables2 slots2 held2 (C (Evaluated v))
+      (omega arith)
+      (k j2 variables2 slots2 v (got ++ got2) held2 (holding_more g.slots slots slots2 lo l.free hi l.drops ds got got2 p q h h2) e2 b2
+      (eq2 ∙ ap (λ (x : List (Option ℕ)). x ++ got2) eq ∙ append_assoc held got got2)))
+
+  by_own : (lo hi into : ℕ) (t : Ty) (o : Work) (ts : Terms) (l : LoweredAll) (is ds : List Instr) → lo ≤ l.free → l.free ≤ hi
+      → Own limit program (Going limit program) lo l.free hi into t o l.values is ds → AllBy true lo ts l
+      → GoesBy lo (Node t o ts) (record { code = l.code ++ is; drops = l.drops ++ ds; value = into; free = hi })
+  by_own lo hi into t o ts l is ds p q own all C c g held has room k =
+      begins ts g held (C (Node t o ts))
+      (all (λ us. C (Node t o us)) (in_node C c t o) g held (has_front g.code g.pc l.code is has) (room_front g.slots lo l.free hi held p q room)
+      (behind_operands (Going limit program) lo hi into t o ts l is ds p q own C c g held has room k))
+
+  -- one that has no drops of its own
+  same_drops : (lo : ℕ) (t : Term) (is ds : List Instr) (into hi : ℕ)
+      → GoesBy lo t (record { code = is; drops = ds ++ []; value = into; free = hi })
+      → GoesBy lo t (record { code = is; drops = ds; value = into; free = hi })
+  same_drops lo t is ds into hi x =
+      subst (λ (es : List Instr). GoesBy lo t (record { code = is; drops = es; value = into; free = hi })) (append-nil ds) x
+
+  -- an assignment that writes nothing: a step without an instruction
+  by_nothing : (lo : ℕ) (t : Ty) (u : Term) (ts : Terms) (l : LoweredAll) → lo ≤ l.free → 0 < length l.values → AllBy false lo (MoreTerms u ts) l
+      → GoesBy lo (Node t (tree.Assign []) (MoreTerms u ts)) (record { code = l.code ++ []; drops = l.drops; value = slot_at 0 l.values; free = l.free })
+  by_nothing lo t u ts l p q all =
+      same_drops lo (Node t (tree.Assign []) (MoreTerms u ts)) (l.code ++ []) l.drops (slot_at 0 l.values) l.free
+      (λ C c g held has room k.
+      all (λ us. C (Node t (tree.Assign []) us)) (in_node C c t (tree.Assign [])) g held (has_front g.code g.pc l.code [] has)
+      (room_front g.slots lo l.free l.free held p (omega arith) room)
+      (behind_operands (Stands limit program) lo l.free (slot_at 0 l.values) t (tree.Assign []) (MoreTerms u ts) l [] [] p (omega arith)
+      (own_nothing limit program lo l.free t l.values q) C c g held has room k))
+
+  node_goes : (lo : ℕ) (u t : Ty) (o : Work) (ts : Terms) (l : LoweredAll) → lo ≤ l.free → length l.values ≡ count ts → Suits o (count ts)
+      → ((b : Bool) → AllBy b lo ts l) → GoesBy lo (Node t o ts) (node program.adts u t o l)
+  node_goes lo u t (Operate o) ts l p n s all =
+      subst (λ (b : Bool). GoesBy lo (Node t (Operate o) ts) (if b then gathers program.adts t o l else gives program.adts t (Operate o) l)) (sym s)
+      (by_own lo (suc l.free) l.free t (Operate o) ts l _ _ p (omega arith) (own_gives limit program lo l.free t (Operate o) l.values s p) (all true))
+  node_goes lo u t (tree.Assign []) NoTerms l p n s all = absurd (omega arith)
+  node_goes lo u t (tree.Assign []) (MoreTerms x ts) l p n s all = by_nothing lo t x ts l p (omega arith) (all false)
+  node_goes lo u t (tree.Assign (a ∷ aims)) ts l p n s all =
+      same_drops lo _ _ l.drops _ l.free
+      (by_own lo l.free (slot_at (operands_for (a ∷ aims)) l.values) t (tree.Assign (a ∷ aims)) ts l _ [] p (omega arith)
+      (own_writes limit program lo l.free t a aims l.values (omega (arith, n, s))) (all true))
+  node_goes lo u t (tree.TakePart k) ts l p n s all = absurd s
+  node_goes lo u t tree.Copy ts l p n s all =
+      same_drops lo _ _ l.drops _ l.free
+      (by_own lo l.free (slot_at 2 l.values) t tree.Copy ts l _ [] p (omega arith) (own_copy limit program lo l.free t l.values (omega (arith, n, s)))
+      (all true))
+  node_goes lo u t tree.Link ts l p n s all =
+      by_own lo (suc (l.free + (length l.values - 1))) (l.free + (length l.values - 1)) t tree.Link ts l _ _ p (omega arith)
+      (own_link limit program lo l.free t l.values p) (all true)
+  node_goes lo u t (tree.Call f) ts l p n s all =
+      by_own lo (suc l.free) l.free t (tree.Call f) ts l _ _ p (omega arith) (own_call limit program lo l.free t f l.values p) (all true)
+  node_goes lo u t (tree.Print ps) ts l p n s all =
+      same_drops lo _ _ l.drops _ (suc l.free)
+      (by_own lo (suc l.free) l.free t (tree.Print ps) ts l _ [] p (omega arith) (own_print limit program lo l.free t ps l.values p) (all true))
+  node_goes lo u t tree.NewChannel ts l p n s all =
+      by_own lo (suc l.free) l.free t tree.NewChannel ts l _ _ p (omega arith) (own_channel limit program lo l.free t l.values p) (all true)
+  node_goes lo u t (tree.Literal c) ts l p n s all =
+      by_own lo (suc l.free) l.free t (tree.Literal c) ts l _ _ p (omega arith) (own_gives limit program lo l.free t (tree.Literal c) l.values tt p)
+      (all true)
+  node_goes lo u t tree.Nil ts l p n s all =
+      by_own lo (suc l.free) l.free t tree.Nil ts l _ _ p (omega arith) (own_gives limit program lo l.free t tree.Nil l.values tt p) (all true)
+  node_goes lo u t (tree.Read w) ts l p n s all =
+      by_own lo (suc l.free) l.free t (tree.Read w) ts l _ _ p (omega arith) (own_gives limit program lo l.free t (tree.Read w) l.values tt p)
+      (all true)
+  node_goes lo u t (tree.Sprint ps) ts l p n s all =
+      by_own lo (suc l.free) l.free t (tree.Sprint ps) ts l _ _ p (omega arith) (own_gives limit program lo l.free t (tree.Sprint ps) l.values tt p)
+      (all true)
+
+  -- ---- connectives
+
+  as_is : (one two : Slots) (lo hi : ℕ) (ds ds' : List Instr) (got got' : List (Option ℕ)) → ds ≡ ds' → got ≡ got'
+      → Holding one two lo hi ds got → Holding one two lo hi ds' got'
+  as_is one two lo hi ds ds' got got' e f h =
+      subst (λ (x : List Instr). Holding one two lo hi x got') e (subst (λ (x : List (Option ℕ)). Holding one two lo hi ds x) f h)
+
+  clean_put : (slots : Slots) (s a b : ℕ) (x : Slot) → s < length slots → ((n : ℕ) → slot_names x n ≡ 0) → Clean slots a b
+      → Clean (put slots s x) a b
+  clean_put slots s a b x l z c r p q n = ⊎_elim
+      (λ (e : r ≡ s). subst (λ (r : ℕ). slot_names (slot (put slots s x) r) n ≡ 0) (sym e)
+      (ap (λ (y : Slot). slot_names y n) (put_same slots s x l) ∙ z n))
+      (λ (e : r ≡ s → ⊥). ap (λ (y : Slot). slot_names y n) (put_other slots s r x e) ∙ c r p q n)
+      (cases_eq r s)
+
+  -- a number comes into a slot
+  holding_number : (slots : Slots) (s : ℕ) (z : ℤ) → s < length slots → Holding slots (put slots s (Holds (Num z))) s (suc s) [] []
+  holding_number slots s z l = holding_put slots s (Num z) [] [] l (owns_none s (Num z) (λ n. refl))
+
+  drops_split : (h : Bool) (d n : ℕ) (ds : List Instr) → (h ≡ false → ds ≡ []) → drops_if h (Mirror d n ∷ ds) ≡ drops_if h (Mirror d n ∷ []) ++ ds
+  drops_split true d n ds e = refl
+  drops_split false d n ds e = sym (e refl)
+
+  -- the left operand doesn't decide
+  open_holding : (h : Bool) (slots : Slots) (d n : ℕ) → d < length slots → Clean slots d (suc d)
+      → Holding slots (machine.noted slots (if h then Some d else None) false) d (suc d) (drops_if h (Mirror d n ∷ [])) (note h)
+  open_holding true slots d n l c =
+      let x = holding_number slots d (pos 0) l in
+      record {
+        long = x.long;
+        same = x.same;
+        dropping = enters d n (put_same slots d (Holds (Num (pos 0))) l) none;
+        within = ((omega arith, omega arith), tt);
+        names = x.names;
+      }
+  open_holding false slots d n l c = record {
+    long = refl;
+    same = λ s b. refl;
+    dropping = none;
+    within = tt;
+    names = name_clean slots d (suc d) (omega arith) c;
+  }
+
+  -- it decides
+  shut_holding : (h : Bool) (slots : Slots) (d hi : ℕ) (ds : List Instr) (z : ℤ) → d < hi → hi < length slots → Clean slots d (suc hi)
+      → AllTouch (Between d (suc hi)) ds
+      → Holding slots (put (machine.noted slots (if h then Some d else None) true) hi (Holds (Num z))) d (suc hi)
+      (drops_if h (Mirror d (length ds) ∷ ds)) (note h)
+  shut_holding true slots d hi ds z l m c t =
+      let one = put slots d (Holds (Num (pos 1))) in
+      let two = put one hi (Holds (Num z)) in
+      let long1 = put_long slots d (Holds (Num (pos 1))) in
+      record {
+        long = put_long one hi (Holds (Num z)) ∙ long1;
+        same = λ s b.
+            let ne : s ≡ hi → ⊥ = λ e. absurd (elim b [ inl x ↦ omega (arith, x, e, l) | inr x ↦ omega (arith, x, e) ]) in
+            let nd : s ≡ d → ⊥ = λ e. absurd (elim b [ inl x ↦ omega (arith, x, e) | inr x ↦ omega (arith, x, e, l) ]) in
+            put_other one hi s (Holds (Num z)) ne ∙ put_other slots d s (Holds (Num (pos 1))) nd;
+        dropping = passes d (length ds) ds []
+            (put_other one hi d (Holds (Num z)) (λ e. absurd (omega (arith, e, l))) ∙ put_same slots d (Holds (Num (pos 1))) (omega arith))
+            (sym (append-nil ds)) refl none;
+        within = ((omega arith, omega arith), t);
+        names = name_clean two d (suc hi) (omega arith)
+            (clean_put one hi d (suc hi) (Holds (Num z)) (omega arith) (λ n. refl) (clean_put slots d d (suc hi) (Holds (Num (pos 1))) (omega arith) (λ n. refl) c));
+      }
+  shut_holding false slots d hi ds z l m c t = record {
+    long = put_long slots hi (Holds (Num z));
+    same = λ s b. put_other slots hi s (Holds (Num z)) (λ e. absurd (elim b [ inl x ↦ omega (arith, x, e, l) | inr x ↦ omega (arith, x, e) ]));
+    dropping = none;
+    within = tt;
+    names = name_clean (put slots hi (Holds (Num z))) d (suc hi) (omega arith) (clean_put slots hi d (suc hi) (Holds (Num z)) m (λ n. refl) c);
+  }
+
+  abbrev noting : Bool → (d : ℕ) → Option ℕ
+  noting h d = if h then Some d else None
+
+  abbrev skipping : Connective → Bool → (d hi from n : ℕ) → Instr
+  skipping k h d hi from n = Skip k hi (noting h d) from n
+
+  -- the left operand decides: its truth is the value, and the right one is passed over
+  shut_goes : (C : Term → Block) → Carries limit program (next program.adts) fill C → (k : Connective) (r : Term) (v : Value) (h : Bool)
+      (d hi from : ℕ) (ds : List Instr) (n : ℕ) (g : Frame) (held : List (Option ℕ)) → may_hold program.adts r ≡ h → decides k v ≡ true
+      → slice_get g.code g.pc ≡ Some (skipping k h d hi from n) → Room g.slots d (suc hi) held → d < hi → slot g.slots from ≡ Holds v
+      → AllTouch (Between d (suc hi)) ds
+      → Behind limit program g d (suc hi) hi (suc g.pc + n) (drops_if h (Mirror d (length ds) ∷ ds)) held (λ x. C (Evaluated x))
+      → Going limit program g held (C (Lazy k (Evaluated v) r))
+  shut_goes C c k r v h d hi from ds n g held eh eb i room l e t done =
+      let x = truth_of v in
+      let slots1 = machine.noted g.slots (noting h d) true in
+      let slots2 = put slots1 hi (Holds x) in
+      gives_always limit program C c g held (note h) (Lazy k (Evaluated v) r) (Evaluated x) (skipping k h d hi from n) (suc g.pc + n) slots2 i room.names
+      (λ w m below p.
+      ap (λ (b : Bool). machine.left_decides limit (code_of program) w (coded m g below p) hi (noting h d) from n b)
+      (ap (λ (y : Slot). decides k (value_of y)) e ∙ eb)
+      ∙ ap (λ (y : Slot). machine.goes_to w (coded m g below p) (suc g.pc + n) (put slots1 hi (Holds (truth_of (value_of y))))) e)
+      (λ w. ap (λ (b : Bool). decided program.adts (memory_of w g) b v r) eb
+      ∙ ap (λ (b : Bool). Stepped (memory_of w g) (note b) (Evaluated x)) eh)
+      (let f : hi < length g.slots = let q = room.fits in omega arith in
+      let q = shut_holding h g.slots d hi ds (truth (holds v)) l f room.clean t in
+      done g.into g.variables slots2 x (note h) (held ++ note h) q
+      (put_same slots1 hi (Holds x) (noted_long h g.slots d hi f)) (omega arith, omega arith) refl)
+    where
+      noted_long : (h : Bool) (slots : Slots) (d hi : ℕ) → hi < length slots → hi < length (machine.noted slots (noting h d) true)
+      noted_long true slots d hi f = let q = put_long slots d (Holds (Num (pos 1))) in omega arith
+      noted_long false slots d hi f = f
+
+  -- it doesn't: the right one is evaluated
+  open_goes : (C : Term → Block) → Carries limit program (next program.adts) fill C → (k : Connective) (r : Term) (v : Value) (h : Bool)
+      (d hi from n m : ℕ) (g : Frame) (held : List (Option ℕ)) → may_hold program.adts r ≡ h → decides k v ≡ false
+      → slice_get g.code g.pc ≡ Some (skipping k h d hi from n) → Room g.slots d (suc d) held → slot g.slots from ≡ Holds v
+      → ((slots : Slots) → Holding g.slots slots d (suc d) (drops_if h (Mirror d m ∷ [])) (note h)
+      → Stands limit program (spot g g.into (suc g.pc) g.variables slots) (held ++ note h) (C (Deciding r)))
+      → Going limit program g held (C (Lazy k (Evaluated v) r))
+  open_goes C c k r v h d hi from n m g held eh eb i room e done =
+      let slots1 = machine.noted g.slots (noting h d) false in
+      gives_always limit program C c g held (note h) (Lazy k (Evaluated v) r) (Deciding r) (skipping k h d hi from n) (suc g.pc) slots1 i room.names
+      (λ w q below p.
+      ap (λ (b : Bool). machine.left_decides limit (code_of program) w (coded q g below p) hi (noting h d) from n b)
+      (ap (λ (y : Slot). decides k (value_of y)) e ∙ eb))
+      (λ w. ap (λ (b : Bool). decided program.adts (memory_of w g) b v r) eb
+      ∙ ap (λ (b : Bool). Stepped (memory_of w g) (note b) (Deciding r)) eh)
+      (done slots1 (open_holding h g.slots d m (let q = room.fits in omega arith) room.clean))
+
+  truth_goes : (C : Term → Block) → Carries limit program (next program.adts) fill C → (v : Value) (into from : ℕ) (g : Frame)
+      (held : List (Option ℕ)) → slice_get g.code g.pc ≡ Some (Truth into from) → Room g.slots into (suc into) held → slot g.slots from ≡ Holds v
+      → Behind limit program g into (suc into) into (suc g.pc) [] held (λ x. C (Evaluated x))
+      → Going limit program g held (C (Deciding (Evaluated v)))
+  truth_goes C c v into from g held i room e done =
+      let x = truth_of v in
+      let l : into < length g.slots = let q = room.fits in omega arith in
+      gives_always limit program C c g held [] (Deciding (Evaluated v)) (Evaluated x) (Truth into from) (suc g.pc) (put g.slots into (Holds x)) i room.names
+      (λ w m below p. ap (λ (y : Slot). machine.goes_on w (coded m g below p) (put g.slots into (Holds (truth_of (value_of y))))) e)
+      (λ w. refl)
+      (done g.into g.variables (put g.slots into (Holds x)) x [] (held ++ [])
+      (holding_number g.slots into (truth (holds v)) l)
+      (put_same g.slots into (Holds x) l) (omega arith, omega arith) refl)
+
+  abbrev lazy_code : Connective → Bool → (a b : Lowered) → List Instr
+  lazy_code k h a b =
+      (a.code ++ (skipping k h a.free b.free a.value (suc (length b.code)) ∷ b.code)) ++ (Truth b.free b.value ∷ [])
+
+  either_way : (X : Type 0) (b : Bool) → (b ≡ true → X) → (b ≡ false → X) → X
+  either_way X true f g = f refl
+  either_way X false f g = g refl
+
+  onward : (held p q x y : List (Option ℕ)) → x ≡ held ++ p → y ≡ x ++ q → y ≡ held ++ (p ++ q)
+  onward held p q x y e f = f ∙ ap (λ (z : List (Option ℕ)). z ++ q) e ∙ append_assoc held p q
+
+  lazy_goes : (k : Connective) (lo : ℕ) (l r : Term) (h : Bool) (a b : Lowered) → may_hold program.adts r ≡ h → lo ≤ a.free
+      → suc a.free ≤ b.free → AllTouch (Between (suc a.free) b.free) b.drops → (h ≡ false → b.drops ≡ [])
+      → GoesBy lo l a → GoesBy (suc a.free) r b
+      → GoesBy lo (Lazy k l r) (record {
+        code = lazy_code k h a b;
+        drops = a.drops ++ drops_if h (Mirror a.free (length b.drops) ∷ b.drops);
+        value = b.free;
+        free = suc b.free;
+      })
+  lazy_goes k lo l r h a b eh up_left up_right touch nothing_there gl gr C c g held has room done =
+      let d : ℕ = a.free in
+      let hi : ℕ = suc b.free in
+      let own : List Instr = skipping k h d b.free a.value (suc (length b.code)) ∷ b.code in
+      let last : List Instr = Truth b.free b.value ∷ [] in
+      let has_ab = has_front g.code g.pc (a.code ++ own) last has in
+      let has_own = has_back g.code g.pc a.code own has_ab in
+      let has_truth = has_back g.code g.pc (a.code ++ own) last has in
+      let n1 = length-append a.code own in
+      let n2 = length-append (a.code ++ own) last in
+      let start : ℕ = g.pc + length a.code in
+      let end : ℕ = g.pc + length (lazy_code k h a b) in
+      let M : List Instr = drops_if h (Mirror d (length b.drops) ∷ []) in
+      let R : List Instr = drops_if h (Mirror d (length b.drops) ∷ b.drops) in
+      let split : R ≡ M ++ b.drops = drops_split h d (length b.drops) b.drops nothing_there in
+      gl (λ x. C (Lazy k x r)) (carry limit program (next program.adts) fill (next program.adts) fill C c (λ x. Lazy k x r)
+      (λ m v. decided program.adts m (decides k v) v r) (λ m t. refl) (λ v t. refl)) g held (has_front g.code g.pc a.code own has_ab)
+      (room_front g.slots lo d hi held up_left (omega arith) room)
+      (λ j variables slots v got held1 h1 e1 b1 eq1.
+      let g1 = spot g j start variables slots in
+      let room1 = room_behind g.slots slots lo d hi a.drops held got held1 up_left (omega arith) room h1 eq1 in
+      going (either_way (Going limit program g1 held1 (C (Lazy k (Evaluated v) r))) (decides k v)
+      (λ (eb : decides k v ≡ true).
+      shut_goes C c k r v h d b.free a.value b.drops (suc (length b.code)) g1 held1 eh eb has_own.0 room1 (omega arith) e1
+      (touch_wide (suc d) b.free d hi b.drops (omega arith) (omega arith) touch)
+      (λ j2 variables2 slots2 x got2 held2 h2 e2 b2 eq2.
+      pc_is limit program g j2 end (suc start + suc (length b.code)) variables2 slots2 held2 (C (Evaluated x)) (omega arith)
+      (done j2 variables2 slots2 x (got ++ got2) held2 (holding_more g.slots slots slots2 lo d hi a.drops R got got2 up_left (omega arith) h1 h2)
+      e2 (omega arith, omega arith) (onward held got got2 held1 held2 eq1 eq2))))
+      (λ (eb : decides k v ≡ false).
+      open_goes C c k r v h d b.free a.value (suc (length b.code)) (length b.drops) g1 held1 eh eb has_own.0
+      (room_front slots d (suc d) hi held1 (omega arith) (omega arith) room1) e1
+      (λ slots2 h2.
+      let held2 : List (Option ℕ) = held1 ++ note h in
+      let g2 = spot g1 j (suc start) variables slots2 in
+      let room2 = room_behind slots slots2 d (suc d) hi M held1 (note h) held2 (omega arith) (omega arith) room1 h2 refl in
+      going (gr (λ x. C (Deciding x)) (carry limit program (next program.adts) fill (next program.adts) fill C c Deciding
+      (λ m y. Stepped m [] (Evaluated (truth_of y))) (λ m t. refl) (λ y t. refl)) g2 held2 has_own.1
+      (room_front slots2 (suc d) b.free hi held2 up_right (omega arith) room2)
+      (λ j3 variables3 slots3 x got3 held3 h3 e3 b3 eq3.
+      let g3 = spot g2 j3 (suc start + length b.code) variables3 slots3 in
+      let at_truth : g.pc + length (a.code ++ own) ≡ suc start + length b.code = omega arith in
+      going (truth_goes C c x b.free b.value g3 held3
+      (subst (λ (q : ℕ). slice_get g.code q ≡ Some (Truth b.free b.value)) at_truth has_truth.0)
+      (room_behind slots2 slots3 (suc d) b.free hi b.drops held2 got3 held3 up_right (omega arith) room2 h3 eq3) e3
+      (λ j4 variables4 slots4 y got4 held4 h4 e4 b4 eq4.
+      pc_is limit program g j4 end (suc (suc start + length b.code)) variables4 slots4 held4 (C (Evaluated y)) (omega arith)
+      (done j4 variables4 slots4 y (((got ++ note h) ++ got3) ++ got4) held4
+      (as_is g.slots slots4 lo hi (((a.drops ++ M) ++ b.drops) ++ []) (a.drops ++ R) (((got ++ note h) ++ got3) ++ got4)
+      (((got ++ note h) ++ got3) ++ got4)
+      (append-nil ((a.drops ++ M) ++ b.drops) ∙ append_assoc a.drops M b.drops ∙ ap (λ (ds : List Instr). a.drops ++ ds) (sym split)) refl
+      (holding_more g.slots slots3 slots4 lo b.free hi ((a.drops ++ M) ++ b.drops) [] ((got ++ note h) ++ got3) got4 (omega arith) (omega arith)
+      (holding_more g.slots slots2 slots3 lo (suc d) b.free (a.drops ++ M) b.drops (got ++ note h) got3 (omega arith) up_right
+      (holding_more g.slots slots slots2 lo d (suc d) a.drops M got (note h) up_left (omega arith) h1 h2) h3) h4))
+      e4 (omega arith, omega arith)
+      (onward held ((got ++ note h) ++ got3) got4 held3 held4
+      (onward held (got ++ note h) got3 held2 held3 (onward held got (note h) held1 held2 eq1 refl) eq3) eq4))))))))))
+
+  -- ---- assignments with an operator
+
+  abbrev update_code : (a b : LoweredAll) → Operation → Ty → Way → List Instr
+  update_code a b o t w =
+      (a.code ++ (Give t (tree.Read w) a.free a.values ∷ b.code))
+      ++ (Give t (Operate o) b.free (a.free ∷ b.values) ∷ Write t w a.values [] b.free ∷ [])
+
+  abbrev update_drops : (a b : LoweredAll) → Operation → Ty → List Instr
+  update_drops a b o t =
+      a.drops ++ (drops_from a.free 0 (count_of program.adts t)
+      ++ (b.drops ++ drops_if (work_refers program.adts t (Operate o)) (drops_from b.free 0 (count_of program.adts t))))
+
+  reads_place : (t : Ty) (into : ℕ) (m : Memory) (o : Operation) (k : Given) (p : Place) (us : Terms) (r : Raising Value) → p.type ≡ t
+      → Both into (drops_from into 0 (count_of program.adts t)) (λ v. Change o k p (MoreTerms (Evaluated v) us))
+      (unless_raised r (evaluation.gets program.adts m t))
+      (unless_raised r (λ v. Stepped m (references (fitted program.adts p.type v)) (Change o k p (MoreTerms (Evaluated (fitted program.adts p.type v)) us))))
+  reads_place t into m o k p us (Ok v) e =
+      subst (λ (u : Ty). Both into (drops_from into 0 (count_of program.adts t)) (λ v. Change o k p (MoreTerms (Evaluated v) us))
+      (Stepped m (references (fitted program.adts t v)) (Evaluated (fitted program.adts t v)))
+      (Stepped m (references (fitted program.adts u v)) (Change o k p (MoreTerms (Evaluated (fitted program.adts u v)) us)))) (sym e)
+      (gave m (fitted program.adts t v) (references (fitted program.adts t v))
+      (owns_row into (fitted program.adts t v) (count_of program.adts t) (counted program.adts t v)))
+  reads_place t into m o k p us (Err text) e = raised text
+
+  changes_place : (t : Ty) (into : ℕ) (m : Memory) (o : Operation) (k : Given) (way : Way) (vs : List Value) (old : Value) (b : Bool)
+      (r : Raising Outcome) → passes_on o ≡ b → b ≡ false
+      → Both into (drops_if (if b then false else refers program.adts t) (drops_from into 0 (count_of program.adts t)))
+      (λ v. Put (record { place = record { type = t; way = way; operands = vs }; value = v } ∷ []) (given_by k old v))
+      (unless_raised r (evaluation.leaves program.adts m t o))
+      (unless_raised r (λ r. Stepped r.memory (got_by o (fitted program.adts t r.value))
+      (Put (record { place = record { type = t; way = way; operands = vs }; value = fitted program.adts t r.value } ∷ [])
+      (given_by k old (fitted program.adts t r.value)))))
+  changes_place t into m o k way vs old true r e f = absurd cc
+  changes_place t into m o k way vs old false (Ok r) e f =
+      let v = fitted program.adts t r.value in
+      let left : Value → Term = λ v. Put (record { place = record { type = t; way = way; operands = vs }; value = v } ∷ []) (given_by k old v) in
+      let g : got_by o v ≡ references v = ap (λ (c : Bool). if c then [] else references v) e in
+      subst (λ (got : List (Option ℕ)). Both into (drops_if (refers program.adts t) (drops_from into 0 (count_of program.adts t))) left
+      (Stepped r.memory got (Evaluated v)) (Stepped r.memory got (left v))) (sym g)
+      (gave r.memory v (references v) (owns_fitted program.adts t into r.value))
+  changes_place t into m o k way vs old false (Err text) e f = raised text
+
+  given_slot_holds : (k : Given) (slots : Slots) (s d : ℕ) (old new : Value) → slot slots s ≡ Holds old → slot slots d ≡ Holds new
+      → slot slots (given_slot program.adts k s d) ≡ Holds (given_by k old new)
+  given_slot_holds given_kind.Old slots s d old new e f = e
+  given_slot_holds given_kind.New slots s d old new e f = f
+
+  given_between : (k : Given) (lo hi s d : ℕ) → Between lo hi s → Between lo hi d → Between lo hi (given_slot program.adts k s d)
+  given_between given_kind.Old lo hi s d b c = b
+  given_between given_kind.New lo hi s d b c = c
+
+  update_goes : (lo : ℕ) (o : Operation) (k : Given) (t : Ty) (w : Way) (ts us : Terms) (a b : LoweredAll) → passes_on o ≡ false
+      → ((v : Value) → fill_all v us ≡ us) → lo ≤ a.free → suc a.free ≤ b.free → AllBy true lo ts a → AllBy true (suc a.free) us b
+      → GoesBy lo (Update o k t w ts us) (record {
+        code = update_code a b o t w;
+        drops = update_drops a b o t;
+        value = given_slot program.adts k a.free b.free;
+        free = suc b.free;
+      })
+  update_goes lo o k t w ts us a b op fresh up_left up_right gl gr C c g held has room done =
+      let d : ℕ = a.free in
+      let hi : ℕ = suc b.free in
+      let own : List Instr = Give t (tree.Read w) d a.values ∷ b.code in
+      let last : List Instr = Give t (Operate o) b.free (d ∷ b.values) ∷ Write t w a.values [] b.free ∷ [] in
+      let has_ab = has_front g.code g.pc (a.code ++ own) last has in
+      let has_own = has_back g.code g.pc a.code own has_ab in
+      let has_last = has_back g.code g.pc (a.code ++ own) last has in
+      let n1 = length-append a.code own in
+      let n2 = length-append (a.code ++ own) last in
+      let start : ℕ = g.pc + length a.code in
+      let end : ℕ = g.pc + length (update_code a b o t w) in
+      let D : List Instr = drops_from d 0 (count_of program.adts t) in
+      let E : List Instr = drops_if (work_refers program.adts t (Operate o)) (drops_from b.free 0 (count_of program.adts t)) in
+      begins ts g held (C (Update o k t w ts us))
+      (gl (λ x. C (Update o k t w x us)) (carry limit program (next_all program.adts) fill_all (next program.adts) fill C c (λ x. Update o k t w x us)
+      (λ m vs. reads_first program.adts m o k (record { type = t; way = w; operands = vs }) us) (λ m x. refl) (λ v x. refl))
+      g held (has_front g.code g.pc a.code own has_ab) (room_front g.slots lo d hi held up_left (omega arith) room)
+      (λ j variables slots vs got held1 h1 hold1 bs1 eq1.
+      let p : Place = record { type = t; way = w; operands = vs } in
+      let g1 = spot g j start variables slots in
+      let room1 = room_behind g.slots slots lo d hi a.drops held got held1 up_left (omega arith) room h1 eq1 in
+      give_goes limit program C c g1 held1 (Update o k t w (evaluated vs) us) t (tree.Read w) d a.values D
+      (λ v. Change o k p (MoreTerms (Evaluated v) us)) has_own.0 (room_front slots d (suc d) hi held1 (omega arith) (omega arith) room1)
+      (λ x. subst (λ (y : Progress Value Term). Both d D (λ v. Change o k p (MoreTerms (Evaluated v) us))
+      (performed program.adts (memory_of x g1) t (tree.Read w) (values_of slots a.values)) y)
+      (sym (ap (λ (q : Progress (List Value) Terms). after q (λ vs. reads_first program.adts (memory_of x g1) o k (record { type = t; way = w; operands = vs }) us)
+      (λ ts. Update o k t w ts us)) (evaluated_done limit program (memory_of x g1) vs)))
+      (subst (λ (ys : List Value). Both d D (λ v. Change o k p (MoreTerms (Evaluated v) us))
+      (performed program.adts (memory_of x g1) t (tree.Read w) ys) (reads_first program.adts (memory_of x g1) o k p us))
+      (sym (hold_values slots a.values vs hold1)) (reads_place t d (memory_of x g1) o k p us (read (memory_of x g1) p) refl)))
+      (λ j2 variables2 slots2 old got2 held2 h2 e2 b2 eq2.
+      let g2 = spot g1 j2 (suc start) variables2 slots2 in
+      let room2 = room_behind slots slots2 d (suc d) hi D held1 got2 held2 (omega arith) (omega arith) room1 h2 eq2 in
+      let c1 = carry limit program (next_all program.adts) fill_all (next program.adts) fill C c (Change o k p) (λ m ws. changes program.adts m o k p ws)
+      (λ m x. refl) (λ v x. refl) in
+      let c2 = carry limit program (next_all program.adts) fill_all (next_all program.adts) fill_all (λ x. C (Change o k p x)) c1
+      (MoreTerms (Evaluated old)) (λ m ws. Finished (old ∷ ws)) (λ m x. refl) (λ v x. refl) in
+      going (begins us g2 held2 (C (Change o k p (MoreTerms (Evaluated old) us)))
+      (gr (λ x. C (Change o k p (MoreTerms (Evaluated old) x))) c2 g2 held2 has_own.1
+      (room_front slots2 (suc d) b.free hi held2 up_right (omega arith) room2)
+      (λ j3 variables3 slots3 ws got3 held3 h3 hold3 bs3 eq3.
+      let g3 = spot g2 j3 (suc start + length b.code) variables3 slots3 in
+      let at_last : g.pc + length (a.code ++ own) ≡ suc start + length b.code = omega arith in
+      let has3 = subst (λ (q : ℕ). HasAt g.code q last) at_last has_last in
+      let room3 = room_behind slots2 slots3 (suc d) b.free hi b.drops held2 got3 held3 up_right (omega arith) room2 h3 eq3 in
+      let old3 : slot slots3 d ≡ Holds old = h3.same d (inl (omega arith)) ∙ e2 in
+      let vs3 : AllHold slots3 a.values vs =
+      hold_same slots2 slots3 lo d a.values vs bs1 (λ s x. h3.same s (inl (let y = x.1 in omega (arith, y))))
+      (hold_same slots slots2 lo d a.values vs bs1 (λ s x. h2.same s (inl x.1)) hold1) in
+      let operands3 : values_of slots3 (d ∷ b.values) ≡ old ∷ ws =
+      ap (λ (x : Slot). value_of x ∷ values_of slots3 b.values) old3 ∙ ap (λ (ys : List Value). old ∷ ys) (hold_values slots3 b.values ws hold3) in
+      let left : Value → Term = λ v. Put (record { place = p; value = v } ∷ []) (given_by k old v) in
+      give_goes limit program C c g3 held3 (Change o k p (evaluated (old ∷ ws))) t (Operate o) b.free (d ∷ b.values) E left has3.0 room3
+      (λ x. subst (λ (y : Progress Value Term). Both b.free E left (performed program.adts (memory_of x g3) t (Operate o) (values_of slots3 (d ∷ b.values))) y)
+      (sym (ap (λ (q : Progress (List Value) Terms). after q (λ ys. changes program.adts (memory_of x g3) o k p ys) (Change o k p))
+      (evaluated_done limit program (memory_of x g3) (old ∷ ws))))
+      (subst (λ (ys : List Value). Both b.free E left (performed program.adts (memory_of x g3) t (Operate o) ys)
+      (changes program.adts (memory_of x g3) o k p (old ∷ ws))) (sym operands3)
+      (changes_place t b.free (memory_of x g3) o k w vs old (passes_on o) (result_of program.adts (memory_of x g3) t o (old ∷ ws)) refl op)))
+      (λ j4 variables4 slots4 new got4 held4 h4 e4 b4 eq4.
+      let pc4 : ℕ = suc (suc start + length b.code) in
+      let g4 = spot g3 j4 pc4 variables4 slots4 in
+      let vs4 = hold_same slots3 slots4 lo d a.values vs bs1 (λ s x. h4.same s (inl (let y = x.1 in omega (arith, y, up_right)))) vs3 in
+      let old4 : slot slots4 d ≡ Holds old = h4.same d (inl (omega arith)) ∙ old3 in
+      let room4 = room_behind slots3 slots4 b.free hi hi E held3 got4 held4 (omega arith) (omega arith) room3 h4 eq4 in
+      let got_all : List (Option ℕ) = ((got ++ got2) ++ got3) ++ got4 in
+      let all_held : held4 ≡ held ++ got_all =
+      onward held ((got ++ got2) ++ got3) got4 held3 held4
+      (onward held (got ++ got2) got3 held2 held3 (onward held got got2 held1 held2 eq1 eq2) eq3) eq4 in
+      let whole : Holding g.slots slots4 lo hi (update_drops a b o t) got_all =
+      as_is g.slots slots4 lo hi (((a.drops ++ D) ++ b.drops) ++ E) (update_drops a b o t) got_all got_all
+      (append_assoc (a.drops ++ D) b.drops E ∙ append_assoc a.drops D (b.drops ++ E)) refl
+      (holding_more g.slots slots3 slots4 lo b.free hi ((a.drops ++ D) ++ b.drops) E ((got ++ got2) ++ got3) got4 (omega arith) (omega arith)
+      (holding_more g.slots slots2 slots3 lo (suc d) b.free (a.drops ++ D) b.drops (got ++ got2) got3 (omega arith) up_right
+      (holding_more g.slots slots slots2 lo d (suc d) a.drops D got got2 up_left (omega arith) h1 h2) h3) h4) in
+      let v : Value = given_by k old new in
+      going (store_goes limit program C c g4 held4 (left new) (Evaluated v) (Write t w a.values [] b.free) has3.1.0 room4.names
+      (λ x. written program.adts (memory_of x g4) p new)
+      (λ x n below q.
+      ap (λ (ys : List Value). machine.stores limit (code_of program) x (coded n g4 below q) (record { type = t; way = w; operands = ys })
+      (value_of (slot slots4 b.free))) (hold_values slots4 a.values vs vs4)
+      ∙ ap (λ (y : Slot). machine.stores limit (code_of program) x (coded n g4 below q) p (value_of y)) e4)
+      (λ x. refl)
+      (λ variables5.
+      pc_is limit program g4 j4 end (suc pc4) variables5 slots4 held4 (C (Evaluated v)) (omega arith)
+      (done j4 variables5 slots4 v got_all held4 whole (given_slot_holds k slots4 d b.free old new old4 e4)
+      (given_between k lo hi d b.free (up_left, omega arith) (omega arith, omega arith)) all_held))))))))))
+
+  -- ---- a value that is known, for variables that are declared without one
+
+  known_goes : (v : Value) (lo : ℕ) (g : Frame) (held : List (Option ℕ)) (todo : Block) → references v ≡ []
+      → slice_get g.code g.pc ≡ Some (Known v lo) → 0 < place_at (slice_get g.code (suc g.pc)) → Room g.slots lo (suc lo) held
+      → ((slots : Slots) → Holding g.slots slots lo (suc lo) [] [] → slot slots lo ≡ Holds v
+      → Stands limit program (spot g g.into (suc g.pc) g.variables slots) held todo)
+      → Going limit program g held todo
+  known_goes v lo g held todo e i rank room done =
+      let l : lo < length g.slots = let q = room.fits in omega arith in
+      let slots1 = put g.slots lo (Holds v) in
+      obeying (Known v lo) room.names i
+      (λ w. rests (suc g.pc) slots1 (λ n below p. refl) rank
+      (done slots1 (holding_put g.slots lo v [] [] l (owns_none lo v (λ n. ap (among n) e))) (put_same g.slots lo (Holds v) l)))
+
+  declared_goes : (lo : ℕ) (u t : Ty) (a : Aim) (aims : List Aim) (v : Value) → operands_for (a ∷ aims) ≡ 0 → references v ≡ []
+      → GoesBy lo (Node t (tree.Assign (a ∷ aims)) (MoreTerms (Evaluated v) NoTerms))
+      (node program.adts u t (tree.Assign (a ∷ aims)) (lower_all program.adts lo (MoreTerms (Evaluated v) NoTerms)))
+  declared_goes lo u t a aims v none_there e C c g held has room done =
+      let ss : List ℕ = lo ∷ [] in
+      let n : ℕ = operands_for (a ∷ aims) in
+      let is : List Instr = writes program.adts (a ∷ aims) ss (slot_at n ss) in
+      known_goes v lo g held (C (Node t (tree.Assign (a ∷ aims)) (evaluated (v ∷ [])))) e has.0
+      (subst (λ (o : Option Instr). 0 < place_at o) (sym has.1.0) (omega arith)) room
+      (λ slots h1 e1.
+      let g1 = spot g g.into (suc g.pc) g.variables slots in
+      let held1 : held ≡ held ++ [] = sym (append-nil held) in
+      going (own_writes limit program lo (suc lo) t a aims ss (omega (arith, none_there)) C c g1 held (v ∷ []) has.1
+      (room_behind g.slots slots lo (suc lo) (suc lo) [] held [] held (omega arith) (omega arith) room h1 held1) (e1, tt) ((omega arith, omega arith), tt)
+      (λ j variables slots2 x got held' h2 e2 b2 eq2.
+      pc_is limit program g j (g.pc + suc (length is)) (suc g.pc + length is) variables slots2 held' (C (Evaluated x)) (omega arith)
+      (done j variables slots2 x got held' (holding_more g.slots slots slots2 lo (suc lo) (suc lo) [] [] [] got (omega arith) (omega arith) h1 h2) e2 b2 eq2))))
+
+  -- ---- all trees
+
+  node_either : (lo : ℕ) (t : Ty) (o : Work) (ts : Terms) → (Suits o (count ts) × AllHandled ts) ⊎ Declares o ts
+      → (AllHandled ts → (b : Bool) → AllBy b lo ts (lower_all program.adts lo ts)) → GoesBy lo (Node t o ts) (lower program.adts lo (Node t o ts))
+  node_either lo t o ts (inl x) all =
+      node_goes lo (type_at program.adts 0 ts) t o ts (lower_all program.adts lo ts) (terms_up program.adts lo ts) (values_counted program.adts lo ts) x.0
+      (all x.1)
+  node_either lo t (tree.Assign (a ∷ aims)) (MoreTerms (Evaluated v) NoTerms) (inr d) all =
+      declared_goes lo (type_at program.adts 0 (MoreTerms (Evaluated v) NoTerms)) t a aims v d.0 d.1
+  node_either lo t _ _ (inr d) all = absurd d
+
+  here : (b : Bool) (g : Frame) (held : List (Option ℕ)) (todo : Block) → Comes b (spot g g.into (g.pc + 0) g.variables g.slots) held todo
+      → Comes b g held todo
+  here b g held todo x =
+      let e : g.pc + 0 ≡ g.pc = omega arith in
+      subst (λ (q : ℕ). Comes b (spot g g.into q g.variables g.slots) held todo) e x
+
+  comes_at : (b : Bool) (g : Frame) (j pc pc' : ℕ) (variables : List Value) (slots : Slots) (held : List (Option ℕ)) (todo : Block) → pc ≡ pc'
+      → Comes b (spot g j pc variables slots) held todo → Comes b (spot g j pc' variables slots) held todo
+  comes_at b g j pc pc' variables slots held todo e x = subst (λ (q : ℕ). Comes b (spot g j q variables slots) held todo) e x
+
+  mutual
+    pub value_goes : (t : Term) → Handled t → (lo : ℕ) → GoesBy lo t (lower program.adts lo t)
+    value_goes (Node t o ts) h lo = node_either lo t o ts h (λ x b. operands_go ts x lo b)
+    value_goes (Lazy k l r) h lo =
+        let a = lower program.adts lo l in
+        lazy_goes k lo l r (may_hold program.adts r) a (lower program.adts (suc a.free) r) refl (term_up program.adts lo l)
+        (term_up program.adts (suc a.free) r) (drops_within program.adts (suc a.free) r) (λ e. no_drops program.adts (suc a.free) r e)
+        (value_goes l h.0 lo) (value_goes r h.1 (suc a.free))
+    value_goes (Update o k t w ts us) h lo =
+        let a = lower_all program.adts lo ts in
+        update_goes lo o k t w ts us a (lower_all program.adts (suc a.free) us) h.0 (λ v. handled_fill_all v us h.2) (terms_up program.adts lo ts)
+        (terms_up program.adts (suc a.free) us) (operands_go ts h.1 lo true) (operands_go us h.2 (suc a.free) true)
+    value_goes _ h lo = absurd h
+
+    pub operands_go : (ts : Terms) → AllHandled ts → (lo : ℕ) (b : Bool) → AllBy b lo ts (lower_all program.adts lo ts)
+    operands_go NoTerms h lo b C c g held has room k =
+        here b g held (C NoTerms) (k g.into g.variables g.slots [] [] held (holding_none g.slots lo) tt tt (sym (append-nil held)))
+    operands_go (MoreTerms t ts) h lo b C c g held has room k =
+        let x = lower program.adts lo t in
+        let y = lower_all program.adts x.free ts in
+        let up = term_up program.adts lo t in
+        let ups = terms_up program.adts x.free ts in
+        let n = length-append x.code y.code in
+        value_goes t h.0 lo (λ u. C (MoreTerms u ts))
+        (carry limit program (next program.adts) fill (next_all program.adts) fill_all C c (λ u. MoreTerms u ts)
+        (λ m v. after (next_all program.adts m ts) (λ vs. Finished (v ∷ vs)) (MoreTerms (Evaluated v))) (λ m u. refl)
+        (λ v u. ap (MoreTerms (fill v u)) (handled_fill_all v ts h.1)))
+        g held (has_front g.code g.pc x.code y.code has) (room_front g.slots lo x.free y.free held up ups room)
+        (λ j variables slots v got held1 h1 e1 b1 eq1.
+        comes (begun b ts) (spot g j (g.pc + length x.code) variables slots) held1 (C (MoreTerms (Evaluated v) ts))
+        (operands_go ts h.1 x.free b (λ us. C (MoreTerms (Evaluated v) us))
+        (carry limit program (next_all program.adts) fill_all (next_all program.adts) fill_all C c (MoreTerms (Evaluated v)) (λ m vs. Finished (v ∷ vs))
+        (λ m us. refl) (λ z us. refl))
+        (spot g j (g.pc + length x.code) variables slots) held1 (has_back g.code g.pc x.code y.code has)
+        (room_behind g.slots slots lo x.free y.free x.drops held got held1 up ups room h1 eq1)
+        (λ j2 variables2 slots2 vs got2 held2 h2 hold2 bs2 eq2.
+        comes_at b g j2 (g.pc + length (x.code ++ y.code)) (g.pc + length x.code + length y.code) variables2 slots2 held2
+        (C (evaluated (v ∷ vs))) (omega arith)
+        (k j2 variables2 slots2 (v ∷ vs) (got ++ got2) held2 (holding_more g.slots slots slots2 lo x.free y.free x.drops y.drops got got2 up ups h1 h2)
+        (h2.same x.value (inl b1.1) ∙ e1, hold2)
+        ((b1.0, let q = b1.1 in omega (arith, q, ups)), between_wide x.free y.free lo y.free y.values up (omega arith) bs2)
+        (onward held got got2 held1 held2 eq1 eq2)))))

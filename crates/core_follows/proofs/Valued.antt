@@ -1,0 +1,165 @@
+-- Where the value of a tree stands: among its own slots, and none of its drops brings anything back there.
+use Rattle.std.proofs.Common.{◌≡◌, ℕ, zero, suc, ◌+◌, ◌-◌, ◌<◌, ◌≤◌, Bool, true, false, List, [], ◌∷◌, ◌++◌, length}
+use Rattle.std.proofs.Common.{sym, ap, subst, arith, inl, inr, ⊎_elim}
+use Rattle.std.specs.Prelude.{if◌then◌else◌}
+use Rattle.limbo_types.specs.Types.{Ty}
+use Rattle.limbo_layout.specs.Adts.{Def}
+use Rattle.limbo_typed.specs.declared.operation.Given.{Given}
+use Rattle.limbo_typed.specs.declared.operation.Given.TheVariants as given_kind
+use Rattle.limbo_meaning.specs.Trees as tree
+use Rattle.limbo_meaning.specs.Trees.{Work, Operate, Term, Evaluated, Node, Lazy, Update, Fill, Terms, NoTerms, MoreTerms}
+use Rattle.limbo_meaning.specs.Evaluation.{may_hold, work_refers, operands_for}
+use Rattle.core_code.specs.Code.{Instr, Take}
+use Rattle.core_code.specs.Terms.{Lowered, LoweredAll, drops_from, drops_if, count_of, gives, gathers, cell_drops, slot_at, type_at, node, lower}
+use Rattle.core_code.specs.Terms.{lower_all, given_slot}
+use Rattle.core_code.proofs.Used.{term_up, terms_up}
+use Rattle.core_follows.specs.Drops.{Between, Beside, Touches, AllTouch, Spares, AllSpare}
+use Rattle.core_follows.specs.Handled.{count, Suits, Declares, Handled, AllHandled}
+use Rattle.core_follows.proofs.Static.{drops_within, all_within, values_counted}
+
+spare_one : (lo hi s : ℕ) (i : Instr) → Beside lo hi s → Touches (Between lo hi) i → Spares s i
+spare_one lo hi s (Take c from words n) b t = (
+  (λ e. absurd (let x = t.0 in elim b [ inl y ↦ omega (arith, y, e, x.0) | inr y ↦ omega (arith, y, e, x.1) ])),
+  λ p q. absurd (let x = t.2 s p q in elim b [ inl y ↦ omega (arith, y, x.0) | inr y ↦ omega (arith, y, x.1) ]),
+)
+spare_one lo hi s _ b t = tt
+
+pub spare_outside : (lo hi s : ℕ) (is : List Instr) → Beside lo hi s → AllTouch (Between lo hi) is → AllSpare s is
+spare_outside lo hi s [] b t = tt
+spare_outside lo hi s (i ∷ is) b t = (spare_one lo hi s i b t.0, spare_outside lo hi s is b t.1)
+
+pub spare_more : (s : ℕ) (is js : List Instr) → AllSpare s is → AllSpare s js → AllSpare s (is ++ js)
+spare_more s [] js h k = k
+spare_more s (i ∷ is) js h k = (h.0, spare_more s is js h.1 k)
+
+spare_from : (s d k n : ℕ) → AllSpare s (drops_from d k n)
+spare_from s d k zero = tt
+spare_from s d k (suc n) = (tt, spare_from s d (suc k) n)
+
+spare_if : (s : ℕ) (b : Bool) (is : List Instr) → AllSpare s is → AllSpare s (drops_if b is)
+spare_if s true is h = h
+spare_if s false is h = tt
+
+pub record Valued (lo : ℕ) (x : Lowered) : Type 0 where
+  pub between : Between lo x.free x.value
+  pub spares : AllSpare x.value x.drops
+
+abbrev pub AllValued : (lo hi : ℕ) → List Instr → List ℕ → Type 0
+AllValued lo hi ds [] = Unit {0}
+AllValued lo hi ds (s ∷ ss) = (Between lo hi s × AllSpare s ds) × AllValued lo hi ds ss
+
+valued_at : (lo hi : ℕ) (ds : List Instr) (ss : List ℕ) (k : ℕ) → k < length ss → AllValued lo hi ds ss
+    → Between lo hi (slot_at k ss) × AllSpare (slot_at k ss) ds
+valued_at lo hi ds [] k l h = absurd (omega arith)
+valued_at lo hi ds (s ∷ ss) zero l h = h.0
+valued_at lo hi ds (s ∷ ss) (suc k) l h = valued_at lo hi ds ss k (omega arith) h.1
+
+-- more drops in front, of slots below
+valued_more : (lo lo' hi : ℕ) (ds es : List Instr) (ss : List ℕ) → lo' ≤ lo → AllTouch (Between lo' lo) ds → AllValued lo hi es ss
+    → AllValued lo' hi (ds ++ es) ss
+valued_more lo lo' hi ds es [] l t h = tt
+valued_more lo lo' hi ds es (s ∷ ss) l t h = (
+  (
+    (let x = h.0.0.0 in omega (arith, x, l), h.0.0.1),
+    spare_more s ds es (spare_outside lo' lo s ds (inr h.0.0.0) t) h.0.1,
+  ),
+  valued_more lo lo' hi ds es ss l t h.1,
+)
+
+module _ (defs : List Def) where
+  spare_cells : (s n free : ℕ) → AllSpare s (cell_drops defs n free)
+  spare_cells s zero free = tt
+  spare_cells s (suc n) free = (tt, spare_cells s n (suc free))
+
+  gives_valued : (lo : ℕ) (t : Ty) (o : Work) (l : LoweredAll) → lo ≤ l.free → AllTouch (Between lo l.free) l.drops → Valued lo (gives defs t o l)
+  gives_valued lo t o l p w = record {
+    between = (p, omega arith);
+    spares = spare_more l.free l.drops _ (spare_outside lo l.free l.free l.drops (inr (omega arith)) w)
+        (spare_if l.free (work_refers defs t o) _ (spare_from l.free l.free 0 (count_of defs t)));
+  }
+
+  node_valued : (lo : ℕ) (u t : Ty) (o : Work) (l : LoweredAll) (n : ℕ) → lo ≤ l.free → AllTouch (Between lo l.free) l.drops → length l.values ≡ n
+      → AllValued lo l.free l.drops l.values → Suits o n → Valued lo (node defs u t o l)
+  node_valued lo u t (Operate o) l n p w e v s =
+      subst (λ (b : Bool). Valued lo (if b then gathers defs t o l else gives defs t (Operate o) l)) (sym s) (gives_valued lo t (Operate o) l p w)
+  node_valued lo u t (tree.Assign aims) l n p w e v s =
+      let x = valued_at lo l.free l.drops l.values (operands_for aims) (omega (arith, e, s)) v in record { between = x.0; spares = x.1 }
+  node_valued lo u t (tree.TakePart k) l n p w e v s = absurd s
+  node_valued lo u t tree.Copy l n p w e v s =
+      let x = valued_at lo l.free l.drops l.values 2 (omega (arith, e, s)) v in record { between = x.0; spares = x.1 }
+  node_valued lo u t tree.Link l n p w e v s =
+      let at = l.free + (length l.values - 1) in
+      record {
+        between = (omega arith, omega arith);
+        spares = spare_more at l.drops _ (spare_outside lo l.free at l.drops (inr (omega arith)) w) (spare_cells at (length l.values) l.free);
+      }
+  node_valued lo u t (tree.Call f) l n p w e v s = record {
+    between = (p, omega arith);
+    spares = spare_more l.free l.drops _ (spare_outside lo l.free l.free l.drops (inr (omega arith)) w) (spare_from l.free l.free 0 (count_of defs t));
+  }
+  node_valued lo u t (tree.Print ps) l n p w e v s =
+      record { between = (p, omega arith); spares = spare_outside lo l.free l.free l.drops (inr (omega arith)) w }
+  node_valued lo u t tree.NewChannel l n p w e v s = record {
+    between = (p, omega arith);
+    spares = spare_more l.free l.drops _ (spare_outside lo l.free l.free l.drops (inr (omega arith)) w) (tt, tt);
+  }
+  node_valued lo u t (tree.Literal c) l n p w e v s = gives_valued lo t (tree.Literal c) l p w
+  node_valued lo u t tree.Nil l n p w e v s = gives_valued lo t tree.Nil l p w
+  node_valued lo u t (tree.Read r) l n p w e v s = gives_valued lo t (tree.Read r) l p w
+  node_valued lo u t (tree.Sprint ps) l n p w e v s = gives_valued lo t (tree.Sprint ps) l p w
+
+  declared_valued : (lo : ℕ) (t : Ty) (o : Work) (ts : Terms) → Declares o ts → Valued lo (lower defs lo (Node t o ts))
+  declared_valued lo t (tree.Assign (a ∷ aims)) (MoreTerms (Evaluated v) NoTerms) d =
+      let at : slot_at (operands_for (a ∷ aims)) (lo ∷ []) ≡ lo = ap (λ (k : ℕ). slot_at k (lo ∷ [])) d.0 in
+      record { between = (let z = at in omega arith, let z = at in omega arith); spares = tt }
+  declared_valued lo t _ _ d = absurd d
+
+  given_valued : (k : Given) (lo s d hi : ℕ) (ds : List Instr) → Between lo hi s × AllSpare s ds → Between lo hi d × AllSpare d ds
+      → Between lo hi (given_slot defs k s d) × AllSpare (given_slot defs k s d) ds
+  given_valued given_kind.Old lo s d hi ds x y = x
+  given_valued given_kind.New lo s d hi ds x y = y
+
+  mutual
+    pub value_stands : (t : Term) → Handled t → (lo : ℕ) → Valued lo (lower defs lo t)
+    value_stands (Node t o ts) h lo = ⊎_elim
+        (λ (x : Suits o (count ts) × AllHandled ts). node_valued lo (type_at defs 0 ts) t o (lower_all defs lo ts) (count ts) (terms_up defs lo ts)
+        (all_within defs lo ts) (values_counted defs lo ts) (values_stand ts x.1 lo) x.0)
+        (λ (x : Declares o ts). declared_valued lo t o ts x) h
+    value_stands (Lazy k l r) h lo =
+        let a = lower defs lo l in
+        let b = lower defs (suc a.free) r in
+        let p = term_up defs lo l in
+        let q = term_up defs (suc a.free) r in
+        record {
+          between = (omega arith, omega arith);
+          spares = spare_more b.free a.drops _ (spare_outside lo a.free b.free a.drops (inr (omega arith)) (drops_within defs lo l))
+              (spare_if b.free (may_hold defs r) _ (tt, spare_outside (suc a.free) b.free b.free b.drops (inr (omega arith)) (drops_within defs (suc a.free) r)));
+        }
+    value_stands (Update o k t w ts us) h lo =
+        let a = lower_all defs lo ts in
+        let b = lower_all defs (suc a.free) us in
+        let p = terms_up defs lo ts in
+        let q = terms_up defs (suc a.free) us in
+        let spares = λ (s : ℕ) (x : Beside lo a.free s) (y : Beside (suc a.free) b.free s).
+        spare_more s a.drops _ (spare_outside lo a.free s a.drops x (all_within defs lo ts))
+        (spare_more s (drops_from a.free 0 (count_of defs t)) _ (spare_from s a.free 0 (count_of defs t))
+        (spare_more s b.drops _ (spare_outside (suc a.free) b.free s b.drops y (all_within defs (suc a.free) us))
+        (spare_if s (work_refers defs t (Operate o)) _ (spare_from s b.free 0 (count_of defs t))))) in
+        let v = given_valued k lo a.free b.free (suc b.free) _ ((p, omega arith), spares a.free (inr (omega arith)) (inl (omega arith)))
+        ((omega arith, omega arith), spares b.free (inr (omega arith)) (inr (omega arith))) in
+        record { between = v.0; spares = v.1 }
+    value_stands _ h lo = absurd h
+
+    pub values_stand : (ts : Terms) → AllHandled ts → (lo : ℕ) → AllValued lo (lower_all defs lo ts).free (lower_all defs lo ts).drops (lower_all defs lo ts).values
+    values_stand NoTerms h lo = tt
+    values_stand (MoreTerms t ts) h lo =
+        let a = lower defs lo t in
+        let b = lower_all defs a.free ts in
+        let v = value_stands t h.0 lo in
+        let q = terms_up defs a.free ts in (
+          (
+            (v.between.0, let x = v.between.1 in omega (arith, x, q)),
+            spare_more a.value a.drops b.drops v.spares (spare_outside a.free b.free a.value b.drops (inl v.between.1) (all_within defs a.free ts)),
+          ),
+          valued_more a.free lo b.free a.drops b.drops b.values (term_up defs lo t) (drops_within defs lo t) (values_stand ts h.1 a.free),
+        )

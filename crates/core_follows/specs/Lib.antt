@@ -1,0 +1,5 @@
+pub mod Drops
+pub mod Handled
+pub mod Does
+pub mod Stands
+pub mod Follows
