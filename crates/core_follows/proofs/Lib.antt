@@ -9,6 +9,8 @@ pub mod Works
 pub mod Terms
 pub mod Dropped
 pub mod Blocks
+pub mod Expressions
 pub mod Valued
 pub mod Statements
 pub mod Follows
+pub mod Filling

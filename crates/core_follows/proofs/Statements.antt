@@ -37,7 +37,7 @@ use Rattle.core_follows.proofs.Slots.{total, total_split, total_clean, slots_tot
 use Rattle.core_follows.proofs.Holding.{has_front, has_back, Room, room_behind}
 use Rattle.core_follows.proofs.Contexts.{Carries, in_eval, in_if, in_while, in_return}
 use Rattle.core_follows.proofs.Nodes.{spot, pc_is}
-use Rattle.core_follows.proofs.Terms.{value_goes}
+use Rattle.core_follows.proofs.Expressions.{value_goes}
 use Rattle.core_follows.proofs.Valued.{value_stands}
 use Rattle.core_follows.proofs.Dropped.{slot_number, drops_go}
 use Rattle.core_follows.proofs.Blocks.{does_at, tested_enters, entered_enters}

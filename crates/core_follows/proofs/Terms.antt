@@ -29,18 +29,18 @@ use Rattle.core_code.specs.Machine.{Frame, at, memory_of}
 use Rattle.core_code.specs.Terms.{Lowered, LoweredAll, drops_from, drops_if, count_of, slot_at, writes, type_at}
 use Rattle.core_code.specs.Terms.{gives, gathers, node, lower, lower_all, given_slot}
 use Rattle.core_code.specs.Statements.{code_of}
-use Rattle.core_code.proofs.Used.{term_up, terms_up}
+use Rattle.core_code.proofs.Used.{terms_up}
 use Rattle.core_follows.specs.Drops.{Clean, Between, AllTouch, HasAt, none, enters, passes, Holding}
 use Rattle.core_follows.specs.Stands.{coded, Stands, Going, going, obeying}
 use Rattle.core_follows.specs.Stands.{place_at, rests}
-use Rattle.core_follows.specs.Handled.{count, Suits, Declares, Handled, AllHandled}
+use Rattle.core_follows.specs.Handled.{count, Suits, Declares, IsKnown, Handled, AllHandled}
 use Rattle.std.proofs.lemmas.Bool.{cases_eq}
 use Rattle.core_follows.proofs.Slots.{put_same, put_other, put_long, name_clean}
-use Rattle.core_follows.proofs.Holding.{has_front, has_back, Room, room_front, room_behind, holding_none, holding_more}
+use Rattle.core_follows.proofs.Holding.{has_front, has_back, Room, room_front, room_behind, holding_more}
 use Rattle.core_follows.proofs.Holding.{holding_put}
 use Rattle.core_follows.proofs.Contexts.{Carries, carry}
-use Rattle.core_follows.proofs.Static.{touch_wide, drops_within, no_drops, values_counted}
-use Rattle.core_follows.proofs.Nodes.{AllBetween, between_wide, AllHold, hold_same, hold_values, evaluated}
+use Rattle.core_follows.proofs.Static.{touch_wide, values_counted}
+use Rattle.core_follows.proofs.Nodes.{AllBetween, AllHold, hold_same, hold_values, evaluated}
 use Rattle.core_follows.proofs.Nodes.{evaluated_done, spot, pc_is, Behind, store_goes, gives_always}
 use Rattle.core_follows.proofs.Given.{Both, gave, raised, give_goes, owns_row, owns_none, owns_fitted, counted}
 use Rattle.core_follows.proofs.Works.{Own, own_gives, own_channel, own_call, own_print, own_writes, own_nothing, own_copy, own_link}
@@ -54,7 +54,14 @@ mutual
       (λ (x : Declares o ts). declared_fill v o ts x) h)
   handled_fill v (Lazy c l r) h = ap (λ (x : Term). Lazy c x r) (handled_fill v l h.0)
   handled_fill v (Update o g t w ts us) h = ap (λ (x : Terms). Update o g t w x us) (handled_fill_all v ts h.1)
+  handled_fill v (Fill t l is rest) h = ap (λ (x : Term). Fill t x is rest) (⊎_elim
+      (λ (x : IsKnown l). known_fill v l x)
+      (λ (x : Handled l). handled_fill v l x) h.0)
   handled_fill v _ h = absurd h
+
+  known_fill : (v : Value) (t : Term) → IsKnown t → fill v t ≡ t
+  known_fill v (Evaluated x) h = refl
+  known_fill v _ h = absurd h
 
   pub handled_fill_all : (v : Value) (ts : Terms) → AllHandled ts → fill_all v ts ≡ ts
   handled_fill_all v NoTerms h = refl
@@ -82,7 +89,7 @@ module _ (limit : ℕ) (program : Program) where
   Comes true g held b = Going limit program g held b
   Comes false g held b = Stands limit program g held b
 
-  comes : (b : Bool) (g : Frame) (held : List (Option ℕ)) (todo : Block) → Comes b g held todo → Stands limit program g held todo
+  pub comes : (b : Bool) (g : Frame) (held : List (Option ℕ)) (todo : Block) → Comes b g held todo → Stands limit program g held todo
   comes true g held todo x = going x
   comes false g held todo x = x
 
@@ -90,7 +97,7 @@ module _ (limit : ℕ) (program : Program) where
   begun b NoTerms = b
   begun b (MoreTerms t ts) = true
 
-  begins : (ts : Terms) (g : Frame) (held : List (Option ℕ)) (todo : Block) → Comes (begun true ts) g held todo → Going limit program g held todo
+  pub begins : (ts : Terms) (g : Frame) (held : List (Option ℕ)) (todo : Block) → Comes (begun true ts) g held todo → Going limit program g held todo
   begins NoTerms g held todo x = x
   begins (MoreTerms t ts) g held todo x = x
 
@@ -195,7 +202,7 @@ module _ (limit : ℕ) (program : Program) where
 
   -- ---- connectives
 
-  as_is : (one two : Slots) (lo hi : ℕ) (ds ds' : List Instr) (got got' : List (Option ℕ)) → ds ≡ ds' → got ≡ got'
+  pub as_is : (one two : Slots) (lo hi : ℕ) (ds ds' : List Instr) (got got' : List (Option ℕ)) → ds ≡ ds' → got ≡ got'
       → Holding one two lo hi ds got → Holding one two lo hi ds' got'
   as_is one two lo hi ds ds' got got' e f h =
       subst (λ (x : List Instr). Holding one two lo hi x got') e (subst (λ (x : List (Option ℕ)). Holding one two lo hi ds x) f h)
@@ -338,10 +345,10 @@ module _ (limit : ℕ) (program : Program) where
   either_way X true f g = f refl
   either_way X false f g = g refl
 
-  onward : (held p q x y : List (Option ℕ)) → x ≡ held ++ p → y ≡ x ++ q → y ≡ held ++ (p ++ q)
+  pub onward : (held p q x y : List (Option ℕ)) → x ≡ held ++ p → y ≡ x ++ q → y ≡ held ++ (p ++ q)
   onward held p q x y e f = f ∙ ap (λ (z : List (Option ℕ)). z ++ q) e ∙ append_assoc held p q
 
-  lazy_goes : (k : Connective) (lo : ℕ) (l r : Term) (h : Bool) (a b : Lowered) → may_hold program.adts r ≡ h → lo ≤ a.free
+  pub lazy_goes : (k : Connective) (lo : ℕ) (l r : Term) (h : Bool) (a b : Lowered) → may_hold program.adts r ≡ h → lo ≤ a.free
       → suc a.free ≤ b.free → AllTouch (Between (suc a.free) b.free) b.drops → (h ≡ false → b.drops ≡ [])
       → GoesBy lo l a → GoesBy (suc a.free) r b
       → GoesBy lo (Lazy k l r) (record {
@@ -459,7 +466,7 @@ module _ (limit : ℕ) (program : Program) where
   given_between given_kind.Old lo hi s d b c = b
   given_between given_kind.New lo hi s d b c = c
 
-  update_goes : (lo : ℕ) (o : Operation) (k : Given) (t : Ty) (w : Way) (ts us : Terms) (a b : LoweredAll) → passes_on o ≡ false
+  pub update_goes : (lo : ℕ) (o : Operation) (k : Given) (t : Ty) (w : Way) (ts us : Terms) (a b : LoweredAll) → passes_on o ≡ false
       → ((v : Value) → fill_all v us ≡ us) → lo ≤ a.free → suc a.free ≤ b.free → AllBy true lo ts a → AllBy true (suc a.free) us b
       → GoesBy lo (Update o k t w ts us) (record {
         code = update_code a b o t w;
@@ -558,7 +565,7 @@ module _ (limit : ℕ) (program : Program) where
 
   -- ---- a value that is known, for variables that are declared without one
 
-  known_goes : (v : Value) (lo : ℕ) (g : Frame) (held : List (Option ℕ)) (todo : Block) → references v ≡ []
+  pub known_goes : (v : Value) (lo : ℕ) (g : Frame) (held : List (Option ℕ)) (todo : Block) → references v ≡ []
       → slice_get g.code g.pc ≡ Some (Known v lo) → 0 < place_at (slice_get g.code (suc g.pc)) → Room g.slots lo (suc lo) held
       → ((slots : Slots) → Holding g.slots slots lo (suc lo) [] [] → slot slots lo ≡ Holds v
       → Stands limit program (spot g g.into (suc g.pc) g.variables slots) held todo)
@@ -590,7 +597,7 @@ module _ (limit : ℕ) (program : Program) where
 
   -- ---- all trees
 
-  node_either : (lo : ℕ) (t : Ty) (o : Work) (ts : Terms) → (Suits o (count ts) × AllHandled ts) ⊎ Declares o ts
+  pub node_either : (lo : ℕ) (t : Ty) (o : Work) (ts : Terms) → (Suits o (count ts) × AllHandled ts) ⊎ Declares o ts
       → (AllHandled ts → (b : Bool) → AllBy b lo ts (lower_all program.adts lo ts)) → GoesBy lo (Node t o ts) (lower program.adts lo (Node t o ts))
   node_either lo t o ts (inl x) all =
       node_goes lo (type_at program.adts 0 ts) t o ts (lower_all program.adts lo ts) (terms_up program.adts lo ts) (values_counted program.adts lo ts) x.0
@@ -598,56 +605,3 @@ module _ (limit : ℕ) (program : Program) where
   node_either lo t (tree.Assign (a ∷ aims)) (MoreTerms (Evaluated v) NoTerms) (inr d) all =
       declared_goes lo (type_at program.adts 0 (MoreTerms (Evaluated v) NoTerms)) t a aims v d.0 d.1
   node_either lo t _ _ (inr d) all = absurd d
-
-  here : (b : Bool) (g : Frame) (held : List (Option ℕ)) (todo : Block) → Comes b (spot g g.into (g.pc + 0) g.variables g.slots) held todo
-      → Comes b g held todo
-  here b g held todo x =
-      let e : g.pc + 0 ≡ g.pc = omega arith in
-      subst (λ (q : ℕ). Comes b (spot g g.into q g.variables g.slots) held todo) e x
-
-  comes_at : (b : Bool) (g : Frame) (j pc pc' : ℕ) (variables : List Value) (slots : Slots) (held : List (Option ℕ)) (todo : Block) → pc ≡ pc'
-      → Comes b (spot g j pc variables slots) held todo → Comes b (spot g j pc' variables slots) held todo
-  comes_at b g j pc pc' variables slots held todo e x = subst (λ (q : ℕ). Comes b (spot g j q variables slots) held todo) e x
-
-  mutual
-    pub value_goes : (t : Term) → Handled t → (lo : ℕ) → GoesBy lo t (lower program.adts lo t)
-    value_goes (Node t o ts) h lo = node_either lo t o ts h (λ x b. operands_go ts x lo b)
-    value_goes (Lazy k l r) h lo =
-        let a = lower program.adts lo l in
-        lazy_goes k lo l r (may_hold program.adts r) a (lower program.adts (suc a.free) r) refl (term_up program.adts lo l)
-        (term_up program.adts (suc a.free) r) (drops_within program.adts (suc a.free) r) (λ e. no_drops program.adts (suc a.free) r e)
-        (value_goes l h.0 lo) (value_goes r h.1 (suc a.free))
-    value_goes (Update o k t w ts us) h lo =
-        let a = lower_all program.adts lo ts in
-        update_goes lo o k t w ts us a (lower_all program.adts (suc a.free) us) h.0 (λ v. handled_fill_all v us h.2) (terms_up program.adts lo ts)
-        (terms_up program.adts (suc a.free) us) (operands_go ts h.1 lo true) (operands_go us h.2 (suc a.free) true)
-    value_goes _ h lo = absurd h
-
-    pub operands_go : (ts : Terms) → AllHandled ts → (lo : ℕ) (b : Bool) → AllBy b lo ts (lower_all program.adts lo ts)
-    operands_go NoTerms h lo b C c g held has room k =
-        here b g held (C NoTerms) (k g.into g.variables g.slots [] [] held (holding_none g.slots lo) tt tt (sym (append-nil held)))
-    operands_go (MoreTerms t ts) h lo b C c g held has room k =
-        let x = lower program.adts lo t in
-        let y = lower_all program.adts x.free ts in
-        let up = term_up program.adts lo t in
-        let ups = terms_up program.adts x.free ts in
-        let n = length-append x.code y.code in
-        value_goes t h.0 lo (λ u. C (MoreTerms u ts))
-        (carry limit program (next program.adts) fill (next_all program.adts) fill_all C c (λ u. MoreTerms u ts)
-        (λ m v. after (next_all program.adts m ts) (λ vs. Finished (v ∷ vs)) (MoreTerms (Evaluated v))) (λ m u. refl)
-        (λ v u. ap (MoreTerms (fill v u)) (handled_fill_all v ts h.1)))
-        g held (has_front g.code g.pc x.code y.code has) (room_front g.slots lo x.free y.free held up ups room)
-        (λ j variables slots v got held1 h1 e1 b1 eq1.
-        comes (begun b ts) (spot g j (g.pc + length x.code) variables slots) held1 (C (MoreTerms (Evaluated v) ts))
-        (operands_go ts h.1 x.free b (λ us. C (MoreTerms (Evaluated v) us))
-        (carry limit program (next_all program.adts) fill_all (next_all program.adts) fill_all C c (MoreTerms (Evaluated v)) (λ m vs. Finished (v ∷ vs))
-        (λ m us. refl) (λ z us. refl))
-        (spot g j (g.pc + length x.code) variables slots) held1 (has_back g.code g.pc x.code y.code has)
-        (room_behind g.slots slots lo x.free y.free x.drops held got held1 up ups room h1 eq1)
-        (λ j2 variables2 slots2 vs got2 held2 h2 hold2 bs2 eq2.
-        comes_at b g j2 (g.pc + length (x.code ++ y.code)) (g.pc + length x.code + length y.code) variables2 slots2 held2
-        (C (evaluated (v ∷ vs))) (omega arith)
-        (k j2 variables2 slots2 (v ∷ vs) (got ++ got2) held2 (holding_more g.slots slots slots2 lo x.free y.free x.drops y.drops got got2 up ups h1 h2)
-        (h2.same x.value (inl b1.1) ∙ e1, hold2)
-        ((b1.0, let q = b1.1 in omega (arith, q, ups)), between_wide x.free y.free lo y.free y.values up (omega arith) bs2)
-        (onward held got got2 held1 held2 eq1 eq2)))))

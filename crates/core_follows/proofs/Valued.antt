@@ -9,13 +9,16 @@ use Rattle.limbo_typed.specs.declared.operation.Given.TheVariants as given_kind
 use Rattle.limbo_meaning.specs.Trees as tree
 use Rattle.limbo_meaning.specs.Trees.{Work, Operate, Term, Evaluated, Node, Lazy, Update, Fill, Terms, NoTerms, MoreTerms}
 use Rattle.limbo_meaning.specs.Evaluation.{may_hold, work_refers, operands_for}
+use Rattle.core_code.specs.Code.{Drop}
 use Rattle.core_code.specs.Code.{Instr, Take}
 use Rattle.core_code.specs.Terms.{Lowered, LoweredAll, drops_from, drops_if, count_of, gives, gathers, cell_drops, slot_at, type_at, node, lower}
 use Rattle.core_code.specs.Terms.{lower_all, given_slot}
-use Rattle.core_code.proofs.Used.{term_up, terms_up}
+use Rattle.std.specs.Prelude.{max}
+use Rattle.core_code.specs.Terms.{lower_items, lower_rest, items_end, rest_end, named}
+use Rattle.core_code.proofs.Used.{end_up, items_up, rest_up, term_up, terms_up}
 use Rattle.core_follows.specs.Drops.{Between, Beside, Touches, AllTouch, Spares, AllSpare}
 use Rattle.core_follows.specs.Handled.{count, Suits, Declares, Handled, AllHandled}
-use Rattle.core_follows.proofs.Static.{drops_within, all_within, values_counted}
+use Rattle.core_follows.proofs.Static.{items_within, rest_within, drops_within, all_within, values_counted}
 
 spare_one : (lo hi s : ℕ) (i : Instr) → Beside lo hi s → Touches (Between lo hi) i → Spares s i
 spare_one lo hi s (Take c from words n) b t = (
@@ -148,6 +151,23 @@ module _ (defs : List Def) where
         let v = given_valued k lo a.free b.free (suc b.free) _ ((p, omega arith), spares a.free (inr (omega arith)) (inl (omega arith)))
         ((omega arith, omega arith), spares b.free (inr (omega arith)) (inr (omega arith))) in
         record { between = v.0; spares = v.1 }
+    value_stands (Fill t l is rest) h lo =
+        let n = lower defs lo l in
+        let s = suc n.free in
+        let from = max (items_end defs s is) (rest_end defs s rest) in
+        let es = lower_items defs t n.free s from is in
+        let os = lower_rest defs t n.free (named defs is) s es.free rest in
+        let p = term_up defs lo l in
+        let q = end_up defs s is in
+        let u = items_up defs t n.free s from is in
+        let v = rest_up defs t n.free (named defs is) s es.free rest in
+        record {
+          between = (p, omega arith);
+          spares = spare_more n.free (n.drops ++ (Drop n.free 0 ∷ es.drops)) os.drops
+              (spare_more n.free n.drops (Drop n.free 0 ∷ es.drops) (spare_outside lo n.free n.free n.drops (inr (omega arith)) (drops_within defs lo l))
+              (tt, spare_outside s os.free n.free es.drops (inl (omega arith)) (items_within defs s os.free t n.free s from is (omega arith) v)))
+              (spare_outside s os.free n.free os.drops (inl (omega arith)) (rest_within defs s os.free t n.free (named defs is) s es.free rest (omega arith) (omega arith)));
+        }
     value_stands _ h lo = absurd h
 
     pub values_stand : (ts : Terms) → AllHandled ts → (lo : ℕ) → AllValued lo (lower_all defs lo ts).free (lower_all defs lo ts).drops (lower_all defs lo ts).values

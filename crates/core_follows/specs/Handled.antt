@@ -1,9 +1,10 @@
 -- Trees of which nothing is evaluated yet.
 use Rattle.std.specs.Prelude.{◌≡◌, ℕ, suc, ◌<◌, ◌⊎◌, false, [], ◌∷◌, Option, Some, None}
 use Rattle.limbo_meaning.specs.Values.{references}
-use Rattle.limbo_meaning.specs.Trees.{Work, Operate, Assign, TakePart, Copy, Term, Evaluated, Node, Lazy, Update, Terms, NoTerms, MoreTerms}
-use Rattle.limbo_meaning.specs.Trees.{Stm, Over, Eval, If, While, Enter, Break, Continue, Return, Leave, Loop, Looping, Block, Done, Then, Turn}
-use Rattle.limbo_meaning.specs.Trees.{Again}
+use Rattle.limbo_meaning.specs.Trees.{Work, Operate, Assign, TakePart, Copy, Term, Evaluated, Node, Lazy, Update, Fill, Terms, NoTerms}
+use Rattle.limbo_meaning.specs.Trees.{MoreTerms, Items, NoItems, MoreItems}
+use Rattle.limbo_meaning.specs.Trees.{Stm, Over, Eval, If, While, Enter, Break, Continue, Return, Leave, Loop, Looping, Block, Done}
+use Rattle.limbo_meaning.specs.Trees.{Then, Turn, Again}
 use Rattle.limbo_meaning.specs.Evaluation.{passes_on, operands_for}
 
 abbrev pub count : Terms → ℕ
@@ -24,16 +25,31 @@ abbrev pub Declares : Work → Terms → Type 0
 Declares (Assign (a ∷ aims)) (MoreTerms (Evaluated v) NoTerms) = (operands_for (a ∷ aims) ≡ 0) × (references v ≡ [])
 Declares o ts = ⊥
 
+-- The length of an array may be known.
+abbrev pub IsKnown : Term → Type 0
+IsKnown (Evaluated v) = references v ≡ []
+IsKnown t = ⊥
+
 abbrev mutual
   pub Handled : Term → Type 0
   Handled (Node t o ts) = (Suits o (count ts) × AllHandled ts) ⊎ Declares o ts
   Handled (Lazy c l r) = Handled l × Handled r
   Handled (Update o g t w ts us) = (passes_on o ≡ false) × AllHandled ts × AllHandled us
+  Handled (Fill t l is rest) = (IsKnown l ⊎ Handled l) × HandledItems is × HandledRest rest
   Handled t = ⊥
 
   pub AllHandled : Terms → Type 0
   AllHandled NoTerms = Unit {0}
   AllHandled (MoreTerms t ts) = Handled t × AllHandled ts
+
+  pub HandledItems : Items → Type 0
+  HandledItems NoItems = Unit {0}
+  HandledItems (MoreItems z e is) = Handled e × HandledItems is
+
+  -- the element of the others, if there is one
+  pub HandledRest : Terms → Type 0
+  HandledRest NoTerms = Unit {0}
+  HandledRest (MoreTerms e es) = Handled e
 
 abbrev pub HandledIf : Option Term → Type 0
 HandledIf None = Unit {0}
