@@ -1,6 +1,6 @@
 //! Three-address code over whole values, between the compiler's two passes: what one process of it does, and the code of a program.
-//! No code stands here, only definitions and laws. The command doesn't use them yet, and that the code keeps the meaning of its
-//! program isn't proved yet.
+//! No code stands here, only definitions and laws. The command doesn't use them yet. That the code keeps the meaning of its program is
+//! said in `core_follows`.
 //!
 //! A slot has the whole value of a node. What a statement of the program holds stands in the slots of its nodes, and each reference of it
 //! goes by a `Drop` at the statement's end, in the order in which it was got; a test of what was decided passes over the drops of what

@@ -3,7 +3,8 @@ use Rattle.std.proofs.Common.{◌≡◌, ℕ, zero, suc, ◌+◌, ◌<◌, ◌�
 use Rattle.std.proofs.Common.{arith, length-append}
 use Rattle.limbo_layout.specs.Adts.{Def}
 use Rattle.limbo_meaning.specs.Trees as tree
-use Rattle.limbo_meaning.specs.Trees.{Term, Stm, Over, Eval, If, While, Enter, Break, Continue, Leave, Loop, Looping, Block, Done, Then, Turn}
+use Rattle.limbo_meaning.specs.Trees.{Term, Stm, Over, Eval, If, While, Enter, Break, Continue, Leave, Loop, Looping, Block, Done, Then}
+use Rattle.limbo_meaning.specs.Trees.{Turn}
 use Rattle.limbo_meaning.specs.Trees.{Again, join, entered, behind, at_turn}
 use Rattle.core_code.specs.Code.{Instr, Unless, Jump, Back, Return}
 use Rattle.core_code.specs.Terms.{lower}
@@ -57,9 +58,11 @@ module _ (defs : List Def) (codes : List Instr) (size : ℕ) where
 
   exits_further : (e k : ℕ) (around : List Around) (r : Block) → X (e + k) around r → X e (further k around) r
   exits_further e k around r (exits f h) = exits
-      (λ (n : ℕ) (l : n < length (further k around)). let m = further_long k around in let a : n < length around = omega arith in let x = further_leaves k n around a in
+      (λ (n : ℕ) (l : n < length (further k around)). let m = further_long k around in let a : n < length around = omega arith in let x =
+      further_leaves k n around a in
       does_at (e + k + leaves_at n around) (e + leaves_at n (further k around)) (behind n r) (omega arith) (f n a))
-      (λ (n : ℕ) (l : n < length (further k around)). let m = further_long k around in let a : n < length around = omega arith in let x = further_turns k n around a in
+      (λ (n : ℕ) (l : n < length (further k around)). let m = further_long k around in let a : n < length around = omega arith in let x =
+      further_turns k n around a in
       does_at (e + k + turns_at n around) (e + turns_at n (further k around)) (at_turn n r) (omega arith) (h n a))
 
   exits_join : (k e : ℕ) (around : List Around) (b r : Block) → HandledBlock k b → X e around r → X e around (join b r)
@@ -106,7 +109,8 @@ module _ (defs : List Def) (codes : List Instr) (size : ℕ) where
         let this = stm_code defs around (length more) a in
         let n = length-append this more in
         stm_does a around (length more) h.0 (omega arith) pc (pc + length this) (has_front codes pc this more has) refl (join b r)
-        (exits_join (length around) (pc + length this + length more) around b r h.1 (exits_at e (pc + length this + length more) around r (omega arith) x))
+        (exits_join (length around) (pc + length this + length more) around b r h.1 (exits_at e (pc + length this + length more) around r
+        (omega arith) x))
         (block_does b around h.1 (omega arith) (pc + length this) e (has_back codes pc this more has) (omega arith) r x d)
     block_does (Turn l b) around h s pc e has q r x d = absurd h
     block_does (Again l b) around h s pc e has q r x d = absurd h
@@ -135,13 +139,17 @@ module _ (defs : List Def) (codes : List Instr) (size : ℕ) where
         chooses (suc (length first)) (h.0, omega arith)
         (has_more codes pc w (Unless (lower defs 0 t).value (suc (length first)) ∷ [])
         (has_front codes pc w (Unless (lower defs 0 t).value (suc (length first)) ∷ first) has1) (has3.0, tt))
-        (block_does a (further (suc (length other) + k) around) (subst (λ (z : ℕ). HandledBlock z a) (sym m2) h.1) (omega arith) at_first end_first
-        (subst (λ (z : ℕ). HasAt codes z first) (let z : suc (pc + length w) ≡ at_first = omega arith in z) has3.1) (omega arith) (Then Over r)
+        (block_does a (further (suc (length other) + k) around) (subst (λ (z : ℕ). HandledBlock z a) (sym m2) h.1) (omega arith) at_first
+        end_first
+        (subst (λ (z : ℕ). HasAt codes z first) (let z : suc (pc + length w) ≡ at_first = omega arith in z) has3.1) (omega arith)
+        (Then Over r)
         (exits_further end_first (suc (length other) + k) around (Then Over r)
-        (exits_over (end_first + (suc (length other) + k)) around r (exits_at (e + k) (end_first + (suc (length other) + k)) around r (omega arith) x)))
+        (exits_over (end_first + (suc (length other) + k)) around r (exits_at (e + k) (end_first + (suc (length other) + k)) around r
+        (omega arith) x)))
         (jumps (length other) has2.0 (does_at e (suc end_first + length other) r (omega arith) d)))
         (block_does b (further k around) (subst (λ (z : ℕ). HandledBlock z b) (sym m1) h.2) (omega arith) (at_first + suc (length first)) e
-        (subst (λ (z : ℕ). HasAt codes z other) (let z : suc end_first ≡ at_first + suc (length first) = omega arith in z) has2.1) (omega arith) (Then Over r)
+        (subst (λ (z : ℕ). HasAt codes z other) (let z : suc end_first ≡ at_first + suc (length first) = omega arith in z) has2.1)
+        (omega arith) (Then Over r)
         (exits_further e k around (Then Over r) (exits_over (e + k) around r x)) (over d))
     stm_does (While t (Looping None n body)) around k h s pc e has q r x d = absurd h.0
     stm_does (While t (Looping (Some c) n body)) around k h s pc e has q r x d =
@@ -154,7 +162,8 @@ module _ (defs : List Def) (codes : List Instr) (size : ℕ) where
         let n3 = length-append bc nc in
         let fin : e ≡ suc (tested_back defs pc l) = omega arith in
         subst (λ (z : Term). D pc (Then (While z (Looping (Some c) n body)) r)) (sym h.0)
-        (tests pc l c refl (tested_at c refl h.1 (omega arith) (omega arith) (omega arith) has (does_at e (suc (tested_back defs pc l)) r fin d)
+        (tests pc l c refl (tested_at c refl h.1 (omega arith) (omega arith) (omega arith) has (does_at e (suc (tested_back defs pc l)) r
+        fin d)
         (exits_at (e + k) (suc (tested_back defs pc l) + k) around r (omega arith) x)))
     stm_does (Enter (Looping c n body)) around k h s pc e has q r x d =
         let l : LoopIn = record { around = around; rest = k; condition = c; next = n; body = body } in
@@ -167,17 +176,21 @@ module _ (defs : List Def) (codes : List Instr) (size : ℕ) where
         let n3 = length-append bc nc in
         let end : ℕ = suc (entered_test defs pc l + length tc) in
         let fin : e ≡ end = omega arith in
-        let at = entered_at {l = l} h (omega arith) (omega arith) (omega arith) has (does_at e end r fin d) (exits_at (e + k) (end + k) around r (omega arith) x) in
+        let at = entered_at {l = l} h (omega arith) (omega arith) (omega arith) has (does_at e end r fin d)
+        (exits_at (e + k) (end + k) around r (omega arith) x) in
         let gap : ℕ = length nc + suc (length tc) in
         enters (block_does body (in_loop gap k around) (in_loop_long gap k around body h.2) (omega arith) pc (entered_turn defs pc l)
         (has_front codes pc bc nc (has_front codes pc (bc ++ nc) (tc ++ back) has)) refl (Turn (Looping c n body) r)
-        (body_exits (entered_turn defs pc l) end gap k around (Looping c n body) r (omega arith) (does_at e end r fin d) (entered_turns pc l at)
+        (body_exits (entered_turn defs pc l) end gap k around (Looping c n body) r (omega arith) (does_at e end r fin d)
+        (entered_turns pc l at)
         (exits_at (e + k) (end + k) around r (omega arith) x))
         (entered_turns pc l at))
     stm_does (Break n) around k h s pc e has q r (exits f g) d =
-        breaks (k + leaves_at n around) has.0 (does_at (e + k + leaves_at n around) (suc pc + (k + leaves_at n around)) (behind n r) (omega arith) (f n h))
+        breaks (k + leaves_at n around) has.0 (does_at (e + k + leaves_at n around) (suc pc + (k + leaves_at n around)) (behind n r)
+        (omega arith) (f n h))
     stm_does (Continue n) around k h s pc e has q r (exits f g) d =
-        continues (k + turns_at n around) has.0 (does_at (e + k + turns_at n around) (suc pc + (k + turns_at n around)) (at_turn n r) (omega arith) (g n h))
+        continues (k + turns_at n around) has.0 (does_at (e + k + turns_at n around) (suc pc + (k + turns_at n around)) (at_turn n r)
+        (omega arith) (g n h))
     stm_does (tree.Return t) around k h s pc e has q r x d = returns (h, s) has
     stm_does Leave around k h s pc e has q r x d = leaves has.0
 
@@ -193,10 +206,13 @@ module _ (defs : List Def) (codes : List Instr) (size : ℕ) where
       let back = Back (length head + length (bc ++ nc)) ∷ [] in
       let at = tested_at c ec h s1 s2 s3 has d x in
       let gap : ℕ = suc (length nc) in
-      block_does l.body (in_loop gap l.rest l.around) (in_loop_long gap l.rest l.around l.body h.2) s3 (start + length head) (tested_turn defs start l)
-      (has_front codes (start + length head) bc nc (has_front codes (start + length head) (bc ++ nc) back (has_back codes start head ((bc ++ nc) ++ back) has)))
+      block_does l.body (in_loop gap l.rest l.around) (in_loop_long gap l.rest l.around l.body h.2) s3 (start + length head)
+      (tested_turn defs start l)
+      (has_front codes (start + length head) bc nc (has_front codes (start + length head) (bc ++ nc) back
+      (has_back codes start head ((bc ++ nc) ++ back) has)))
       refl (Turn (loop_of l) rest)
-      (body_exits (tested_turn defs start l) (suc (tested_back defs start l)) gap l.rest l.around (loop_of l) rest (omega arith) d (tested_turns start l at) x)
+      (body_exits (tested_turn defs start l) (suc (tested_back defs start l)) gap l.rest l.around (loop_of l) rest (omega arith) d
+      (tested_turns start l at) x)
       (tested_turns start l at)
 
   -- That of one that begins with its body.
@@ -210,13 +226,16 @@ module _ (defs : List Def) (codes : List Instr) (size : ℕ) where
       let gap : ℕ = length nc + suc (length tc) in
       block_does l.body (in_loop gap l.rest l.around) (in_loop_long gap l.rest l.around l.body h.2) s3 start (entered_turn defs start l)
       (has_front codes start bc nc (has_front codes start (bc ++ nc) (tc ++ back) has)) refl (Turn (loop_of l) rest)
-      (body_exits (entered_turn defs start l) (suc (entered_test defs start l + length tc)) gap l.rest l.around (loop_of l) rest (omega arith) d
+      (body_exits (entered_turn defs start l) (suc (entered_test defs start l + length tc)) gap l.rest l.around (loop_of l) rest
+      (omega arith) d
       (entered_turns start l at) x)
       (entered_turns start l at)
 
   -- A function's body.
-  pub body_does : (b : Block) → HandledBlock 0 b → block_slots defs b ≤ size → HasAt codes 0 (block_code defs [] b ++ Return None ∷ []) → D 0 (join b Done)
+  pub body_does : (b : Block) → HandledBlock 0 b → block_slots defs b ≤ size → HasAt codes 0 (block_code defs [] b ++ Return None ∷ [])
+      → D 0 (join b Done)
   body_does b h s has =
       let c = block_code defs [] b in
       block_does b [] h s 0 (0 + length c) (has_front codes 0 c (Return None ∷ []) has) refl Done
-      (exits (λ (n : ℕ) (l : n < 0). absurd (omega arith)) (λ (n : ℕ) (l : n < 0). absurd (omega arith))) (ends (has_back codes 0 c (Return None ∷ []) has).0)
+      (exits (λ (n : ℕ) (l : n < 0). absurd (omega arith)) (λ (n : ℕ) (l : n < 0). absurd (omega arith)))
+      (ends (has_back codes 0 c (Return None ∷ []) has).0)

@@ -61,14 +61,22 @@ module _ (limit : ℕ) (program : Program) where
 
   pub in_eval : (rest : Block) → Carries (next program.adts) fill (λ t. Then (Eval t) rest)
   in_eval rest = record {
-    steps = λ w g held n below m got t t' e. ap (λ p. evaluate limit program w (sourced n (beside g held (Then (Eval t) rest)) below) rest p Eval (λ v.
-        source.drops w (sourced n (beside g held (Then (Eval t) rest)) below) held (source.goes w (sourced n (beside g held (Then (Eval t) rest)) below) rest))) e;
-    calls = λ w g held n below a f args t t' e. ap (λ p. evaluate limit program w (sourced n (beside g held (Then (Eval t) rest)) below) rest p Eval (λ v.
-        source.drops w (sourced n (beside g held (Then (Eval t) rest)) below) held (source.goes w (sourced n (beside g held (Then (Eval t) rest)) below) rest))) e;
-    prints = λ w g held n below text t t' e. ap (λ p. evaluate limit program w (sourced n (beside g held (Then (Eval t) rest)) below) rest p Eval (λ v.
-        source.drops w (sourced n (beside g held (Then (Eval t) rest)) below) held (source.goes w (sourced n (beside g held (Then (Eval t) rest)) below) rest))) e;
-    raises = λ w g held n below text t e. ap (λ p. evaluate limit program w (sourced n (beside g held (Then (Eval t) rest)) below) rest p Eval (λ v.
-        source.drops w (sourced n (beside g held (Then (Eval t) rest)) below) held (source.goes w (sourced n (beside g held (Then (Eval t) rest)) below) rest))) e;
+    steps = λ w g held n below m got t t' e. ap (λ p. evaluate limit program w (sourced n (beside g held (Then (Eval t) rest)) below)
+        rest p Eval (λ v.
+        source.drops w (sourced n (beside g held (Then (Eval t) rest)) below) held
+        (source.goes w (sourced n (beside g held (Then (Eval t) rest)) below) rest))) e;
+    calls = λ w g held n below a f args t t' e. ap (λ p. evaluate limit program w (sourced n (beside g held (Then (Eval t) rest)) below)
+        rest p Eval (λ v.
+        source.drops w (sourced n (beside g held (Then (Eval t) rest)) below) held
+        (source.goes w (sourced n (beside g held (Then (Eval t) rest)) below) rest))) e;
+    prints = λ w g held n below text t t' e. ap (λ p. evaluate limit program w (sourced n (beside g held (Then (Eval t) rest)) below)
+        rest p Eval (λ v.
+        source.drops w (sourced n (beside g held (Then (Eval t) rest)) below) held
+        (source.goes w (sourced n (beside g held (Then (Eval t) rest)) below) rest))) e;
+    raises = λ w g held n below text t e. ap (λ p. evaluate limit program w (sourced n (beside g held (Then (Eval t) rest)) below) rest p
+        Eval (λ v.
+        source.drops w (sourced n (beside g held (Then (Eval t) rest)) below) held
+        (source.goes w (sourced n (beside g held (Then (Eval t) rest)) below) rest))) e;
     fills = λ v t. refl;
   }
 
@@ -87,7 +95,8 @@ module _ (limit : ℕ) (program : Program) where
     fills = λ v t. refl;
   }
 
-  abbrev while_does : (l : Loop) (rest : Block) → Shared → Frame → List (Option ℕ) → ℕ → List source.Frame → Term → Progress Value Term → source.Does
+  abbrev while_does : (l : Loop) (rest : Block) → Shared → Frame → List (Option ℕ) → ℕ → List source.Frame → Term → Progress Value Term
+      → source.Does
   while_does l rest w g held n below t p =
       let q = sourced n (beside g held (Then (While t l) rest)) below in
       evaluate limit program w q rest p (λ t. While t l)

@@ -22,7 +22,8 @@ use Rattle.core_code.specs.Naming.{size}
 use Rattle.core_code.specs.Statements.{code_of}
 use Rattle.core_code.proofs.Names.{names_put, long_placed, placed_below, names_placed}
 use Rattle.core_follows.specs.Drops as drops
-use Rattle.core_follows.specs.Drops.{AllSpare, Clean, Between, Beside, Apart, AllTouch, AllMiss, HasAt, Dropping, none, enters, passes, takes, Turns, last, more}
+use Rattle.core_follows.specs.Drops.{AllSpare, Clean, Between, Beside, Apart, AllTouch, AllMiss, HasAt, Dropping, none, enters, passes}
+use Rattle.core_follows.specs.Drops.{takes, Turns, last, more}
 use Rattle.core_follows.specs.Stands.{SlotsName, coded, sourced, beside, sstep, obeys, Stands, Going, going, obeying, goes, rests, place_at}
 use Rattle.core_follows.proofs.Slots.{put_same, put_other, put_long, total, total_same, total_clean, clean_total, slots_split, among_join}
 use Rattle.core_follows.proofs.Drops.{after_drop, dropped_names, touch_back, dropping_kept, dropping_behind}
@@ -118,7 +119,8 @@ module _ (limit : ℕ) (program : Program) (g : Frame) (todo : Block) (ends : en
       ≡ Went w (coded n (at (here pc slots) pc' g.variables slots') below None))
       → Stands limit program (here pc' slots') rest todo → Going limit program (here pc slots) (r ∷ rest) todo
   one_less pc pc' slots slots' r rest i e names does s =
-      obeying i names e (λ w. goes (memory_of w (here pc slots)) pc' slots' rest todo (does w) (λ n below. lets_go pc slots r rest w n below) s)
+      obeying i names e (λ w. goes (memory_of w (here pc slots)) pc' slots' rest todo (does w) (λ n below. lets_go pc slots r rest w n
+      below) s)
 
   -- Behind drops: other slots are as they were, and so is the number in each slot into which nothing was brought back.
   abbrev pub Done : (lo hi pc : ℕ) → List Instr → Slots → List (Option ℕ) → Type 0
@@ -141,17 +143,24 @@ module _ (limit : ℕ) (program : Program) (g : Frame) (todo : Block) (ends : en
       (let y = put_long slots s x in omega arith) has.1
       (λ n. let a = names_put n slots s x in_slots in let b = dropped_names n j (slot slots s) in let c = names n in
       let f = ap (one n) e in omega arith)
-      (λ slots2 long same names2 numbers. pc_is limit program g g.into (pc + suc (length is)) (suc pc + length is) g.variables slots2 later todo (omega arith)
+      (λ slots2 long same names2 numbers. pc_is limit program g g.into (pc + suc (length is)) (suc pc + length is) g.variables slots2
+      later todo (omega arith)
       (k slots2 (long ∙ put_long slots s x)
-      (λ r b. same r b ∙ put_other slots s r x (λ q. absurd (let y = t.0 in elim b [ inl z ↦ omega (arith, z, q, y.0) | inr z ↦ omega (arith, z, q, y.1) ])))
+      (λ r b. same r b ∙ put_other slots s r x (λ q. absurd (let y = t.0 in elim b [
+        | inl z ↦ omega (arith, z, q, y.0)
+        | inr z ↦ omega
+            (arith, z, q, y.1)
+      ])))
       names2 (λ r z. numbers r z.1 ∙ drop_number slots s j r)))))
   drops_go zero lo hi pc slots ds held later l (enters d n e x) t m has names k = absurd (omega arith)
   drops_go (suc fuel) lo hi pc slots ds held later l (enters {is = is} {held = rest} d n e x) t m has names k =
       going (one_less pc (suc pc + 0) slots slots None (rest ++ later) (Mirror d n) has.0 names
-      (λ w q below p. ap (λ (y : Slot). machine.goes_to w (coded q (here pc slots) below p) (suc pc + choice (holds (value_of y)) n 0) slots) e)
+      (λ w q below p. ap (λ (y : Slot). machine.goes_to w (coded q (here pc slots) below p) (suc pc + choice (holds (value_of y)) n 0)
+      slots) e)
       (pc_is limit program g g.into (suc pc) (suc pc + 0) g.variables slots (rest ++ later) todo (omega arith)
       (drops_go fuel lo hi (suc pc) slots is rest later (omega arith) x t.1 m has.1 (λ o. let q = names o in omega arith)
-      (λ slots2 long same names2 numbers. pc_is limit program g g.into (pc + suc (length is)) (suc pc + length is) g.variables slots2 later todo (omega arith)
+      (λ slots2 long same names2 numbers. pc_is limit program g g.into (pc + suc (length is)) (suc pc + length is) g.variables slots2
+      later todo (omega arith)
       (k slots2 long same names2 (λ s z. numbers s z.1))))))
   drops_go zero lo hi pc slots ds held later l (passes d n skipped is e f ln x) t m has names k = absurd (omega arith)
   drops_go (suc fuel) lo hi pc slots ds held later l (passes {rest = body} {held = rest} d n skipped is e f ln x) t m has names k =
@@ -160,14 +169,18 @@ module _ (limit : ℕ) (program : Program) (g : Frame) (todo : Block) (ends : en
       let a : length body ≡ length skipped + length is = ap length f ∙ length-append skipped is in
       let z : suc pc + length skipped ≡ suc pc + n = omega arith in
       going (one_less pc (suc pc + n) slots slots None (rest ++ later) (Mirror d n) has.0 names
-      (λ w q below p. ap (λ (y : Slot). machine.goes_to w (coded q (here pc slots) below p) (suc pc + choice (holds (value_of y)) n 0) slots) e)
+      (λ w q below p. ap (λ (y : Slot). machine.goes_to w (coded q (here pc slots) below p) (suc pc + choice (holds (value_of y)) n 0)
+      slots) e)
       (pc_is limit program g g.into (suc pc + length skipped) (suc pc + n) g.variables slots (rest ++ later) todo z
       (drops_go fuel lo hi (suc pc + length skipped) slots is rest later (omega arith) x u m h (λ o. let q = names o in omega arith)
-      (λ slots2 long same names2 numbers. pc_is limit program g g.into (pc + suc (length body)) (suc pc + length skipped + length is) g.variables slots2 later todo (omega arith)
+      (λ slots2 long same names2 numbers. pc_is limit program g g.into (pc + suc (length body)) (suc pc + length skipped + length is)
+      g.variables slots2 later todo (omega arith)
       (k slots2 long same names2 (λ s z. numbers s (spare_back s skipped is (subst (AllSpare s) f z.1))))))))
-  drops_go zero lo hi pc slots ds held later l (takes c from words n es is NoRegion turned rest e lt wl cl te tj last x f ln h) t m has names k =
+  drops_go zero lo hi pc slots ds held later l (takes c from words n es is NoRegion turned rest e lt wl cl te tj last x f ln h) t m has
+      names k =
       absurd (let z = ap length h in omega arith)
-  drops_go (suc fuel) lo hi pc slots ds held later l (takes {rest = body} c from words n es is NoRegion turned rest e lt wl cl te tj last x f ln h) t m has names k =
+  drops_go (suc fuel) lo hi pc slots ds held later l (takes {rest = body} c from words n es is NoRegion turned rest e lt wl cl te tj last
+      x f ln h) t m has names k =
       let slots1 = put slots c empty in
       let c_in : c < length slots = let b = t.0.0 in omega (arith, b.1, m) in
       let h1 = has_back g.code (suc pc) es (Back (suc (length es)) ∷ is) (subst (HasAt g.code (suc pc)) f has.1) in
@@ -184,15 +197,19 @@ module _ (limit : ℕ) (program : Program) (g : Frame) (todo : Block) (ends : en
       (let y = put_long slots c empty in omega arith) h1.1
       (λ o. let p = names_put o slots c empty c_in in let q = names1 o in let r = ap (λ (y : Slot). slot_names y o) e in omega arith)
       (λ slots2 long same names2 numbers.
-      pc_is limit program g g.into (pc + suc (length body)) (suc (suc pc + length es) + length is) g.variables slots2 later todo (omega arith)
+      pc_is limit program g g.into (pc + suc (length body)) (suc (suc pc + length es) + length is) g.variables slots2 later todo
+      (omega arith)
       (k slots2 (long ∙ put_long slots c empty)
-      (λ s b. same s b ∙ put_other slots c s empty (λ q. absurd (let y = t.0.0 in elim b [ inl r ↦ omega (arith, r, q, y.0) | inr r ↦ omega (arith, r, q, y.1) ])))
+      (λ s b. same s b ∙ put_other slots c s empty (λ q. absurd
+      (let y = t.0.0 in elim b [ inl r ↦ omega (arith, r, q, y.0) | inr r ↦ omega (arith, r, q, y.1) ])))
       names2
       (λ s z. numbers s (spare_back s es (Back (suc (length es)) ∷ is) (subst (AllSpare s) f z.1)).1
       ∙ ap (λ (y : Slot). number_of (value_of y)) (put_other slots c s empty z.0.0))))))))
-  drops_go zero lo hi pc slots ds held later l (takes c from words n es is (MoreRegions y rs) turned rest e lt wl cl te tj (more hg turned' sz fs nm ts) x f ln h) t m has names k =
+  drops_go zero lo hi pc slots ds held later l (takes c from words n es is (MoreRegions y rs) turned rest e lt wl cl te tj
+      (more hg turned' sz fs nm ts) x f ln h) t m has names k =
       absurd (let z = ap length h in omega arith)
-  drops_go (suc fuel) lo hi pc slots ds held later l (takes {rest = body} c from words n es is (MoreRegions y rs) turned rest e lt wl cl te tj (more hg turned' sz fs nm ts) x f ln h) t m has names k =
+  drops_go (suc fuel) lo hi pc slots ds held later l (takes {rest = body} c from words n es is (MoreRegions y rs) turned rest e lt wl cl
+      te tj (more hg turned' sz fs nm ts) x f ln h) t m has names k =
       let back = placed slots from y in
       let slots1 = put back c (Chain rs) in
       let c_in : c < length slots = let b = t.0.0 in omega (arith, b.1, m) in
@@ -228,7 +245,8 @@ module _ (limit : ℕ) (program : Program) (g : Frame) (todo : Block) (ends : en
       (going (one_less pc (suc pc) slots slots1 None (hg ++ more_held) (Take c from words n) has.0 names0
       (λ w q below p. ap (λ (z : Slot). machine.takes limit (code_of program) w (coded q (here pc slots) below p) c from n (chain_of z)) e)
       (drops_go fuel from (from + words) (suc pc) slots1 es hg more_held
-      (let z = ap length h in let v = length-append (hg ++ turned') rest in let u = length-append hg turned' in omega arith) inner te (omega arith)
+      (let z = ap length h in let v = length-append (hg ++ turned') rest in let u = length-append hg turned' in omega arith) inner te
+      (omega arith)
       (has_front g.code (suc pc) es (Back (suc (length es)) ∷ is) has_es) names1
       (λ slots2 long same names2 numbers.
       let pcb : ℕ = suc pc + length es in
@@ -250,10 +268,12 @@ module _ (limit : ℕ) (program : Program) (g : Frame) (todo : Block) (ends : en
       let a3 = among_join o hg more_held in
       let a4 = region1 o in omega arith) in
       going (obeying (Back (suc (length es))) names2 h1.0 (λ w. rests (pcb - suc (length es)) slots2 (λ q below p. refl)
-      (subst (λ (q : ℕ). 1 < place_at (slice_get g.code q)) (sym to_take) (subst (λ (o : Option Instr). 1 < place_at o) (sym has.0) (omega arith)))
+      (subst (λ (q : ℕ). 1 < place_at (slice_get g.code q)) (sym to_take) (subst (λ (o : Option Instr). 1 < place_at o) (sym has.0)
+      (omega arith)))
       (pc_is limit program g g.into pc (pcb - suc (length es)) g.variables slots2 more_held todo (sym to_take)
       (drops_go fuel lo hi pc slots2 (Take c from words n ∷ body) (turned' ++ rest) later
-      (let z = ap length h in let v = length-append (hg ++ turned') rest in let u = length-append hg turned' in let z' = length-append turned' rest in omega arith)
+      (let z = ap length h in let v = length-append (hg ++ turned') rest in let u = length-append hg turned' in let z' = length-append
+      turned' rest in omega arith)
       (takes c from words n es is rs turned' rest
       (same c (inl lt) ∙ put_same back c (Chain rs) (omega arith)) lt wl clean2 te tj ts
       (dropping_kept (Apart c from words) slots slots2 is rest tj same2 x) f ln refl)

@@ -3,13 +3,15 @@ use Rattle.std.proofs.Common.{◌≡◌, ℕ, zero, suc, ◌+◌, ◌-◌, ◌<�
 use Rattle.std.proofs.Common.{None, refl, sym, ap, subst, ◌∙◌, arith, get_or-set_other, inl, inr, ⊎_elim, ◌⊎◌, append_assoc}
 use Rattle.std.proofs.lemmas.Bool.{cases_eq, ltb-true, ltb-false}
 use Rattle.std.specs.Prelude.{pos, nat_lt, slice_set, slice_index_or, if◌then◌else◌}
-use Rattle.limbo_meaning.specs.Values.{Value, Num, Chars, Ref, Array, Parts, Values, NoValues, MoreValues, references, all_references, one, among}
+use Rattle.limbo_meaning.specs.Values.{Value, Num, Chars, Ref, Array, Parts, Values, NoValues, MoreValues, references, all_references}
+use Rattle.limbo_meaning.specs.Values.{one, among}
 use Rattle.core_code.specs.Slots.{Slot, Holds, Chain, Slots, slot, put, without, all_without}
 use Rattle.core_code.specs.Slots.{dropped, slot_names}
 use Rattle.core_code.specs.Code.{Instr, Drop, Mirror, Take, Back}
 use Rattle.core_code.specs.Naming.{reference}
 use Rattle.core_follows.specs.Drops as drops
-use Rattle.core_follows.specs.Drops.{Clean, Between, Apart, Touches, AllTouch, Misses, AllMiss, HasAt, Dropping, none, enters, passes, takes}
+use Rattle.core_follows.specs.Drops.{Clean, Between, Apart, Touches, AllTouch, Misses, AllMiss, HasAt, Dropping, none, enters, passes}
+use Rattle.core_follows.specs.Drops.{takes}
 use Rattle.core_follows.specs.Drops.{Turns, last, more}
 use Rattle.core_follows.proofs.Slots.{put_other}
 
@@ -138,7 +140,8 @@ dropping_more slots lo mid hi is js held later t u (enters {is = xs} {held = res
     enters d n e (dropping_more slots lo mid hi xs js rest later t.1 u x y)
 dropping_more slots lo mid hi is js held later t u (passes {held = rest} d n skipped xs e f l x) y =
     passes d n skipped (xs ++ js) e (ap (λ (zs : List Instr). zs ++ js) f ∙ append_assoc skipped xs js) l
-    (dropping_more slots lo mid hi xs js rest later (touch_back (Between lo mid) skipped xs (subst (AllTouch (Between lo mid)) f t.1)) u x y)
+    (dropping_more slots lo mid hi xs js rest later (touch_back (Between lo mid) skipped xs (subst (AllTouch (Between lo mid)) f t.1)) u
+    x y)
 dropping_more slots lo mid hi is js held later t u (takes c from words n es xs rs turned rest e l wl cl te tx ts x f ln h) y =
     takes c from words n es (xs ++ js) rs turned (rest ++ later) e l wl cl te
     (touch_more (Apart c from words) xs js tx (touch_others (Between mid hi) (Apart c from words) js

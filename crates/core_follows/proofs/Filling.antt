@@ -34,9 +34,11 @@ use Rattle.core_code.specs.Statements.{code_of}
 use Rattle.limbo_layout.specs.Adts.{Def}
 use Rattle.core_code.proofs.Names.{long_placed, names_put, long_cleared, cleared_below, names_cleared, names_chained}
 use Rattle.core_follows.specs.Drops as drops
-use Rattle.core_follows.specs.Drops.{Clean, Name, Between, Beside, Apart, AllTouch, HasAt, Dropping, none, takes, Turns, last, more, Holding}
+use Rattle.core_follows.specs.Drops.{Clean, Name, Between, Beside, Apart, AllTouch, HasAt, Dropping, none, takes, Turns, last, more}
+use Rattle.core_follows.specs.Drops.{Holding}
 use Rattle.core_follows.specs.Stands as stands
-use Rattle.core_follows.specs.Stands.{SlotsName, coded, sourced, beside, obeys, Stands, Going, going, obeying, goes, rests, raises, place_at}
+use Rattle.core_follows.specs.Stands.{SlotsName, coded, sourced, beside, obeys, Stands, Going, going, obeying, goes, rests, raises}
+use Rattle.core_follows.specs.Stands.{place_at}
 use Rattle.core_follows.proofs.Slots.{put_same, put_other, put_long, total, total_same, total_split, total_clean, clean_same}
 use Rattle.core_follows.proofs.Slots.{slots_total, name_at, clean_within, name_none, name_more, name_same, name_clean, among_join}
 use Rattle.core_follows.proofs.Drops.{touch_more, touch_others, dropping_kept, dropping_more}
@@ -77,7 +79,8 @@ grown_none slots shared from lo c = record {
   names = name_none slots lo;
 }
 
-pub grown_more : (one two three : Slots) (shared from lo mid hi : ℕ) (ds es : List Instr) (held got : List (Option ℕ)) → from ≤ lo → lo ≤ mid
+pub grown_more : (one two three : Slots) (shared from lo mid hi : ℕ) (ds es : List Instr) (held got : List (Option ℕ)) → from ≤ lo
+    → lo ≤ mid
     → mid ≤ hi → Grown one two shared from lo mid ds held → Grown two three shared from mid hi es got
     → Grown one three shared from lo hi (ds ++ es) (held ++ got)
 grown_more one two three shared from lo mid hi ds es held got f l m h k = record {
@@ -125,7 +128,8 @@ grown_shared one two shared from hi lo l m f c h = record {
   names = name_none two lo;
 }
 
-total_upto : (n : ℕ) (slots : Slots) (a b c : ℕ) → a ≤ b → b ≤ c → total slots a (c - a) n ≡ total slots a (b - a) n + total slots b (c - b) n
+total_upto : (n : ℕ) (slots : Slots) (a b c : ℕ) → a ≤ b → b ≤ c → total slots a (c - a) n ≡ total slots a (b - a) n + total slots b
+    (c - b) n
 total_upto n slots a b c l m =
     let e : c - a ≡ (b - a) + (c - b) = omega arith in
     let f : a + (b - a) ≡ b = omega arith in
@@ -149,7 +153,8 @@ all_parts n slots shared from lo mid end l1 l2 l3 l4 =
     let a4 = total_upto n slots lo mid end l3 l4 in
     omega arith
 
-grown_names : (one two : Slots) (shared from lo mid : ℕ) (ds : List Instr) (held got : List (Option ℕ)) → shared ≤ from → from ≤ lo → lo ≤ mid
+grown_names : (one two : Slots) (shared from lo mid : ℕ) (ds : List Instr) (held got : List (Option ℕ)) → shared ≤ from → from ≤ lo
+    → lo ≤ mid
     → mid ≤ length one → Clean one shared from → Clean one lo mid → SlotsName one held → Grown one two shared from lo mid ds got
     → SlotsName two (held ++ got)
 grown_names one two shared from lo mid ds held got l1 l2 l3 l4 c1 c2 names g n =
@@ -182,7 +187,8 @@ space_behind one two shared from lo mid hi ds held got held' l m s g e = record 
   shares = g.shares;
   clean = clean_same one two mid hi (λ r p q. g.same r (inr (let x = s.mid in omega arith)) (inr p))
       (clean_within one lo hi mid hi l (omega arith) s.clean);
-  names = subst (SlotsName two) (sym e) (grown_names one two shared from lo mid ds held got s.low s.mid l (let x = s.fits in omega arith) s.shares
+  names = subst (SlotsName two) (sym e) (grown_names one two shared from lo mid ds held got s.low s.mid l (let x = s.fits in omega arith)
+      s.shares
       (clean_within one lo hi lo mid (omega arith) m s.clean) s.names g);
 }
 
@@ -230,7 +236,8 @@ module _ (defs : List Def) where
       let f : i + suc l - suc i ≡ l = omega arith in
       let g : suc i ≡ i + 1 = omega arith in
       subst (λ (m : ℕ). NextIs is i (suc l) (Some i) (i ∷ left_of is (range_with_len m l))) g
-      (subst (λ (m : ℕ). NextIs is i (suc l) (Some i) (i ∷ left_of is (range_with_len (suc i) m))) f (one_more i (omega arith) (omega arith)))
+      (subst (λ (m : ℕ). NextIs is i (suc l) (Some i) (i ∷ left_of is (range_with_len (suc i) m))) f
+      (one_more i (omega arith) (omega arith)))
 
   pub next_is : (is : Items) (l i : ℕ) → NextIs is i l (first_left (named defs is) (range_with_len i l)) (left_of is (range_with_len i l))
   next_is is zero i = no_more
@@ -242,14 +249,17 @@ region_size : (slots : Slots) (a k : ℕ) → size (region slots a k) ≡ k
 region_size slots a zero = refl
 region_size slots a (suc k) = ap suc (region_size slots (suc a) k)
 
-placed_region : (base slots : Slots) (a k s : ℕ) → a + k ≤ length base → a ≤ s → s < a + k → slot (placed base a (region slots a k)) s ≡ slot slots s
+placed_region : (base slots : Slots) (a k s : ℕ) → a + k ≤ length base → a ≤ s → s < a + k → slot (placed base a (region slots a k)) s ≡
+    slot slots s
 placed_region base slots a zero s m l lt = absurd (omega arith)
 placed_region base slots a (suc k) s m l lt =
     let back = placed base (suc a) (region slots (suc a) k) in
     let long = long_placed base (suc a) (region slots (suc a) k) in
     ⊎_elim
-    (λ (e : s ≡ a). subst (λ (s : ℕ). slot (put back a (slot slots a)) s ≡ slot slots s) (sym e) (put_same back a (slot slots a) (omega arith)))
-    (λ (e : s ≡ a → ⊥). put_other back a s (slot slots a) e ∙ placed_region base slots (suc a) k s (omega arith) (omega (arith, e)) (omega arith))
+    (λ (e : s ≡ a). subst (λ (s : ℕ). slot (put back a (slot slots a)) s ≡ slot slots s) (sym e)
+    (put_same back a (slot slots a) (omega arith)))
+    (λ (e : s ≡ a → ⊥). put_other back a s (slot slots a) e ∙ placed_region base slots (suc a) k s (omega arith) (omega (arith, e))
+    (omega arith))
     (cases_eq s a)
 
 cleared_above : (slots : Slots) (a k s : ℕ) → a + k ≤ s → slot (cleared slots a k) s ≡ slot slots s
@@ -274,7 +284,8 @@ turns_add : (from words : ℕ) (es : List Instr) (rs : Regions) (turned now : Li
     → ((n : ℕ) → region_names g n ≡ among n now) → Turns from words es (chained rs g) (turned ++ (now ++ None ∷ []))
 turns_add from words es rs turned now g last e f h = more now (None ∷ []) e f h last
 turns_add from words es rs turned now g (more {g = g'} {rs = rs'} held later e' f' h' ts) e f h =
-    subst (λ (x : List (Option ℕ)). Turns from words es (MoreRegions g' (chained rs' g)) (None ∷ x)) (sym (append_assoc held later (now ++ None ∷ [])))
+    subst (λ (x : List (Option ℕ)). Turns from words es (MoreRegions g' (chained rs' g)) (None ∷ x))
+    (sym (append_assoc held later (now ++ None ∷ [])))
     (more held (later ++ (now ++ None ∷ [])) e' f' h' (turns_add from words es rs' later now g ts e f h))
 
 turns_names : (n from words : ℕ) (es : List Instr) (rs : Regions) (turned : List (Option ℕ)) → Turns from words es rs turned
@@ -305,26 +316,30 @@ module _ (limit : ℕ) (program : Program) where
   array_made m t z is rest X f g = by (length_for program.adts t z)
     where
       by : (r : Raising ℕ) →
-          X (unless_raised (r >>= λ l. Ok (new_elements m (replicate l (zero_of program.adts t)))) (leaves program.adts m (ty.ArrayOf t) operation.NewArray))
+          X (unless_raised (r >>= λ l. Ok (new_elements m (replicate l (zero_of program.adts t))))
+          (leaves program.adts m (ty.ArrayOf t) operation.NewArray))
           (unless_raised (r >>= λ l. Ok (new_elements m (replicate l (zero_of program.adts t))))
           (λ r. Stepped r.memory (references r.value) (fill_made t (part_of r.value) is rest)))
       by (Ok l) = f _ _
       by (Err text) = g text
 
-  pub array_goes : (C : Term → Block) → Carries limit program (next program.adts) fill C → (g : Frame) (held : List (Option ℕ)) (t : Ty) (v : Value)
+  pub array_goes : (C : Term → Block) → Carries limit program (next program.adts) fill C → (g : Frame) (held : List (Option ℕ)) (t : Ty)
+      (v : Value)
       (is : Items) (rest : Terms) (into from : ℕ)
       → slice_get g.code g.pc ≡ Some (Give (ty.ArrayOf t) (Operate operation.NewArray) into (from ∷ [])) → Room g.slots into (suc into) held
       → slot g.slots from ≡ Holds v
       → ((variables : List Value) (p : Part) → let x = Array (Some p) in
       Holding g.slots (put g.slots into (Holds x)) into (suc into) (Drop into 0 ∷ []) (Some p.array ∷ [])
-      → Stands limit program (spot g g.into (suc g.pc) variables (put g.slots into (Holds x))) (held ++ (Some p.array ∷ [])) (C (fill_made t (Some p) is rest)))
+      → Stands limit program (spot g g.into (suc g.pc) variables (put g.slots into (Holds x))) (held ++ (Some p.array ∷ []))
+      (C (fill_made t (Some p) is rest)))
       → Going limit program g held (C (Fill t (Evaluated v) is rest))
   array_goes C c g held t v is rest into from i room e k =
       obeying (Give (ty.ArrayOf t) (Operate operation.NewArray) into (from ∷ [])) room.names i
       (λ w. array_made (memory_of w g) t (number_of v) is rest
       (λ pm ps. performed program.adts (memory_of w g) (ty.ArrayOf t) (Operate operation.NewArray) (v ∷ []) ≡ pm
       → next program.adts (memory_of w g) (Fill t (Evaluated v) is rest) ≡ ps
-      → stands.Next limit program w g held (C (Fill t (Evaluated v) is rest)) (Give (ty.ArrayOf t) (Operate operation.NewArray) into (from ∷ [])))
+      → stands.Next limit program w g held (C (Fill t (Evaluated v) is rest)) (Give (ty.ArrayOf t) (Operate operation.NewArray) into
+      (from ∷ [])))
       (λ m p em es.
       let x = Array (Some p) in
       goes m (suc g.pc) (put g.slots into (Holds x)) (held ++ (Some p.array ∷ [])) (C (fill_made t (Some p) is rest))
@@ -332,7 +347,8 @@ module _ (limit : ℕ) (program : Program) where
       (performed program.adts (memory_of w g) (ty.ArrayOf t) (Operate operation.NewArray) (value_of y ∷ []))) e
       ∙ ap (λ (y : Progress Value Term). machine.gives limit (code_of program) w (coded n g below q) into g.slots y) em)
       (λ n below. c.steps w g held n below m (Some p.array ∷ []) (Fill t (Evaluated v) is rest) (fill_made t (Some p) is rest) es)
-      (k m.variables p (holding_put g.slots into x (Drop into 0 ∷ []) (Some p.array ∷ []) (let a = room.fits in omega arith) (owns_row into x 1 refl))))
+      (k m.variables p (holding_put g.slots into x (Drop into 0 ∷ []) (Some p.array ∷ []) (let a = room.fits in omega arith)
+      (owns_row into x 1 refl))))
       (λ text em es. raises text
       (λ n below q. ap (λ (y : Slot). machine.gives limit (code_of program) w (coded n g below q) into g.slots
       (performed program.adts (memory_of w g) (ty.ArrayOf t) (Operate operation.NewArray) (value_of y ∷ []))) e
@@ -342,7 +358,8 @@ module _ (limit : ℕ) (program : Program) where
 
   -- ---- an element is stored
 
-  pub element_goes : (C : Term → Block) → Carries limit program (next program.adts) fill C → (g : Frame) (held : List (Option ℕ)) (t : Ty) (p : Part)
+  pub element_goes : (C : Term → Block) → Carries limit program (next program.adts) fill C → (g : Frame) (held : List (Option ℕ))
+      (t : Ty) (p : Part)
       (z : ℤ) (v : Value) (u u' : Term) (a from : ℕ) → slice_get g.code g.pc ≡ Some (Element t a z from) → SlotsName g.slots held
       → slot g.slots a ≡ Holds (Array (Some p)) → slot g.slots from ≡ Holds v
       → ((m : Memory) → next program.adts m u ≡ evaluation.stores program.adts m (element_at t p z) v u')
@@ -356,17 +373,21 @@ module _ (limit : ℕ) (program : Program) where
       ∙ ap (λ (y : Slot). machine.stores limit (code_of program) w (coded n g below q) (element_at t p z) (value_of y)) f)
       (λ w. steps (memory_of w g)) k
 
-  other_goes : (C : Term → Block) → Carries limit program (next program.adts) fill C → (g : Frame) (held : List (Option ℕ)) (t : Ty) (p : Part)
-      (k : ℕ) (v : Value) (u u' : Term) (a counter from : ℕ) → slice_get g.code g.pc ≡ Some (Other t a counter from) → SlotsName g.slots held
+  other_goes : (C : Term → Block) → Carries limit program (next program.adts) fill C → (g : Frame) (held : List (Option ℕ)) (t : Ty)
+      (p : Part)
+      (k : ℕ) (v : Value) (u u' : Term) (a counter from : ℕ) → slice_get g.code g.pc ≡ Some (Other t a counter from) → SlotsName g.slots
+      held
       → slot g.slots a ≡ Holds (Array (Some p)) → slot g.slots counter ≡ Holds (Num (pos k)) → slot g.slots from ≡ Holds v
       → ((m : Memory) → next program.adts m u ≡ evaluation.stores program.adts m (element_at t p (pos k)) v u')
       → ((variables : List Value) → Stands limit program (spot g g.into (suc g.pc) variables g.slots) held (C u'))
       → Going limit program g held (C u)
   other_goes C c g held t p k v u u' a counter from i names e h f steps done =
-      store_goes limit program C c g held u u' (Other t a counter from) i names (λ w. written program.adts (memory_of w g) (element_at t p (pos k)) v)
+      store_goes limit program C c g held u u' (Other t a counter from) i names (λ w. written program.adts (memory_of w g)
+      (element_at t p (pos k)) v)
       (λ w n below q.
       ap (λ (y : Slot). machine.part_or_none limit (code_of program) w (coded n g below q) (part_of (value_of y))
-      (λ part. machine.stores limit (code_of program) w (coded n g below q) (element_at t part (number_of (value_of (slot g.slots counter))))
+      (λ part. machine.stores limit (code_of program) w (coded n g below q)
+      (element_at t part (number_of (value_of (slot g.slots counter))))
       (value_of (slot g.slots from)))) e
       ∙ ap (λ (y : Slot). machine.stores limit (code_of program) w (coded n g below q) (element_at t p (number_of (value_of y)))
       (value_of (slot g.slots from))) h
@@ -376,7 +397,8 @@ module _ (limit : ℕ) (program : Program) where
   -- ---- the next index, or no more
 
   next_does : (g : Frame) (p : Part) (a counter n : ℕ) (is : Items) (o : Option ℕ) → slot g.slots a ≡ Holds (Array (Some p))
-      → first_left (named program.adts is) (range_with_len (counted (value_of (slot g.slots counter))) (p.long - counted (value_of (slot g.slots counter)))) ≡ o
+      → first_left (named program.adts is) (range_with_len (counted (value_of (slot g.slots counter)))
+      (p.long - counted (value_of (slot g.slots counter)))) ≡ o
       → (w : Shared) (q : ℕ) (below : List Frame) (r : Option Writing)
       → obeys limit program w (coded q g below r) (Next a counter (named program.adts is) n)
       ≡ machine.nexts limit (code_of program) w (coded q g below r) counter n o
@@ -387,7 +409,8 @@ module _ (limit : ℕ) (program : Program) where
       ∙ ap (λ (y : Option ℕ). machine.nexts limit (code_of program) w (coded q g below r) counter n y) f
 
   -- The way back, which no step of the program stands for.
-  back_rests : (g : Frame) (held : List (Option ℕ)) (todo : Block) (n pc : ℕ) (i : Instr) → slice_get g.code g.pc ≡ Some (Back n) → pc + n ≡ g.pc
+  back_rests : (g : Frame) (held : List (Option ℕ)) (todo : Block) (n pc : ℕ) (i : Instr) → slice_get g.code g.pc ≡ Some (Back n)
+      → pc + n ≡ g.pc
       → slice_get g.code pc ≡ Some i → 1 < place_at (Some i) → SlotsName g.slots held
       → Stands limit program (spot g g.into pc g.variables g.slots) held todo → Going limit program g held todo
   back_rests g held todo n pc i at e there rank names s =
@@ -402,10 +425,12 @@ module _ (limit : ℕ) (program : Program) where
   turn_own t a lo x = x.code ++ (Other t a lo x.value ∷ Keep (suc lo) (suc (suc lo)) (x.free - suc (suc lo)) ∷ [])
 
   abbrev pub loop_own : (t : Ty) (a lo : ℕ) → List ℤ → Lowered → List Instr
-  loop_own t a lo zs x = (Next a lo zs (suc (length (turn_own t a lo x))) ∷ turn_own t a lo x) ++ (Back (suc (length (turn_own t a lo x))) ∷ [])
+  loop_own t a lo zs x = (Next a lo zs (suc (length (turn_own t a lo x))) ∷ turn_own t a lo x) ++
+      (Back (suc (length (turn_own t a lo x))) ∷ [])
 
   abbrev pub drops_own : (lo : ℕ) → Lowered → List Instr
-  drops_own lo x = (Take (suc lo) (suc (suc lo)) (x.free - suc (suc lo)) (suc (length x.drops)) ∷ x.drops) ++ (Back (suc (length x.drops)) ∷ [])
+  drops_own lo x = (Take (suc lo) (suc (suc lo)) (x.free - suc (suc lo)) (suc (length x.drops)) ∷ x.drops) ++
+      (Back (suc (length x.drops)) ∷ [])
 
   -- What is fixed in all turns: the array, the element, its code and where it goes.
   pub record Own (C : Term → Block) (g : Frame) (t : Ty) (e : Term) (x : Lowered) (a lo pc : ℕ) (is : Items) : Type 0 where
@@ -445,23 +470,28 @@ module _ (limit : ℕ) (program : Program) where
       let v0 = v.0 in
       let v1 = v.1 in
       let fin : from + words ≡ x.free = omega arith in
-      let other : (s : ℕ) → suc lo ≤ s → slot one s ≡ slot slots s = λ s l. put_other slots lo s empty (λ e. absurd (omega (arith, e, l))) in
+      let other : (s : ℕ) → suc lo ≤ s → slot one s ≡ slot slots s = λ s l. put_other slots lo s empty
+      (λ e. absurd (omega (arith, e, l))) in
       let clean_one : Clean one from x.free = clean_same slots one from x.free (λ s p q. other s (omega arith)) b.clean in
       record {
         long = put_long slots lo empty ∙ b.long;
-        same = λ s d. put_other slots lo s empty (λ e. absurd (elim d [ inl y ↦ omega (arith, y, e) | inr y ↦ (let u = v0 in let z = v1 in omega (arith, y, e, u, z)) ]))
+        same = λ s d. put_other slots lo s empty (λ e. absurd
+            (elim d [ inl y ↦ omega (arith, y, e) | inr y ↦ (let u = v0 in let z = v1 in omega (arith, y, e, u, z)) ]))
             ∙ b.same s d;
-        dropping = takes (suc lo) from words (suc (length x.drops)) x.drops [] rs T [] (other (suc lo) (omega arith) ∙ b.chain) (omega arith) (omega arith)
+        dropping = takes (suc lo) from words (suc (length x.drops)) x.drops [] rs T [] (other (suc lo) (omega arith) ∙ b.chain)
+            (omega arith) (omega arith)
             (subst (Clean one from) (sym fin) clean_one) (touch_others (Between from x.free) (Between from (from + words)) x.drops
             (λ s d. (d.0, let y = d.1 in omega (arith, y, fin))) te) tt b.turns none refl refl (sym (append-nil T));
-        within = touch_more (Between lo x.free) (Take (suc lo) from words (suc (length x.drops)) ∷ x.drops) (Back (suc (length x.drops)) ∷ []) (
-          ((omega arith, omega arith), omega arith, λ s p q. (omega arith, omega arith)),
-          touch_others (Between from x.free) (Between lo x.free) x.drops (λ s d. (let y = d.0 in omega (arith, y), d.1)) te,
-        ) (tt, tt);
+        within = touch_more (Between lo x.free) (Take (suc lo) from words (suc (length x.drops)) ∷ x.drops)
+            (Back (suc (length x.drops)) ∷ []) (
+              ((omega arith, omega arith), omega arith, λ s p q. (omega arith, omega arith)),
+              touch_others (Between from x.free) (Between lo x.free) x.drops (λ s d. (let y = d.0 in omega (arith, y), d.1)) te,
+            ) (tt, tt);
         names = λ n.
             let e1 = total_upto n one lo (suc lo) x.free (omega arith) (omega arith) in
             let e2 = total_upto n one (suc lo) from x.free (omega arith) (omega arith) in
-            let z0 = name_at one lo [] (λ m. ap (λ (s : Slot). slot_names s m) (put_same slots lo empty (let f = b.fits in omega arith))) n in
+            let z0 = name_at one lo [] (λ m. ap (λ (s : Slot). slot_names s m) (put_same slots lo empty (let f = b.fits in omega arith)))
+            n in
             let z1 = name_at one (suc lo) T (λ m. ap (λ (s : Slot). slot_names s m) (other (suc lo) (omega arith) ∙ b.chain)
             ∙ turns_names m from words x.drops rs T b.turns) n in
             let z2 = total_zero n one from x.free (omega arith) clean_one in
@@ -482,7 +512,8 @@ module _ (limit : ℕ) (program : Program) where
 
   -- what is left behind this index, in an array of this length
   left_behind : (is : Items) (i long k : ℕ) (ns : List ℕ) → k ∷ ns ≡ left_of is (range_with_len i (long - i))
-      → (first_left (named program.adts is) (range_with_len i (long - i)) ≡ Some k) × (ns ≡ left_of is (range_with_len (suc k) (long - suc k)))
+      → (first_left (named program.adts is) (range_with_len i (long - i)) ≡ Some k) ×
+      (ns ≡ left_of is (range_with_len (suc k) (long - suc k)))
   left_behind is i long k ns e =
       let x = some_by is i (long - i) k ns _ _ (next_is program.adts is (long - i) i) e in
       let y = x.2 in
@@ -518,9 +549,11 @@ module _ (limit : ℕ) (program : Program) where
       let long3 : length wiped ≡ length slots2 = long_cleared slots2 from words in
       let in_slots : from + words ≤ length slots2 = omega arith in
       let low : (s : ℕ) → s < suc lo → slot three s ≡ slot one s = λ s l.
-      put_other wiped (suc lo) s chain (λ e. absurd (omega (arith, e, l))) ∙ cleared_below slots2 from words s (omega arith) ∙ h.same s (inl (omega arith)) in
+      put_other wiped (suc lo) s chain (λ e. absurd (omega (arith, e, l))) ∙ cleared_below slots2 from words s (omega arith)
+      ∙ h.same s (inl (omega arith)) in
       let counter3 : slot three lo ≡ z = low lo (omega arith) ∙ put_same slots lo z (omega arith) in
-      let chain2 : slot slots2 (suc lo) ≡ Chain rs = h.same (suc lo) (inl (omega arith)) ∙ put_other slots lo (suc lo) z (λ e. absurd (omega (arith, e))) ∙ b.chain in
+      let chain2 : slot slots2 (suc lo) ≡ Chain rs = h.same (suc lo) (inl (omega arith)) ∙ put_other slots lo (suc lo) z
+      (λ e. absurd (omega (arith, e))) ∙ b.chain in
       let left2 = (left_behind is (counted (value_of (slot slots lo))) p.long k ns b.left).1 in
       record {
         long = put_long wiped (suc lo) chain ∙ long3 ∙ long2 ∙ b.long;
@@ -538,7 +571,8 @@ module _ (limit : ℕ) (program : Program) where
             (λ s d. placed_region base slots2 from words s l d.0 (let y = d.1 in omega (arith, y, fin))) h.dropping)
             h.names);
         counter = λ n. ap (λ (s : Slot). slot_names s n) counter3;
-        left = subst (λ (s : Slot). ns ≡ left_of is (range_with_len (counted (value_of s)) (p.long - counted (value_of s)))) (sym counter3) left2;
+        left = subst (λ (s : Slot). ns ≡ left_of is (range_with_len (counted (value_of s)) (p.long - counted (value_of s))))
+            (sym counter3) left2;
         clean = clean_same wiped three from x.free (λ s q r. put_other wiped (suc lo) s chain (λ e. absurd (omega (arith, e, q))))
             (subst (Clean wiped from) fin (cleared_clean slots2 from words in_slots));
         names = λ n.
@@ -552,12 +586,15 @@ module _ (limit : ℕ) (program : Program) where
             ∙ ap (λ (y : List (Option ℕ)). y ++ got) (append_assoc start so_far (None ∷ [])) ∙ append_assoc start T got;
       }
 
-  pub turns_own : (C : Term → Block) (g : Frame) (t : Ty) (e : Term) (x : Lowered) (a lo pc : ℕ) (is : Items) (p : Part) → Own C g t e x a lo pc is
+  pub turns_own : (C : Term → Block) (g : Frame) (t : Ty) (e : Term) (x : Lowered) (a lo pc : ℕ) (is : Items) (p : Part)
+      → Own C g t e x a lo pc is
       → (ns : List ℕ) (before slots : Slots) (rs : Regions) (held start so_far : List (Option ℕ)) (j : ℕ) (variables : List Value)
       → Between_turns before slots t p x a lo is ns rs held start so_far
-      → ((j : ℕ) (variables : List Value) (slots : Slots) (got held' : List (Option ℕ)) → Holding before slots lo x.free (drops_own lo x) got
+      → ((j : ℕ) (variables : List Value) (slots : Slots) (got held' : List (Option ℕ)) → Holding before slots lo x.free (drops_own lo x)
+      got
       → held' ≡ start ++ got
-      → Stands limit program (spot g j (pc + length (loop_own t a lo (named program.adts is) x)) variables slots) held' (C (Evaluated (Array (Some p)))))
+      → Stands limit program (spot g j (pc + length (loop_own t a lo (named program.adts is) x)) variables slots) held'
+      (C (Evaluated (Array (Some p)))))
       → Going limit program (spot g j pc variables slots) held (C (Turning t p ns e))
   turns_own C g t e x a lo pc is p own [] before slots rs held start so_far j variables b k =
       let gN = spot g j pc variables slots in
@@ -566,10 +603,12 @@ module _ (limit : ℕ) (program : Program) where
       let i : ℕ = counted (value_of (slot slots lo)) in
       let o = none_by is i (p.long - i) _ _ (next_is program.adts is (p.long - i) i) b.left in
       let m = length-append turn (Back n ∷ []) in
-      gives_always limit program C own.carries gN held (None ∷ []) (Turning t p [] e) (Evaluated (Array (Some p))) (Next a lo (named program.adts is) n)
+      gives_always limit program C own.carries gN held (None ∷ []) (Turning t p [] e) (Evaluated (Array (Some p)))
+      (Next a lo (named program.adts is) n)
       (suc pc + n) (put slots lo empty) own.has.0 b.names (λ w q below r. next_does gN p a lo n is None b.array o w q below r)
       (λ w. ap (λ (h : Bool). Stepped (memory_of w gN) (note h) (Evaluated (Array (Some p)))) own.holds)
-      (pc_is limit program g j (pc + length (loop_own t a lo (named program.adts is) x)) (suc pc + n) variables (put slots lo empty) (held ++ (None ∷ []))
+      (pc_is limit program g j (pc + length (loop_own t a lo (named program.adts is) x)) (suc pc + n) variables (put slots lo empty)
+      (held ++ (None ∷ []))
       (C (Evaluated (Array (Some p)))) (omega arith)
       (k j variables (put slots lo empty) (so_far ++ None ∷ []) (held ++ (None ∷ []))
       (own_holding before slots t p x a lo is [] rs held start so_far own.value own.touches b)
@@ -600,10 +639,12 @@ module _ (limit : ℕ) (program : Program) where
         order = omega arith;
         fits = omega arith;
         clean = clean_same slots one from x.free (λ s q r. put_other slots lo s z (λ f. absurd (omega (arith, f, q)))) b.clean;
-        names = λ q. let y1 = names_put q slots lo z (omega arith) in let y2 = b.counter q in let y3 = b.names q in let y4 = among_join q held (None ∷ []) in
+        names = λ q. let y1 = names_put q slots lo z (omega arith) in let y2 = b.counter q in let y3 = b.names q in let y4 = among_join q
+            held (None ∷ []) in
             omega arith;
       } in
-      gives_always limit program C c gN held (None ∷ []) (Turning t p (i ∷ ns) e) (Repeating t p i ns e e) (Next a lo (named program.adts is) n)
+      gives_always limit program C c gN held (None ∷ []) (Turning t p (i ∷ ns) e) (Repeating t p i ns e e)
+      (Next a lo (named program.adts is) n)
       (suc pc) one own.has.0 b.names (λ w q below r. next_does gN p a lo n is (Some i) b.array o w q below r)
       (λ w. ap (λ (h : Bool). Stepped (memory_of w gN) (note h) (Repeating t p i ns e e)) own.holds)
       (going (own.element (λ y. C (Repeating t p i ns e y))
@@ -614,13 +655,16 @@ module _ (limit : ℕ) (program : Program) where
       let pc2 : ℕ = suc pc + length x.code in
       let room2 = room_behind one slots2 from x.free x.free x.drops held1 got held2 (omega arith) (omega arith) room1 h eq in
       let names2 = room2.names in
-      let array2 : slot slots2 a ≡ Holds (Array (Some p)) = h.same a (inl (omega arith)) ∙ put_other slots lo a z (λ f. absurd (omega (arith, f, la))) ∙ b.array in
+      let array2 : slot slots2 a ≡ Holds (Array (Some p)) = h.same a (inl (omega arith)) ∙ put_other slots lo a z
+      (λ f. absurd (omega (arith, f, la))) ∙ b.array in
       let counter2 : slot slots2 lo ≡ z = h.same lo (inl (omega arith)) ∙ put_same slots lo z (omega arith) in
-      let chain2 : slot slots2 (suc lo) ≡ Chain rs = h.same (suc lo) (inl (omega arith)) ∙ put_other slots lo (suc lo) z (λ f. absurd (omega (arith, f))) ∙ b.chain in
+      let chain2 : slot slots2 (suc lo) ≡ Chain rs = h.same (suc lo) (inl (omega arith)) ∙ put_other slots lo (suc lo) z
+      (λ f. absurd (omega (arith, f))) ∙ b.chain in
       let rs3 = chained rs (region slots2 from words) in
       let three = put (cleared slots2 from words) (suc lo) (Chain rs3) in
       let b3 = kept_turn before slots slots2 t p x a lo i is ns rs held start so_far got held2 la own.value b own.touches h eq names2 in
-      going (other_goes C c (spot g j2 pc2 variables2 slots2) held2 t p i v (Repeating t p i ns e (Evaluated v)) (Turning t p ns e) a lo x.value
+      going (other_goes C c (spot g j2 pc2 variables2 slots2) held2 t p i v (Repeating t p i ns e (Evaluated v)) (Turning t p ns e) a lo
+      x.value
       has_store.0 names2 array2 counter2 ev (λ m'. refl)
       (λ variables3.
       let g3 = spot g j2 (suc pc2) variables3 slots2 in
@@ -630,9 +674,11 @@ module _ (limit : ℕ) (program : Program) where
       (λ q below r. ap (λ (s : Slot). machine.goes_on w (coded q g3 below r)
       (put (cleared slots2 from words) (suc lo) (Chain (chained (chain_of s) (region slots2 from words))))) chain2)
       (subst (λ (y : Option Instr). 0 < place_at y) (sym at_back) (omega arith))
-      (going (back_rests (spot g j2 (suc (suc pc2)) variables3 three) held2 (C (Turning t p ns e)) n pc (Next a lo (named program.adts is) n) at_back
+      (going (back_rests (spot g j2 (suc (suc pc2)) variables3 three) held2 (C (Turning t p ns e)) n pc
+      (Next a lo (named program.adts is) n) at_back
       (omega arith) own.has.0 (omega arith) b3.names
-      (going (turns_own C g t e x a lo pc is p own ns before three rs3 held2 start ((so_far ++ None ∷ []) ++ got) j2 variables3 b3 k)))))))))))
+      (going (turns_own C g t e x a lo pc is p own ns before three rs3 held2 start ((so_far ++ None ∷ []) ++ got) j2 variables3 b3
+      k)))))))))))
 
   -- ---- the turns of an element that holds nothing
 
@@ -654,7 +700,8 @@ module _ (limit : ℕ) (program : Program) where
     pub mid : from ≤ lo
     pub has : HasAt g.code pc (loop_shared t a lo (named program.adts is) x)
 
-  pub record Between_shared (before slots : Slots) (p : Part) (a shared from lo : ℕ) (is : Items) (ns : List ℕ) (held : List (Option ℕ)) : Type 0 where
+  pub record Between_shared (before slots : Slots) (p : Part) (a shared from lo : ℕ) (is : Items) (ns : List ℕ)
+      (held : List (Option ℕ)) : Type 0 where
     pub long : length slots ≡ length before
     pub same : (s : ℕ) → Beside shared from s → Beside lo (suc lo) s → slot slots s ≡ slot before s
     pub fits : lo < length slots
@@ -664,16 +711,19 @@ module _ (limit : ℕ) (program : Program) where
     pub left : ns ≡ left_of is (range_with_len (counted (value_of (slot slots lo))) (p.long - counted (value_of (slot slots lo))))
     pub names : SlotsName slots held
 
-  pub put_names : (slots : Slots) (s : ℕ) (v : Slot) (held : List (Option ℕ)) → s < length slots → ((n : ℕ) → slot_names (slot slots s) n ≡ 0)
+  pub put_names : (slots : Slots) (s : ℕ) (v : Slot) (held : List (Option ℕ)) → s < length slots
+      → ((n : ℕ) → slot_names (slot slots s) n ≡ 0)
       → ((n : ℕ) → slot_names v n ≡ 0) → SlotsName slots held → SlotsName (put slots s v) held
   put_names slots s v held l z y names n =
       let a = names_put n slots s v l in let b = z n in let c = y n in let d = names n in omega arith
 
   pub turns_shared : (C : Term → Block) (g : Frame) (t : Ty) (e : Term) (x : Lowered) (a shared from lo pc : ℕ) (is : Items) (p : Part)
-      → Shares C g t e x a shared from lo pc is → (ns : List ℕ) (before slots : Slots) (held : List (Option ℕ)) (j : ℕ) (variables : List Value)
+      → Shares C g t e x a shared from lo pc is → (ns : List ℕ) (before slots : Slots) (held : List (Option ℕ)) (j : ℕ)
+      (variables : List Value)
       → Between_shared before slots p a shared from lo is ns held
       → ((j : ℕ) (variables : List Value) (slots : Slots) → Grown before slots shared from lo (suc lo) [] []
-      → Stands limit program (spot g j (pc + length (loop_shared t a lo (named program.adts is) x)) variables slots) held (C (Evaluated (Array (Some p)))))
+      → Stands limit program (spot g j (pc + length (loop_shared t a lo (named program.adts is) x)) variables slots) held
+      (C (Evaluated (Array (Some p)))))
       → Going limit program (spot g j pc variables slots) held (C (Turning t p ns e))
   turns_shared C g t e x a shared from lo pc is p own [] before slots held j variables b k =
       let gN = spot g j pc variables slots in
@@ -684,14 +734,18 @@ module _ (limit : ℕ) (program : Program) where
       let m = length-append turn (Back n ∷ []) in
       let one = put slots lo empty in
       let mid = own.mid in
-      gives_always limit program C own.carries gN held [] (Turning t p [] e) (Evaluated (Array (Some p))) (Next a lo (named program.adts is) n)
+      gives_always limit program C own.carries gN held [] (Turning t p [] e) (Evaluated (Array (Some p)))
+      (Next a lo (named program.adts is) n)
       (suc pc + n) one own.has.0 b.names (λ w q below r. next_does gN p a lo n is None b.array o w q below r)
       (λ w. ap (λ (h : Bool). Stepped (memory_of w gN) (note h) (Evaluated (Array (Some p)))) own.holds)
-      (subst (λ (hs : List (Option ℕ)). Stands limit program (spot g j (suc pc + n) variables one) hs (C (Evaluated (Array (Some p))))) (sym (append-nil held))
-      (pc_is limit program g j (pc + length (loop_shared t a lo (named program.adts is) x)) (suc pc + n) variables one held (C (Evaluated (Array (Some p)))) (omega arith)
+      (subst (λ (hs : List (Option ℕ)). Stands limit program (spot g j (suc pc + n) variables one) hs (C (Evaluated (Array (Some p)))))
+      (sym (append-nil held))
+      (pc_is limit program g j (pc + length (loop_shared t a lo (named program.adts is) x)) (suc pc + n) variables one held
+      (C (Evaluated (Array (Some p)))) (omega arith)
       (k j variables one (record {
         long = put_long slots lo empty ∙ b.long;
-        same = λ s d f. put_other slots lo s empty (λ q. absurd (elim f [ inl y ↦ omega (arith, y, q) | inr y ↦ omega (arith, y, q) ])) ∙ b.same s d f;
+        same = λ s d f. put_other slots lo s empty (λ q. absurd (elim f [ inl y ↦ omega (arith, y, q) | inr y ↦ omega (arith, y, q) ]))
+            ∙ b.same s d f;
         shares = clean_same slots one shared from (λ s q r. put_other slots lo s empty (λ f. absurd (omega (arith, f, r, mid)))) b.shares;
         dropping = none;
         within = tt;
@@ -716,7 +770,8 @@ module _ (limit : ℕ) (program : Program) where
       let has_back_way = has_back g.code (suc pc) turn (Back n ∷ []) own.has.1 in
       let has_store = has_back g.code (suc pc) x.code (store ∷ []) has_turn in
       let m = length-append x.code (store ∷ []) in
-      let shares1 : Clean one shared from = clean_same slots one shared from (λ s q r. put_other slots lo s z (λ f. absurd (omega (arith, f, r, mid)))) b.shares in
+      let shares1 : Clean one shared from = clean_same slots one shared from
+      (λ s q r. put_other slots lo s z (λ f. absurd (omega (arith, f, r, mid)))) b.shares in
       let room1 : Room one shared x.free held = record {
         order = up;
         fits = omega arith;
@@ -726,7 +781,8 @@ module _ (limit : ℕ) (program : Program) where
       gives_always limit program C c gN held [] (Turning t p (i ∷ ns) e) (Repeating t p i ns e e) (Next a lo (named program.adts is) n)
       (suc pc) one own.has.0 b.names (λ w q below r. next_does gN p a lo n is (Some i) b.array both.0 w q below r)
       (λ w. ap (λ (h : Bool). Stepped (memory_of w gN) (note h) (Repeating t p i ns e e)) own.holds)
-      (subst (λ (hs : List (Option ℕ)). Stands limit program (spot g j (suc pc) variables one) hs (C (Repeating t p i ns e e))) (sym (append-nil held))
+      (subst (λ (hs : List (Option ℕ)). Stands limit program (spot g j (suc pc) variables one) hs (C (Repeating t p i ns e e)))
+      (sym (append-nil held))
       (going (own.element (λ y. C (Repeating t p i ns e y))
       (carry limit program (next program.adts) fill (next program.adts) fill C c (Repeating t p i ns e)
       (λ m' v. evaluation.stores program.adts m' (element_at t p (pos i)) v (Turning t p ns e)) (λ m' y. refl) (λ v y. refl))
@@ -740,11 +796,15 @@ module _ (limit : ℕ) (program : Program) where
       let grown = grown_shared one slots2 shared from x.free lo up end mid shares1 h' in
       let room2 = room_behind one slots2 shared x.free x.free x.drops held got held2 up (omega arith) room1 h eq in
       let names2 = subst (SlotsName slots2) same_held room2.names in
-      let high : (s : ℕ) → x.free ≤ s → (s ≡ lo → ⊥) → slot slots2 s ≡ slot slots s = λ s q f. h.same s (inr q) ∙ put_other slots lo s z f in
-      let array2 : slot slots2 a ≡ Holds (Array (Some p)) = h.same a (inl la) ∙ put_other slots lo a z (λ f. absurd (omega (arith, f, la, up, end, mid))) ∙ b.array in
+      let high : (s : ℕ) → x.free ≤ s → (s ≡ lo → ⊥) → slot slots2 s ≡ slot slots s = λ s q f. h.same s (inr q) ∙ put_other slots lo s z
+      f in
+      let array2 : slot slots2 a ≡ Holds (Array (Some p)) = h.same a (inl la) ∙ put_other slots lo a z
+      (λ f. absurd (omega (arith, f, la, up, end, mid))) ∙ b.array in
       let counter2 : slot slots2 lo ≡ z = h.same lo (inr (omega arith)) ∙ put_same slots lo z fits in
-      subst (λ (hs : List (Option ℕ)). Stands limit program (spot g j2 pc2 variables2 slots2) hs (C (Repeating t p i ns e (Evaluated v)))) (sym same_held)
-      (going (other_goes C c (spot g j2 pc2 variables2 slots2) held t p i v (Repeating t p i ns e (Evaluated v)) (Turning t p ns e) a lo x.value
+      subst (λ (hs : List (Option ℕ)). Stands limit program (spot g j2 pc2 variables2 slots2) hs
+      (C (Repeating t p i ns e (Evaluated v)))) (sym same_held)
+      (going (other_goes C c (spot g j2 pc2 variables2 slots2) held t p i v (Repeating t p i ns e (Evaluated v)) (Turning t p ns e) a lo
+      x.value
       has_store.0 names2 array2 counter2 ev (λ m'. refl)
       (λ variables3.
       let to_back : suc pc + length turn ≡ suc pc2 = omega arith in
@@ -760,6 +820,7 @@ module _ (limit : ℕ) (program : Program) where
         shares = grown.shares;
         array = array2;
         counter = λ q. ap (λ (s : Slot). slot_names s q) counter2;
-        left = subst (λ (s : Slot). ns ≡ left_of is (range_with_len (counted (value_of s)) (p.long - counted (value_of s)))) (sym counter2) both.1;
+        left = subst (λ (s : Slot). ns ≡ left_of is (range_with_len (counted (value_of s)) (p.long - counted (value_of s))))
+            (sym counter2) both.1;
         names = names2;
       }) k))))))))))

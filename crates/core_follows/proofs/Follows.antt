@@ -54,13 +54,18 @@ nothing_goes named h e = all_stay inside named h (λ n l. ⊎_elim
 still_there : (named : ℕ → ℕ) (w : Shared) → Still source_rules.naming named (source_rules.naming.trim named w)
 still_there named w =
     let e = stays_twice inside named w.heap in
-    record { kept = ap (λ (h : Heap HeapValue). record { heap = h; outside = w.outside }) e; none = none_gone inside named (stays inside named w.heap) e }
+    record {
+      kept = ap (λ (h : Heap HeapValue). record { heap = h; outside = w.outside }) e;
+      none = none_gone inside named
+          (stays inside named w.heap) e;
+    }
 
 -- ---- a function has its code
 
 data Compiled (program : Program) (f : ℕ) : Type 0 where
   missing : slice_get program.routines f ≡ None → slice_get (code_of program).functions f ≡ None → Compiled program f
-  is_there : (r : Routine) → slice_get program.routines f ≡ Some r → slice_get (code_of program).functions f ≡ Some (function_of program.adts r)
+  is_there : (r : Routine) → slice_get program.routines f ≡ Some r → slice_get (code_of program).functions f ≡ Some
+      (function_of program.adts r)
       → Compiled program f
 
 compiled : (program : Program) (f : ℕ) → Compiled program f
@@ -68,7 +73,8 @@ compiled program f = go program.routines f
     (λ e h. missing e h) (λ r e h. is_there r e h)
   where
     go : (rs : List Routine) (f : ℕ) → {X : Type 0} → (slice_get rs f ≡ None → slice_get (map (function_of program.adts) rs) f ≡ None → X)
-        → ((r : Routine) → slice_get rs f ≡ Some r → slice_get (map (function_of program.adts) rs) f ≡ Some (function_of program.adts r) → X) → X
+        → ((r : Routine) → slice_get rs f ≡ Some r → slice_get (map (function_of program.adts) rs) f ≡ Some (function_of program.adts r)
+        → X) → X
     go [] f none has = none refl refl
     go (r ∷ rs) zero none has = has r refl refl
     go (r ∷ rs) (suc f) none has = go rs f none has
@@ -179,7 +185,8 @@ module _ (limit : ℕ) (program : Program) (handled : HandledProgram program) wh
   Matches at w p e = SharedMatches S (λ q. place_at (slice_get q.frame.code q.frame.pc)) at w p e
 
   -- A step of the program that an instruction stands for.
-  moves_on : (at : ℕ) (w w' : Shared) (p p' : source.Process) (q : machine.Process) → S.program.step w p ≡ Went w' p' → Ready limit program p' q
+  moves_on : (at : ℕ) (w w' : Shared) (p p' : source.Process) (q : machine.Process) → S.program.step w p ≡ Went w' p'
+      → Ready limit program p' q
       → Matches at w p (Went w' q)
   moves_on at w w' p p' q e r = record {
     steps = 1;
@@ -194,7 +201,8 @@ module _ (limit : ℕ) (program : Program) (handled : HandledProgram program) wh
   comes_at_once : (w : Shared) (p : source.Process) (e : source.Does) → S.program.step w p ≡ e → Comes S.program S.naming w p e
   comes_at_once w p e f = record { steps = 0; world = w; before = p; quiets = quiets_none S.program S.naming w p; does = f }
 
-  stands_still : (at : ℕ) (w : Shared) (g : Frame) (held : List (Option ℕ)) (todo : Block) (n : ℕ) (fs : List source.Frame) (gs : List Frame)
+  stands_still : (at : ℕ) (w : Shared) (g : Frame) (held : List (Option ℕ)) (todo : Block) (n : ℕ) (fs : List source.Frame)
+      (gs : List Frame)
       (p : Option Writing) → SlotsName g.slots held → AllWait limit program g.answer fs gs
       → S.program.step w (sourced n (beside g held todo) fs) ≡ Parks w [] (sourced n (beside g held todo) fs)
       → Matches at w (sourced n (beside g held todo) fs) (Parks w [] (coded n g gs p))
@@ -210,7 +218,8 @@ module _ (limit : ℕ) (program : Program) (handled : HandledProgram program) wh
   ends_so at w p how e = record { world = w; comes = comes_at_once w p (Ends w how) e; worlds = refl }
 
   -- A quiet step in front.
-  behind_quiet : (at : ℕ) (w : Shared) (p p1 : source.Process) (e : machine.Does) → Quiets S.program S.naming 1 w p w p1 → Matches at w p1 e → Matches at w p e
+  behind_quiet : (at : ℕ) (w : Shared) (p p1 : source.Process) (e : machine.Does) → Quiets S.program S.naming 1 w p w p1
+      → Matches at w p1 e → Matches at w p e
   behind_quiet at w p p1 (Went y q) a m = record {
     steps = suc m.steps;
     world = m.world;
@@ -220,7 +229,13 @@ module _ (limit : ℕ) (program : Program) (handled : HandledProgram program) wh
     worlds = m.worlds;
     pace = λ z. absurd (omega arith);
   }
-  behind_quiet at w p p1 (Parks y bs q) a m = record { world = m.world; after = m.after; comes = comes_on S.program S.naming _ a m.comes; waits = m.waits; worlds = m.worlds }
+  behind_quiet at w p p1 (Parks y bs q) a m = record {
+    world = m.world;
+    after = m.after;
+    comes = comes_on S.program S.naming _ a m.comes;
+    waits = m.waits;
+    worlds = m.worlds;
+  }
   behind_quiet at w p p1 (Polls y bs q q') a m = record {
     world = m.world;
     after = m.after;
@@ -239,7 +254,13 @@ module _ (limit : ℕ) (program : Program) (handled : HandledProgram program) wh
     related = m.related;
     worlds = m.worlds;
   }
-  behind_quiet at w p p1 (Asks y x q) a m = record { world = m.world; after = m.after; comes = comes_on S.program S.naming _ a m.comes; related = m.related; worlds = m.worlds }
+  behind_quiet at w p p1 (Asks y x q) a m = record {
+    world = m.world;
+    after = m.after;
+    comes = comes_on S.program S.naming _ a m.comes;
+    related = m.related;
+    worlds = m.worlds;
+  }
   behind_quiet at w p p1 (Ends y how) a m = record { world = m.world; comes = comes_on S.program S.naming _ a m.comes; worlds = m.worlds }
 
   -- ---- calls and prints
@@ -251,7 +272,8 @@ module _ (limit : ℕ) (program : Program) (handled : HandledProgram program) wh
   room_so at w p first q true e r = moves_on at w w p first q e r
   room_so at w p first q false e r = ends_so at w p (Broken stack_overflow) e
 
-  calls_so : (at : ℕ) (w : Shared) (g : Frame) (held : List (Option ℕ)) (todo waiting_todo : Block) (n into : ℕ) (fs : List source.Frame) (gs : List Frame)
+  calls_so : (at : ℕ) (w : Shared) (g : Frame) (held : List (Option ℕ)) (todo waiting_todo : Block) (n into : ℕ) (fs : List source.Frame)
+      (gs : List Frame)
       (p : Option Writing) (t : Ty) (f : ℕ) (arguments : List Value) → SlotsName g.slots held → AllWait limit program g.answer fs gs
       → Waits limit program (waiting g into) t held waiting_todo
       → S.program.step w (sourced n (beside g held todo) fs)
@@ -263,23 +285,29 @@ module _ (limit : ℕ) (program : Program) (handled : HandledProgram program) wh
       by : Compiled program f → Matches at w (sourced n (beside g held todo) fs)
           (machine.calls program.adts limit w (coded n g gs p) t into (slice_get (code_of program).functions f) arguments)
       by (missing a b) =
-          subst (λ (o : Option Function). Matches at w (sourced n (beside g held todo) fs) (machine.calls program.adts limit w (coded n g gs p) t into o arguments)) (sym b)
+          subst (λ (o : Option Function). Matches at w (sourced n (beside g held todo) fs)
+          (machine.calls program.adts limit w (coded n g gs p) t into o arguments)) (sym b)
           (stands_still at w g held todo n fs gs p names below
           (e ∙ ap (λ (o : Option Routine). source.calls program.adts limit w (sourced n (beside g held todo) fs) wt t o arguments) a))
       by (is_there r a b) =
-          subst (λ (o : Option Function). Matches at w (sourced n (beside g held todo) fs) (machine.calls program.adts limit w (coded n g gs p) t into o arguments)) (sym b)
-          (room_so at w (sourced n (beside g held todo) fs) (sourced n (source.frame_of program.adts g.instance r t arguments) (beside (waiting g into) held wt ∷ fs))
+          subst (λ (o : Option Function). Matches at w (sourced n (beside g held todo) fs)
+          (machine.calls program.adts limit w (coded n g gs p) t into o arguments)) (sym b)
+          (room_so at w (sourced n (beside g held todo) fs) (sourced n (source.frame_of program.adts g.instance r t arguments)
+          (beside (waiting g into) held wt ∷ fs))
           (coded n (machine.frame_of program.adts g.instance (function_of program.adts r) t arguments) (waiting g into ∷ gs) None)
           (nat_lt (suc (length gs)) limit)
           (e ∙ ap (λ (o : Option Routine). source.calls program.adts limit w (sourced n (beside g held todo) fs) wt t o arguments) a
           ∙ ap (λ (k : ℕ). if nat_lt (suc k) limit
           then Went w (sourced n (source.frame_of program.adts g.instance r t arguments) (beside (waiting g into) held wt ∷ fs))
           else Ends w (Broken stack_overflow)) (all_long g.answer fs gs below))
-          (ready n (machine.frame_of program.adts g.instance (function_of program.adts r) t arguments) [] r.body None (begins_so f r a g.instance t arguments)
+          (ready n (machine.frame_of program.adts g.instance (function_of program.adts r) t arguments) [] r.body None
+          (begins_so f r a g.instance t arguments)
           (waits_below (waiting g into) held wt ws below)))
 
-  prints_so : (at : ℕ) (w : Shared) (g : Frame) (held : List (Option ℕ)) (todo wt : Block) (n into : ℕ) (fs : List source.Frame) (gs : List Frame)
-      (p : Option Writing) (a : Printing) → SlotsName g.slots held → AllWait limit program g.answer fs gs → Hears limit program (waiting g into) held wt
+  prints_so : (at : ℕ) (w : Shared) (g : Frame) (held : List (Option ℕ)) (todo wt : Block) (n into : ℕ) (fs : List source.Frame)
+      (gs : List Frame)
+      (p : Option Writing) (a : Printing) → SlotsName g.slots held → AllWait limit program g.answer fs gs → Hears limit program
+      (waiting g into) held wt
       → S.program.step w (sourced n (beside g held todo) fs) ≡ source.prints w (sourced n (beside g held todo) fs) wt a
       → Matches at w (sourced n (beside g held todo) fs) (machine.prints w (coded n g gs p) (waiting g into) a)
   prints_so at w g held todo wt n into fs gs p (Answers o v) names below (hears names' k) e =
@@ -303,12 +331,14 @@ module _ (limit : ℕ) (program : Program) (handled : HandledProgram program) wh
 
   -- ---- all instructions
 
-  matches : (g : Frame) (held : List (Option ℕ)) (todo : Block) → Going limit program g held todo → (w : Shared) (n : ℕ) (fs : List source.Frame)
+  matches : (g : Frame) (held : List (Option ℕ)) (todo : Block) → Going limit program g held todo → (w : Shared) (n : ℕ)
+      (fs : List source.Frame)
       (gs : List Frame) (p : Option Writing) → AllWait limit program g.answer fs gs
       → Matches (place_at (slice_get g.code g.pc)) w (sourced n (beside g held todo) fs) (S.code.step w (coded n g gs p))
   matches g held todo (softly after q x) w n fs gs p below =
       let a = going_name g held after x in
-      behind_quiet (place_at (slice_get g.code g.pc)) w (sourced n (beside g held todo) fs) (sourced n (beside g held after) fs) (S.code.step w (coded n g gs p))
+      behind_quiet (place_at (slice_get g.code g.pc)) w (sourced n (beside g held todo) fs) (sourced n (beside g held after) fs)
+      (S.code.step w (coded n g gs p))
       (same_step S.program S.naming w (sourced n (beside g held todo) fs) (sourced n (beside g held after) fs) (q w n fs) (λ k. refl))
       (matches g held after x w n fs gs p below)
   matches g held todo (obeying i names e k) w n fs gs p below =
@@ -323,7 +353,8 @@ module _ (limit : ℕ) (program : Program) (handled : HandledProgram program) wh
           → Matches (place_at (slice_get g.code g.pc)) w (sourced n (beside g held todo) fs) (obeys limit program w (coded n g gs p) i)
       by (goes m pc slots held' after does steps st) z =
           subst (Matches (place_at (slice_get g.code g.pc)) w (sourced n (beside g held todo) fs)) (sym (does n gs p))
-          (moves_on (place_at (slice_get g.code g.pc)) w (shared_with w m) (sourced n (beside g held todo) fs) _ _ (steps n fs) (ready n _ held' after None st below))
+          (moves_on (place_at (slice_get g.code g.pc)) w (shared_with w m) (sourced n (beside g held todo) fs) _ _ (steps n fs)
+          (ready n _ held' after None st below))
       by (rests pc slots does rank st) z =
           subst (Matches (place_at (slice_get g.code g.pc)) w (sourced n (beside g held todo) fs)) (sym (does n gs p))
           (record {
@@ -351,14 +382,17 @@ module _ (limit : ℕ) (program : Program) (handled : HandledProgram program) wh
   each : (w y : Shared) (p : source.Process) (q : machine.Process) → Ready limit program p q → w ≡ y
       → Matches (place_at (slice_get q.frame.code q.frame.pc)) w p (S.code.step y q)
   each w y p q (ready {below = fs} {gs = gs} n g held todo pr st below) e =
-      subst (λ (z : Shared). Matches (place_at (slice_get g.code g.pc)) w (sourced n (beside g held todo) fs) (S.code.step z (coded n g gs pr))) e
+      subst (λ (z : Shared). Matches (place_at (slice_get g.code g.pc)) w (sourced n (beside g held todo) fs)
+      (S.code.step z (coded n g gs pr))) e
       (matches g held todo (stands_going g held todo st) w n fs gs pr below)
 
   -- ---- replies
 
-  hears_so : (w : Shared) (n : ℕ) (g : Frame) (held : List (Option ℕ)) (todo : Block) (fs : List source.Frame) (gs : List Frame) (pr : Option Writing)
+  hears_so : (w : Shared) (n : ℕ) (g : Frame) (held : List (Option ℕ)) (todo : Block) (fs : List source.Frame) (gs : List Frame)
+      (pr : Option Writing)
       (a : Printing) → Hears limit program g held todo → AllWait limit program g.answer fs gs
-      → SharedMatchesReply S (source.hears w (record { number = n; frame = beside g held todo; below = fs; printing = pr }) a) (machine.hears w (coded n g gs pr) a)
+      → SharedMatchesReply S (source.hears w (record { number = n; frame = beside g held todo; below = fs; printing = pr }) a)
+      (machine.hears w (coded n g gs pr) a)
   hears_so w n g held todo fs gs pr (Answers o v) (hears names k) below =
       record { world = with_outside w o; after = _; does = refl; related = ready n _ held _ None (k v) below; worlds = refl }
   hears_so w n g held todo fs gs pr (Requests o m k) h below =
@@ -386,10 +420,13 @@ module _ (limit : ℕ) (program : Program) (handled : HandledProgram program) wh
     names_asking = asking_names;
   }
     where
-      ready_names : (p : source.Process) (q : machine.Process) → Ready limit program p q → (n : ℕ) → source.process_names p n ≡ machine.process_names q n
-      ready_names p q (ready {below = fs} {gs = gs} k g held todo pr st below) n = both_name g held todo fs gs (stands_name g held todo st) below n
+      ready_names : (p : source.Process) (q : machine.Process) → Ready limit program p q → (n : ℕ) → source.process_names p n ≡
+          machine.process_names q n
+      ready_names p q (ready {below = fs} {gs = gs} k g held todo pr st below) n = both_name g held todo fs gs
+          (stands_name g held todo st) below n
 
-      asking_names : (p : source.Process) (q : machine.Process) → Asking limit program p q → (n : ℕ) → source.process_names p n ≡ machine.process_names q n
+      asking_names : (p : source.Process) (q : machine.Process) → Asking limit program p q → (n : ℕ) → source.process_names p n ≡
+          machine.process_names q n
       asking_names p q (asking {below = fs} {gs = gs} k g held todo pr (hears names h) below) n = both_name g held todo fs gs names below n
 
   follows_code : SharedFollows S
@@ -406,7 +443,8 @@ module _ (limit : ℕ) (program : Program) (handled : HandledProgram program) wh
 
   begins_ready : (n instance f : ℕ) (r : Routine) (g : Function) (t : Ty) (arguments : List Value) → slice_get program.routines f ≡ Some r
       → slice_get (code_of program).functions f ≡ Some g
-      → Ready limit program (sourced n (source.frame_of program.adts instance r t arguments) []) (coded n (machine.frame_of program.adts instance g t arguments) [] None)
+      → Ready limit program (sourced n (source.frame_of program.adts instance r t arguments) [])
+      (coded n (machine.frame_of program.adts instance g t arguments) [] None)
   begins_ready n instance f r g t arguments e h = by (compiled program f)
     where
       by : Compiled program f → Ready limit program (sourced n (source.frame_of program.adts instance r t arguments) [])
@@ -419,8 +457,14 @@ module _ (limit : ℕ) (program : Program) (handled : HandledProgram program) wh
           let u : function_of program.adts r' ≡ g = cc in
           subst (λ (o : Function). Ready limit program (sourced n (source.frame_of program.adts instance r t arguments) [])
           (coded n (machine.frame_of program.adts instance o t arguments) [] None)) (ap (function_of program.adts) (sym y) ∙ u)
-          (ready n (machine.frame_of program.adts instance (function_of program.adts r) t arguments) [] r.body None (begins_so f r e instance t arguments) none_waits)
+          (ready n (machine.frame_of program.adts instance (function_of program.adts r) t arguments) [] r.body None
+          (begins_so f r e instance t arguments) none_waits)
 
 pub code_keeps : CodeKeeps
 unfolding follows_code
-code_keeps limit program handled = record { follows = follows_code limit program handled; pace = refl; begins = begins_ready limit program handled }
+code_keeps limit program handled = record {
+  follows = follows_code limit program handled;
+  pace = refl;
+  begins = begins_ready limit
+      program handled;
+}

@@ -9,8 +9,10 @@ use Rattle.limbo_layout.specs.Adts.{Def, parts}
 use Rattle.limbo_typed.specs.declared.operation.Operation.{Operation}
 use Rattle.limbo_typed.specs.declared.stmt.Constant.{Constant}
 use Rattle.limbo_typed.specs.declared.stmt.Constant.TheVariants as constant
-use Rattle.limbo_meaning.specs.Values.{Value, Num, Chars, Ref, Array, Parts, Values, NoValues, MoreValues, nothing, first_in, rest_in, parts_of}
-use Rattle.limbo_meaning.specs.Values.{name_of, part_of, formed, all_formed, by_def, adt_formed, fitted, references, all_references, among, zero_of}
+use Rattle.limbo_meaning.specs.Values.{Value, Num, Chars, Ref, Array, Parts, Values, NoValues, MoreValues, nothing, first_in, rest_in}
+use Rattle.limbo_meaning.specs.Values.{parts_of}
+use Rattle.limbo_meaning.specs.Values.{name_of, part_of, formed, all_formed, by_def, adt_formed, fitted, references, all_references}
+use Rattle.limbo_meaning.specs.Values.{among, zero_of}
 use Rattle.limbo_meaning.specs.Memory.{Memory}
 use Rattle.limbo_meaning.specs.Exceptions.{Raising}
 use Rattle.limbo_meaning.specs.Places.{read, not_longer}
@@ -72,7 +74,8 @@ row_dropping slots s v front (r ∷ rs) e f =
 
 pub owns_row : (s : ℕ) (v : Value) (count : ℕ) → length (references v) ≡ count → Owns s v (drops_from s 0 count) (references v)
 owns_row s v count e = record {
-  dropping = λ slots f. subst (λ (k : ℕ). Dropping slots (drops_from s 0 k) (references v)) e (row_dropping slots s v [] (references v) f refl);
+  dropping = λ slots f. subst (λ (k : ℕ). Dropping slots (drops_from s 0 k) (references v)) e (row_dropping slots s v [] (references v) f
+      refl);
   within = touch_row s 0 count;
   names = λ n. refl;
 }
@@ -244,7 +247,8 @@ module _ (limit : ℕ) (program : Program) where
       → Going limit program g held (C u)
   give_goes C c g held u t o into from own left i room both k =
       obeying (Give t o into from) room.names i
-      (λ w. by w (performed program.adts (memory_of w g) t o (values_of g.slots from)) (next program.adts (memory_of w g) u) refl refl (both w))
+      (λ w. by w (performed program.adts (memory_of w g) t o (values_of g.slots from)) (next program.adts (memory_of w g) u) refl refl
+      (both w))
     where
       by : (w : Shared) (pm ps : Progress Value Term) → performed program.adts (memory_of w g) t o (values_of g.slots from) ≡ pm
           → next program.adts (memory_of w g) u ≡ ps → Both into own left pm ps → Next limit program w g held (C u) (Give t o into from)

@@ -6,7 +6,8 @@ use Rattle.core_code.specs.Slots.{Slot, Holds, Slots, slot, put, slot_names}
 use Rattle.core_code.specs.Code.{Instr}
 use Rattle.core_follows.specs.Drops.{Clean, Name, Between, Beside, AllTouch, HasAt, Dropping, none, Holding}
 use Rattle.core_follows.specs.Stands.{SlotsName}
-use Rattle.core_follows.proofs.Slots.{put_same, put_other, put_long, names_between, clean_same, clean_within, name_none, name_more, name_same}
+use Rattle.core_follows.proofs.Slots.{put_same, put_other, put_long, names_between, clean_same, clean_within, name_none, name_more}
+use Rattle.core_follows.proofs.Slots.{name_same}
 use Rattle.core_follows.proofs.Slots.{name_at}
 use Rattle.core_follows.proofs.Drops.{touch_more, touch_others, dropping_kept, dropping_more}
 
@@ -22,7 +23,8 @@ has_back code pc (i ∷ is) js h =
     let e : suc pc + length is ≡ pc + suc (length is) = omega arith in
     subst (λ (q : ℕ). HasAt code q js) e (has_back code (suc pc) is js h.1)
 
-pub has_more : (code : List Instr) (pc : ℕ) (is js : List Instr) → HasAt code pc is → HasAt code (pc + length is) js → HasAt code pc (is ++ js)
+pub has_more : (code : List Instr) (pc : ℕ) (is js : List Instr) → HasAt code pc is → HasAt code (pc + length is) js
+    → HasAt code pc (is ++ js)
 has_more code pc [] js h k = let e : pc + 0 ≡ pc = omega arith in subst (λ (q : ℕ). HasAt code q js) e k
 has_more code pc (i ∷ is) js h k =
     let e : pc + suc (length is) ≡ suc pc + length is = omega arith in

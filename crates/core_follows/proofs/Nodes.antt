@@ -100,7 +100,8 @@ between_more lo hi (s ∷ ss) ts h k = (h.0, between_more lo hi ss ts h.1 k)
 pub between_reverse : (lo hi : ℕ) (ss : List ℕ) → AllBetween lo hi ss → AllBetween lo hi (reverse ss)
 between_reverse lo hi [] h = tt
 between_reverse lo hi (s ∷ ss) h =
-    subst (AllBetween lo hi) (sym (reverse-append (s ∷ []) ss)) (between_more lo hi (reverse ss) (s ∷ []) (between_reverse lo hi ss h.1) (h.0, tt))
+    subst (AllBetween lo hi) (sym (reverse-append (s ∷ []) ss)) (between_more lo hi (reverse ss) (s ∷ []) (between_reverse lo hi ss h.1)
+    (h.0, tt))
 
 pub between_at : (lo hi : ℕ) (ss : List ℕ) (k : ℕ) → k < length ss → AllBetween lo hi ss → Between lo hi (slot_at k ss)
 between_at lo hi [] k l b = absurd (omega arith)
@@ -236,4 +237,5 @@ module _ (limit : ℕ) (program : Program) where
       subst (λ (b : Block). Stands limit program (spot g into (suc g.pc) g.variables (put g.slots into (Holds x))) held b)
       (sym (c.fills x Awaiting))
       (k into g.variables (put g.slots into (Holds x)) x [] held
-      (holding_put g.slots into x [] [] l (owns v)) (put_same g.slots into (Holds x) l) (omega arith, omega arith) (sym (append-nil held))))))
+      (holding_put g.slots into x [] [] l (owns v)) (put_same g.slots into (Holds x) l) (omega arith, omega arith)
+      (sym (append-nil held))))))

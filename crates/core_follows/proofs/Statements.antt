@@ -9,7 +9,8 @@ use Rattle.limbo_values.specs.Operators as operators
 use Rattle.limbo_meaning.specs.Values.{Value, number_of, nothing}
 use Rattle.limbo_meaning.specs.Operations.{holds}
 use Rattle.limbo_meaning.specs.Trees as tree
-use Rattle.limbo_meaning.specs.Trees.{Term, Evaluated, Over, Eval, If, While, Enter, Break, Continue, Leave, Loop, Looping, Block, Done, Then, Turn}
+use Rattle.limbo_meaning.specs.Trees.{Term, Evaluated, Over, Eval, If, While, Enter, Break, Continue, Leave, Loop, Looping, Block, Done}
+use Rattle.limbo_meaning.specs.Trees.{Then, Turn}
 use Rattle.limbo_meaning.specs.Trees.{Again, join, entered, tested, turned, behind, at_turn}
 use Rattle.limbo_meaning.specs.Evaluation.{next, fill}
 use Rattle.limbo_meaning.specs.Program.{Program}
@@ -27,11 +28,14 @@ use Rattle.core_code.specs.Statements.{whole, whole_if, test, free_after}
 use Rattle.core_follows.specs.Drops.{Clean, HasAt}
 use Rattle.core_follows.specs.Handled.{Handled, HandledIf}
 use Rattle.core_follows.specs.Does.{LoopIn, loop_of, tested_body, tested_head, entered_body, tested_turn, tested_back, entered_turn}
-use Rattle.core_follows.specs.Does.{entered_test, Does, ends, over, jumps, backs, evaluates, chooses, breaks, continues, returns, leaves, enters}
-use Rattle.core_follows.specs.Does.{tests, tested_turns, tested_agains, entered_tests, entered_turns, entered_agains, TestedAt, tested_at, EnteredAt}
+use Rattle.core_follows.specs.Does.{entered_test, Does, ends, over, jumps, backs, evaluates, chooses, breaks, continues, returns}
+use Rattle.core_follows.specs.Does.{leaves, enters}
+use Rattle.core_follows.specs.Does.{tests, tested_turns, tested_agains, entered_tests, entered_turns, entered_agains, TestedAt}
+use Rattle.core_follows.specs.Does.{tested_at, EnteredAt}
 use Rattle.core_follows.specs.Does.{entered_at}
 use Rattle.core_follows.specs.Stands as stands
-use Rattle.core_follows.specs.Stands.{SlotsName, coded, sourced, beside, sstep, obeys, Quiet, Stands, outside, going, quietly, Going, softly, obeying}
+use Rattle.core_follows.specs.Stands.{SlotsName, coded, sourced, beside, sstep, obeys, Quiet, Stands, outside, going, quietly, Going}
+use Rattle.core_follows.specs.Stands.{softly, obeying}
 use Rattle.core_follows.specs.Stands.{Next, goes}
 use Rattle.core_follows.proofs.Slots.{total, total_split, total_clean, slots_total}
 use Rattle.core_follows.proofs.Holding.{has_front, has_back, Room, room_behind}
@@ -66,17 +70,24 @@ module _ (limit : ℕ) (program : Program) where
   expression_goes t C c ends_so g h fits has names k =
       let x = lower program.adts 0 t in
       let n = length-append x.code x.drops in
-      let room : Room g.slots 0 x.free [] = record { order = omega arith; fits = fits; clean = clean_all g.slots x.free names fits; names = names } in
+      let room : Room g.slots 0 x.free [] = record {
+        order = omega arith;
+        fits = fits;
+        clean = clean_all g.slots x.free names fits;
+        names = names;
+      } in
       value_goes limit program t h 0 C c g [] (has_front g.code g.pc x.code x.drops has) room
       (λ j variables slots v got held' y e b eq.
       let g1 = spot g j (g.pc + length x.code) variables slots in
       let same : got ++ [] ≡ held' = append-nil got ∙ sym eq in
       let r = room_behind g.slots slots 0 x.free x.free x.drops [] got held' (omega arith) (omega arith) room y eq in
       subst (λ (hs : List (Option ℕ)). Stands limit program g1 hs (C (Evaluated v))) same
-      (drops_go limit program g1 (C (Evaluated v)) (ends_so v) (length got) 0 x.free (g.pc + length x.code) slots x.drops got [] (omega arith)
+      (drops_go limit program g1 (C (Evaluated v)) (ends_so v) (length got) 0 x.free (g.pc + length x.code) slots x.drops got []
+      (omega arith)
       y.dropping y.within r.fits (has_back g.code g.pc x.code x.drops has) (subst (SlotsName slots) (sym same) r.names)
       (λ slots2 long same2 names2 numbers.
-      pc_is limit program g j (g.pc + length (x.code ++ x.drops)) (g.pc + length x.code + length x.drops) variables slots2 [] (C (Evaluated v)) (omega arith)
+      pc_is limit program g j (g.pc + length (x.code ++ x.drops)) (g.pc + length x.code + length x.drops) variables slots2 []
+      (C (Evaluated v)) (omega arith)
       (k j variables slots2 v (long ∙ y.long) names2
       (numbers x.value (value_stands program.adts t h 0).spares ∙ ap (λ (s : Slot). number_of (value_of s)) e)))))
 
@@ -97,7 +108,8 @@ module _ (limit : ℕ) (program : Program) where
     -- An instruction that only goes elsewhere.
     control : (j pc pc' : ℕ) (variables : List Value) (slots : Slots) (todo after : Block) (i : Instr) → slice_get g.code pc ≡ Some i
         → SlotsName slots []
-        → ((w : Shared) (n : ℕ) (below : List Frame) (p : Option Writing) → obeys limit program w (coded n (F j pc variables slots) below p) i
+        → ((w : Shared) (n : ℕ) (below : List Frame) (p : Option Writing) → obeys limit program w (coded n (F j pc variables slots) below
+        p) i
         ≡ Went w (coded n (at (F j pc variables slots) pc' variables slots) below None))
         → Quiet limit program (F j pc variables slots) [] todo after → Stands limit program (F j pc' variables slots) [] after
         → Going limit program (F j pc variables slots) [] todo
@@ -133,7 +145,8 @@ module _ (limit : ℕ) (program : Program) where
         → Stands limit program (F j (pc + length (whole program.adts t)) variables slots) [] rest)
         → Going limit program (F j pc variables slots) [] (Then (Eval t) rest)
     stands_alone j pc variables slots t rest e names h fits has k =
-        expression_goes t (λ x. Then (Eval x) rest) (in_eval limit program rest) (λ v. refl) (F j pc variables slots) h (omega arith) has names
+        expression_goes t (λ x. Then (Eval x) rest) (in_eval limit program rest) (λ v. refl) (F j pc variables slots) h (omega arith) has
+        names
         (λ j2 variables2 slots2 v long names2 number. quietly rest (λ w n below. refl) (k j2 variables2 slots2 (long ∙ e) names2))
 
     -- A test, and both ways on.
@@ -141,7 +154,8 @@ module _ (limit : ℕ) (program : Program) where
         → Carries limit program (next program.adts) fill C → ((v : Value) → ends_first (C (Evaluated v)) ≡ true)
         → ((j pc : ℕ) (variables : List Value) (slots : Slots) (v : Value)
         → Quiet limit program (F j pc variables slots) [] (C (Evaluated v)) (after (holds v)))
-        → length slots ≡ size → SlotsName slots [] → Handled t → (lower program.adts 0 t).free ≤ size → HasAt g.code pc (test program.adts (Some t) n)
+        → length slots ≡ size → SlotsName slots [] → Handled t → (lower program.adts 0 t).free ≤ size
+        → HasAt g.code pc (test program.adts (Some t) n)
         → D (pc + length (test program.adts (Some t) n)) (after true) → D (pc + length (test program.adts (Some t) n) + n) (after false)
         → Going limit program (F j pc variables slots) [] (C t)
     tests_so j pc n variables slots t C after c ends_so steps e names h fits has hit miss =
@@ -152,9 +166,11 @@ module _ (limit : ℕ) (program : Program) where
         expression_goes t C c ends_so (F j pc variables slots) h (omega arith) (has_front g.code pc w (Unless x.value n ∷ []) has) names
         (λ j2 variables2 slots2 v long names2 number.
         let pc2 : ℕ = pc + length w in
-        going (decides_by j2 pc2 n x.value variables2 slots2 v (C (Evaluated v)) after (has_back g.code pc w (Unless x.value n ∷ []) has).0 names2 number
+        going (decides_by j2 pc2 n x.value variables2 slots2 v (C (Evaluated v)) after (has_back g.code pc w (Unless x.value n ∷ [])
+        has).0 names2 number
         (steps j2 pc2 variables2 slots2 v)
-        (out j2 (suc pc2) variables2 slots2 (after true) (long ∙ e) names2 (does_at program.adts g.code size end (suc pc2) (after true) (omega arith) hit))
+        (out j2 (suc pc2) variables2 slots2 (after true) (long ∙ e) names2 (does_at program.adts g.code size end (suc pc2) (after true)
+        (omega arith) hit))
         (out j2 (suc pc2 + n) variables2 slots2 (after false) (long ∙ e) names2
         (does_at program.adts g.code size (end + n) (suc pc2 + n) (after false) (omega arith) miss))))
 
@@ -169,7 +185,8 @@ module _ (limit : ℕ) (program : Program) where
     turned_some c None body rest x e = absurd cc
     turned_some c (Some y) body rest x e = let f : y ≡ x = cc in ap (λ (z : Term). Then (Eval z) (Again (Looping c (Some y) body) rest)) f
 
-    tested_some : (c n : Option Term) (body rest : Block) (x : Term) → c ≡ Some x → tested (Looping c n body) rest ≡ Then (While x (Looping c n body)) rest
+    tested_some : (c n : Option Term) (body rest : Block) (x : Term) → c ≡ Some x → tested (Looping c n body) rest ≡ Then
+        (While x (Looping c n body)) rest
     tested_some None n body rest x e = absurd cc
     tested_some (Some y) n body rest x e = let f : y ≡ x = cc in ap (λ (z : Term). Then (While z (Looping (Some y) n body)) rest) f
 
@@ -192,12 +209,14 @@ module _ (limit : ℕ) (program : Program) where
     back_to pc n pc' e = omega arith
 
     -- The way back, which stands for a step.
-    turns_back : (j pc pc' n : ℕ) (variables : List Value) (slots : Slots) (todo after : Block) → slice_get g.code pc ≡ Some (Back n) → pc' + n ≡ pc
+    turns_back : (j pc pc' n : ℕ) (variables : List Value) (slots : Slots) (todo after : Block) → slice_get g.code pc ≡ Some (Back n)
+        → pc' + n ≡ pc
         → length slots ≡ size → SlotsName slots [] → Quiet limit program (F j pc variables slots) [] todo after → D pc' after
         → Going limit program (F j pc variables slots) [] todo
     turns_back j pc pc' n variables slots todo after i e long names q d =
         control j pc (pc - n) variables slots todo after (Back n) i names (λ w m below p. refl) q
-        (pc_is limit program g j pc' (pc - n) variables slots [] after (sym (back_to pc n pc' e)) (out j pc' variables slots after long names d))
+        (pc_is limit program g j pc' (pc - n) variables slots [] after (sym (back_to pc n pc' e))
+        (out j pc' variables slots after long names d))
 
     -- ---- loops that begin with their test
 
@@ -213,12 +232,16 @@ module _ (limit : ℕ) (program : Program) where
         let same : head ≡ test program.adts (Some c) n = ap (λ (o : Option Term). test program.adts o n) ec in
         let m = length-append (tested_body program.adts l) (whole_if program.adts l.next) in
         let m2 = ap length same in
-        tests_so j start n variables slots c (λ t. Then (While t (loop_of l)) rest) (λ b. Then Over (chosen b (entered (loop_of l) rest) rest))
-        (in_while limit program (loop_of l) rest) (λ v. refl) (λ j2 pc2 variables2 slots2 v w q below. refl) e names (handled_some l.condition c ec h.0)
+        tests_so j start n variables slots c (λ t. Then (While t (loop_of l)) rest)
+        (λ b. Then Over (chosen b (entered (loop_of l) rest) rest))
+        (in_while limit program (loop_of l) rest) (λ v. refl) (λ j2 pc2 variables2 slots2 v w q below. refl) e names
+        (handled_some l.condition c ec h.0)
         (free_some l.condition c ec s1) (subst (HasAt g.code start) same has_head)
-        (over (does_at program.adts g.code size (start + length head) (start + length (test program.adts (Some c) n)) (entered (loop_of l) rest) (omega arith)
+        (over (does_at program.adts g.code size (start + length head) (start + length (test program.adts (Some c) n))
+        (entered (loop_of l) rest) (omega arith)
         (tested_enters program.adts g.code size start l rest at)))
-        (over (does_at program.adts g.code size (suc (tested_back program.adts start l)) (start + length (test program.adts (Some c) n) + n) rest (omega arith) d))
+        (over (does_at program.adts g.code size (suc (tested_back program.adts start l)) (start + length (test program.adts (Some c) n) +
+        n) rest (omega arith) d))
 
     tested_back_has : (start : ℕ) (l : LoopIn) (rest : Block) → TestedAt program.adts g.code size start l rest
         → (n : ℕ) × (slice_get g.code (tested_back program.adts start l) ≡ Some (Back n)) × (start + n ≡ tested_back program.adts start l)
@@ -229,8 +252,11 @@ module _ (limit : ℕ) (program : Program) where
         let m = length-append bc nc in
         let back = Back (length head + length (bc ++ nc)) ∷ [] in
         let h1 = has_back g.code (start + length head) (bc ++ nc) back (has_back g.code start head ((bc ++ nc) ++ back) has) in
-        let z : start + length head + length (bc ++ nc) ≡ tested_back program.adts start l = omega arith in
-        (length head + length (bc ++ nc), subst (λ (q : ℕ). slice_get g.code q ≡ Some (Back (length head + length (bc ++ nc)))) z h1.0, omega arith)
+        let z : start + length head + length (bc ++ nc) ≡ tested_back program.adts start l = omega arith in (
+          length head + length (bc ++ nc),
+          subst (λ (q : ℕ). slice_get g.code q ≡ Some (Back (length head + length (bc ++ nc)))) z h1.0,
+          omega arith,
+        )
 
     tested_next_has : (start : ℕ) (l : LoopIn) (rest : Block) (t : Term) → l.next ≡ Some t → TestedAt program.adts g.code size start l rest
         → HasAt g.code (tested_turn program.adts start l) (whole program.adts t) × Handled t × ((lower program.adts 0 t).free ≤ size)
@@ -243,10 +269,16 @@ module _ (limit : ℕ) (program : Program) where
         let h1 = has_back g.code (start + length head) bc nc (has_front g.code (start + length head) (bc ++ nc) back
         (has_back g.code start head ((bc ++ nc) ++ back) has)) in
         let same : nc ≡ whole program.adts t = ap (λ (o : Option Term). whole_if program.adts o) en in
-        let m = ap length same in
-        (subst (HasAt g.code (tested_turn program.adts start l)) same h1, handled_some l.next t en h.1, free_some l.next t en s2, omega arith)
+        let m = ap length same in (
+          subst (HasAt g.code (tested_turn program.adts start l)) same h1,
+          handled_some l.next t en h.1,
+          free_some l.next t en s2,
+          omega
+              arith,
+        )
 
-    tested_condition : (start : ℕ) (l : LoopIn) (rest : Block) → TestedAt program.adts g.code size start l rest → (c : Term) × (l.condition ≡ Some c)
+    tested_condition : (start : ℕ) (l : LoopIn) (rest : Block) → TestedAt program.adts g.code size start l rest
+        → (c : Term) × (l.condition ≡ Some c)
     tested_condition start l rest (tested_at c ec h s1 s2 s3 has d x) = (c, ec)
 
     tested_agains_goes : (start : ℕ) (l : LoopIn) (rest : Block) → TestedAt program.adts g.code size start l rest
@@ -255,12 +287,15 @@ module _ (limit : ℕ) (program : Program) where
     tested_agains_goes start l rest at j variables slots e names =
         let b = tested_back_has start l rest at in
         let c = tested_condition start l rest at in
-        turns_back j (tested_back program.adts start l) start b.0 variables slots (Again (loop_of l) rest) (Then (While c.0 (loop_of l)) rest) b.1 b.2 e names
-        (quiet_to j (tested_back program.adts start l) variables slots (Again (loop_of l) rest) (tested (loop_of l) rest) (Then (While c.0 (loop_of l)) rest)
+        turns_back j (tested_back program.adts start l) start b.0 variables slots (Again (loop_of l) rest)
+        (Then (While c.0 (loop_of l)) rest) b.1 b.2 e names
+        (quiet_to j (tested_back program.adts start l) variables slots (Again (loop_of l) rest) (tested (loop_of l) rest)
+        (Then (While c.0 (loop_of l)) rest)
         (tested_some l.condition l.next l.body rest c.0 c.1) (λ w n below. refl))
         (tests start l c.0 c.1 at)
 
-    tested_turns_goes : (start : ℕ) (l : LoopIn) (rest : Block) (o : Option Term) → l.next ≡ o → TestedAt program.adts g.code size start l rest
+    tested_turns_goes : (start : ℕ) (l : LoopIn) (rest : Block) (o : Option Term) → l.next ≡ o → TestedAt program.adts g.code size start
+        l rest
         → (j : ℕ) (variables : List Value) (slots : Slots) → length slots ≡ size → SlotsName slots []
         → Going limit program (F j (tested_turn program.adts start l) variables slots) [] (Turn (loop_of l) rest)
     tested_turns_goes start l rest None en at j variables slots e names =
@@ -281,8 +316,10 @@ module _ (limit : ℕ) (program : Program) where
         (quiet_to j place variables slots (Turn (loop_of l) rest) (turned (loop_of l) rest) (Then (Eval t) (Again (loop_of l) rest))
         (turned_some l.condition l.next l.body rest t en) (λ w n below. refl))
         (stands_alone j place variables slots t (Again (loop_of l) rest) e names n.1 n.2 n.0
-        (λ j2 variables2 slots2 e2 names2. out j2 (place + length (whole program.adts t)) variables2 slots2 (Again (loop_of l) rest) e2 names2
-        (does_at program.adts g.code size (tested_back program.adts start l) (place + length (whole program.adts t)) (Again (loop_of l) rest) (sym n.3)
+        (λ j2 variables2 slots2 e2 names2. out j2 (place + length (whole program.adts t)) variables2 slots2 (Again (loop_of l) rest) e2
+        names2
+        (does_at program.adts g.code size (tested_back program.adts start l) (place + length (whole program.adts t))
+        (Again (loop_of l) rest) (sym n.3)
         (tested_agains start l at))))
 
     -- ---- loops that begin with their body
@@ -297,10 +334,15 @@ module _ (limit : ℕ) (program : Program) where
         let m = length-append bc nc in
         let back = Back (length (bc ++ nc) + length tc) ∷ [] in
         let h1 = has_back g.code (start + length (bc ++ nc)) tc back (has_back g.code start (bc ++ nc) (tc ++ back) has) in
-        let z : start + length (bc ++ nc) + length tc ≡ entered_test program.adts start l + length tc = omega arith in
-        (length (bc ++ nc) + length tc, subst (λ (q : ℕ). slice_get g.code q ≡ Some (Back (length (bc ++ nc) + length tc))) z h1.0, omega arith)
+        let z : start + length (bc ++ nc) + length tc ≡ entered_test program.adts start l + length tc = omega arith in (
+          length (bc ++ nc) + length tc,
+          subst (λ (q : ℕ). slice_get g.code q ≡ Some (Back (length (bc ++ nc) + length tc))) z h1.0,
+          omega
+              arith,
+        )
 
-    entered_tests_goes : (start : ℕ) (l : LoopIn) (c : Term) (rest : Block) → l.condition ≡ Some c → EnteredAt program.adts g.code size start l rest
+    entered_tests_goes : (start : ℕ) (l : LoopIn) (c : Term) (rest : Block) → l.condition ≡ Some c → EnteredAt program.adts g.code size
+        start l rest
         → (j : ℕ) (variables : List Value) (slots : Slots) → length slots ≡ size → SlotsName slots []
         → Going limit program (F j (entered_test program.adts start l) variables slots) [] (Then (While c (loop_of l)) rest)
     entered_tests_goes start l c rest ec (entered_at h s1 s2 s3 has d x) j variables slots e names =
@@ -317,17 +359,22 @@ module _ (limit : ℕ) (program : Program) where
         let same : tc ≡ test program.adts (Some c) 1 = ap (λ (o : Option Term). test program.adts o 1) ec in
         let m2 = ap length same in
         let at_back : place + length tc ≡ place + length (test program.adts (Some c) 1) = omega arith in
-        tests_so j place 1 variables slots c (λ t. Then (While t (loop_of l)) rest) (λ b. Then Over (chosen b (entered (loop_of l) rest) rest))
-        (in_while limit program (loop_of l) rest) (λ v. refl) (λ j2 pc2 variables2 slots2 v w q below. refl) e names (handled_some l.condition c ec h.0)
+        tests_so j place 1 variables slots c (λ t. Then (While t (loop_of l)) rest)
+        (λ b. Then Over (chosen b (entered (loop_of l) rest) rest))
+        (in_while limit program (loop_of l) rest) (λ v. refl) (λ j2 pc2 variables2 slots2 v w q below. refl) e names
+        (handled_some l.condition c ec h.0)
         (free_some l.condition c ec s1) (subst (HasAt g.code place) same (subst (λ (q : ℕ). HasAt g.code q tc) z has_test))
         (backs b.0 (subst (λ (q : ℕ). slice_get g.code q ≡ Some (Back b.0)) at_back b.1)
         (does_at program.adts g.code size start (place + length (test program.adts (Some c) 1) - b.0) (entered (loop_of l) rest)
         (let y = b.2 in omega arith) (entered_enters program.adts g.code size start l rest at)))
-        (over (does_at program.adts g.code size (suc (place + length tc)) (place + length (test program.adts (Some c) 1) + 1) rest (omega arith) d))
+        (over (does_at program.adts g.code size (suc (place + length tc)) (place + length (test program.adts (Some c) 1) + 1) rest
+        (omega arith) d))
 
     -- behind what is done between two turns
-    entered_on : (start : ℕ) (l : LoopIn) (rest : Block) (o : Option Term) → l.condition ≡ o → EnteredAt program.adts g.code size start l rest
-        → (todo : Block) → ((j pc : ℕ) (variables : List Value) (slots : Slots) → Quiet limit program (F j pc variables slots) [] todo (tested (loop_of l) rest))
+    entered_on : (start : ℕ) (l : LoopIn) (rest : Block) (o : Option Term) → l.condition ≡ o → EnteredAt program.adts g.code size start l
+        rest
+        → (todo : Block) → ((j pc : ℕ) (variables : List Value) (slots : Slots) → Quiet limit program (F j pc variables slots) [] todo
+        (tested (loop_of l) rest))
         → (j : ℕ) (variables : List Value) (slots : Slots) → length slots ≡ size → SlotsName slots []
         → Going limit program (F j (entered_test program.adts start l) variables slots) [] todo
     entered_on start l rest None ec at todo q j variables slots e names =
@@ -337,17 +384,20 @@ module _ (limit : ℕ) (program : Program) where
         let same : place + length (test program.adts l.condition 1) ≡ place = omega arith in
         turns_back j place start b.0 variables slots todo (Then (Enter (loop_of l)) rest)
         (subst (λ (p : ℕ). slice_get g.code p ≡ Some (Back b.0)) same b.1) (b.2 ∙ same) e names
-        (quiet_to j place variables slots todo (tested (loop_of l) rest) (Then (Enter (loop_of l)) rest) (tested_none l.condition l.next l.body rest ec)
+        (quiet_to j place variables slots todo (tested (loop_of l) rest) (Then (Enter (loop_of l)) rest)
+        (tested_none l.condition l.next l.body rest ec)
         (q j place variables slots))
         (enters (entered_enters program.adts g.code size start l rest at))
     entered_on start l rest (Some c) ec at todo q j variables slots e names =
         let place : ℕ = entered_test program.adts start l in
         softly (Then (While c (loop_of l)) rest)
-        (quiet_to j place variables slots todo (tested (loop_of l) rest) (Then (While c (loop_of l)) rest) (tested_some l.condition l.next l.body rest c ec)
+        (quiet_to j place variables slots todo (tested (loop_of l) rest) (Then (While c (loop_of l)) rest)
+        (tested_some l.condition l.next l.body rest c ec)
         (q j place variables slots))
         (entered_tests_goes start l c rest ec at j variables slots e names)
 
-    entered_next_has : (start : ℕ) (l : LoopIn) (rest : Block) (t : Term) → l.next ≡ Some t → EnteredAt program.adts g.code size start l rest
+    entered_next_has : (start : ℕ) (l : LoopIn) (rest : Block) (t : Term) → l.next ≡ Some t → EnteredAt program.adts g.code size start l
+        rest
         → HasAt g.code (entered_turn program.adts start l) (whole program.adts t) × Handled t × ((lower program.adts 0 t).free ≤ size)
         × (entered_turn program.adts start l + length (whole program.adts t) ≡ entered_test program.adts start l)
     entered_next_has start l rest t en (entered_at h s1 s2 s3 has d x) =
@@ -357,10 +407,16 @@ module _ (limit : ℕ) (program : Program) where
         let back = Back (length (bc ++ nc) + length tc) ∷ [] in
         let h1 = has_back g.code start bc nc (has_front g.code start (bc ++ nc) (tc ++ back) has) in
         let same : nc ≡ whole program.adts t = ap (λ (o : Option Term). whole_if program.adts o) en in
-        let m = ap length same in
-        (subst (HasAt g.code (entered_turn program.adts start l)) same h1, handled_some l.next t en h.1, free_some l.next t en s2, omega arith)
+        let m = ap length same in (
+          subst (HasAt g.code (entered_turn program.adts start l)) same h1,
+          handled_some l.next t en h.1,
+          free_some l.next t en s2,
+          omega
+              arith,
+        )
 
-    entered_turns_goes : (start : ℕ) (l : LoopIn) (rest : Block) (o : Option Term) → l.next ≡ o → EnteredAt program.adts g.code size start l rest
+    entered_turns_goes : (start : ℕ) (l : LoopIn) (rest : Block) (o : Option Term) → l.next ≡ o → EnteredAt program.adts g.code size
+        start l rest
         → (j : ℕ) (variables : List Value) (slots : Slots) → length slots ≡ size → SlotsName slots []
         → Going limit program (F j (entered_turn program.adts start l) variables slots) [] (Turn (loop_of l) rest)
     entered_turns_goes start l rest None en at j variables slots e names =
@@ -369,7 +425,8 @@ module _ (limit : ℕ) (program : Program) where
         let same : entered_test program.adts start l ≡ place = omega arith in
         subst (λ (q : ℕ). Going limit program (F j q variables slots) [] (Turn (loop_of l) rest)) same
         (entered_on start l rest l.condition refl at (Turn (loop_of l) rest)
-        (λ j2 pc2 variables2 slots2. quiet_to j2 pc2 variables2 slots2 (Turn (loop_of l) rest) (turned (loop_of l) rest) (tested (loop_of l) rest)
+        (λ j2 pc2 variables2 slots2. quiet_to j2 pc2 variables2 slots2 (Turn (loop_of l) rest) (turned (loop_of l) rest)
+        (tested (loop_of l) rest)
         (turned_none l.condition l.next l.body rest en) (λ w n below. refl)) j variables slots e names)
     entered_turns_goes start l rest (Some t) en at j variables slots e names =
         let place : ℕ = entered_turn program.adts start l in
@@ -378,15 +435,18 @@ module _ (limit : ℕ) (program : Program) where
         (quiet_to j place variables slots (Turn (loop_of l) rest) (turned (loop_of l) rest) (Then (Eval t) (Again (loop_of l) rest))
         (turned_some l.condition l.next l.body rest t en) (λ w n below. refl))
         (stands_alone j place variables slots t (Again (loop_of l) rest) e names n.1 n.2 n.0
-        (λ j2 variables2 slots2 e2 names2. out j2 (place + length (whole program.adts t)) variables2 slots2 (Again (loop_of l) rest) e2 names2
-        (does_at program.adts g.code size (entered_test program.adts start l) (place + length (whole program.adts t)) (Again (loop_of l) rest) (sym n.3)
+        (λ j2 variables2 slots2 e2 names2. out j2 (place + length (whole program.adts t)) variables2 slots2 (Again (loop_of l) rest) e2
+        names2
+        (does_at program.adts g.code size (entered_test program.adts start l) (place + length (whole program.adts t))
+        (Again (loop_of l) rest) (sym n.3)
         (entered_agains start l at))))
 
     -- ---- all places
 
     returns_goes : (j pc : ℕ) (variables : List Value) (slots : Slots) (todo : Block) (held : List (Option ℕ)) (i : Instr) (v : Value)
         → slice_get g.code pc ≡ Some i → SlotsName slots held
-        → ((w : Shared) (n : ℕ) (below : List Frame) (p : Option Writing) → obeys limit program w (coded n (F j pc variables slots) below p) i
+        → ((w : Shared) (n : ℕ) (below : List Frame) (p : Option Writing) → obeys limit program w (coded n (F j pc variables slots) below
+        p) i
         ≡ machine.returns program.adts w (coded n (F j pc variables slots) below p) below v)
         → ((w : Shared) (n : ℕ) (below : List source.Frame)
         → sstep limit program w (sourced n (beside (F j pc variables slots) held todo) below)
@@ -395,7 +455,8 @@ module _ (limit : ℕ) (program : Program) where
     returns_goes j pc variables slots todo held i v e names does steps =
         obeying i names e (λ w. stands.returns v (does w) (λ n below. steps w n below))
 
-    pub does_goes : (pc : ℕ) (todo : Block) → D pc todo → (j : ℕ) (variables : List Value) (slots : Slots) → length slots ≡ size → SlotsName slots []
+    pub does_goes : (pc : ℕ) (todo : Block) → D pc todo → (j : ℕ) (variables : List Value) (slots : Slots) → length slots ≡ size
+        → SlotsName slots []
         → Going limit program (F j pc variables slots) [] todo
     does_goes pc todo (ends i) j variables slots e names =
         returns_goes j pc variables slots Done [] (code.Return None) nothing i names (λ w n below p. refl) (λ w n below. refl)
@@ -411,13 +472,16 @@ module _ (limit : ℕ) (program : Program) where
         stands_alone j pc variables slots t rest e names r.0 r.1 has
         (λ j2 variables2 slots2 e2 names2. out j2 (pc + length (whole program.adts t)) variables2 slots2 rest e2 names2 d)
     does_goes pc todo (chooses {t = t} {a = a} {b = b} {rest = rest} n r has d f) j variables slots e names =
-        tests_so j pc n variables slots t (λ x. Then (If x a b) rest) (λ x. Then Over (join (chosen x a b) (Then Over rest))) (in_if limit program a b rest)
+        tests_so j pc n variables slots t (λ x. Then (If x a b) rest) (λ x. Then Over (join (chosen x a b) (Then Over rest)))
+        (in_if limit program a b rest)
         (λ v. refl) (λ j2 pc2 variables2 slots2 v w q below. refl) e names r.0 r.1 has (over d) (over f)
     does_goes pc todo (breaks {n = n} {rest = rest} k i d) j variables slots e names =
-        control j pc (suc pc + k) variables slots (Then (Break n) rest) (behind n rest) (Jump k) i names (λ w m below p. refl) (λ w m below. refl)
+        control j pc (suc pc + k) variables slots (Then (Break n) rest) (behind n rest) (Jump k) i names (λ w m below p. refl)
+        (λ w m below. refl)
         (out j (suc pc + k) variables slots (behind n rest) e names d)
     does_goes pc todo (continues {n = n} {rest = rest} k i d) j variables slots e names =
-        control j pc (suc pc + k) variables slots (Then (Continue n) rest) (at_turn n rest) (Jump k) i names (λ w m below p. refl) (λ w m below. refl)
+        control j pc (suc pc + k) variables slots (Then (Continue n) rest) (at_turn n rest) (Jump k) i names (λ w m below p. refl)
+        (λ w m below. refl)
         (out j (suc pc + k) variables slots (at_turn n rest) e names d)
     does_goes pc todo (returns {t = t} {rest = rest} r has) j variables slots e names =
         let x = lower program.adts 0 t in
@@ -432,21 +496,26 @@ module _ (limit : ℕ) (program : Program) where
         (has_front g.code pc x.code last has) room
         (λ j2 variables2 slots2 v got held' y ev b eq.
         let room2 = room_behind slots slots2 0 x.free x.free x.drops [] got held' (omega arith) (omega arith) room y eq in
-        going (returns_goes j2 (pc + length x.code) variables2 slots2 (Then (tree.Return (Evaluated v)) rest) held' (code.Return (Some x.value)) v
+        going (returns_goes j2 (pc + length x.code) variables2 slots2 (Then (tree.Return (Evaluated v)) rest) held'
+        (code.Return (Some x.value)) v
         (has_back g.code pc x.code last has).0 room2.names
-        (λ w n below p. ap (λ (z : Slot). machine.returns program.adts w (coded n (F j2 (pc + length x.code) variables2 slots2) below p) below (value_of z)) ev)
+        (λ w n below p. ap (λ (z : Slot). machine.returns program.adts w (coded n (F j2 (pc + length x.code) variables2 slots2) below p)
+        below (value_of z)) ev)
         (λ w n below. refl)))
     does_goes pc todo (leaves {rest = rest} i) j variables slots e names =
         returns_goes j pc variables slots (Then Leave rest) [] (code.Return None) nothing i names (λ w n below p. refl) (λ w n below. refl)
     does_goes pc todo (enters {l = l} {rest = rest} d) j variables slots e names =
         softly (entered l rest) (λ w n below. refl) (does_goes pc (entered l rest) d j variables slots e names)
-    does_goes pc todo (tests {rest = rest} start l c ec at) j variables slots e names = tests_goes start l c rest ec at j variables slots e names
+    does_goes pc todo (tests {rest = rest} start l c ec at) j variables slots e names = tests_goes start l c rest ec at j variables slots
+        e names
     does_goes pc todo (tested_turns {rest = rest} start l at) j variables slots e names =
         tested_turns_goes start l rest l.next refl at j variables slots e names
-    does_goes pc todo (tested_agains {rest = rest} start l at) j variables slots e names = tested_agains_goes start l rest at j variables slots e names
+    does_goes pc todo (tested_agains {rest = rest} start l at) j variables slots e names = tested_agains_goes start l rest at j variables
+        slots e names
     does_goes pc todo (entered_tests {rest = rest} start l c ec at) j variables slots e names =
         entered_tests_goes start l c rest ec at j variables slots e names
     does_goes pc todo (entered_turns {rest = rest} start l at) j variables slots e names =
         entered_turns_goes start l rest l.next refl at j variables slots e names
     does_goes pc todo (entered_agains {rest = rest} start l at) j variables slots e names =
-        entered_on start l rest l.condition refl at (Again (loop_of l) rest) (λ j2 pc2 variables2 slots2 w n below. refl) j variables slots e names
+        entered_on start l rest l.condition refl at (Again (loop_of l) rest) (λ j2 pc2 variables2 slots2 w n below. refl) j variables
+        slots e names

@@ -210,7 +210,8 @@ module _ (defs : List Def) where
         let b = lower defs (suc a.free) r in
         let p = term_up defs lo l in
         let q = term_up defs (suc a.free) r in
-        touch_more (Between lo (suc b.free)) a.drops _ (touch_wide lo a.free lo (suc b.free) a.drops (omega arith) (omega arith) (drops_within lo l))
+        touch_more (Between lo (suc b.free)) a.drops _ (touch_wide lo a.free lo (suc b.free) a.drops (omega arith) (omega arith)
+        (drops_within lo l))
         (touch_if (Between lo (suc b.free)) (may_hold defs r) _ (
           (p, omega arith),
           touch_wide (suc a.free) b.free lo (suc b.free) b.drops (omega arith) (omega arith) (drops_within (suc a.free) r),
@@ -223,8 +224,10 @@ module _ (defs : List Def) where
         let hi = suc b.free in
         touch_more (Between lo hi) a.drops _ (touch_wide lo a.free lo hi a.drops (omega arith) (omega arith) (all_within lo ts))
         (touch_more (Between lo hi) (drops_from a.free 0 (count_of defs t)) _ (touch_from lo hi a.free 0 (count_of defs t) p (omega arith))
-        (touch_more (Between lo hi) b.drops _ (touch_wide (suc a.free) b.free lo hi b.drops (omega arith) (omega arith) (all_within (suc a.free) us))
-        (touch_if (Between lo hi) (work_refers defs t (Operate o)) _ (touch_from lo hi b.free 0 (count_of defs t) (omega arith) (omega arith)))))
+        (touch_more (Between lo hi) b.drops _ (touch_wide (suc a.free) b.free lo hi b.drops (omega arith) (omega arith)
+        (all_within (suc a.free) us))
+        (touch_if (Between lo hi) (work_refers defs t (Operate o)) _ (touch_from lo hi b.free 0 (count_of defs t) (omega arith)
+        (omega arith)))))
     drops_within lo (Fill t l is rest) =
         let n = lower defs lo l in
         let s = suc n.free in

@@ -1,6 +1,7 @@
 -- Expressions: what the code of a tree does is what the tree does, whatever comes behind.
 use Rattle.std.proofs.Common.{◌≡◌, ℕ, ℤ, suc, pos, ◌+◌, ◌-◌, ◌<◌, ◌≤◌, Bool, true, false, List, [], ◌∷◌, ◌++◌, length, Option, Some}
-use Rattle.std.proofs.Common.{None, Ok, Err, refl, sym, ap, subst, ◌∙◌, arith, append-nil, append_assoc, length-append, inl, inr, ⊎_elim, ◌⊎◌}
+use Rattle.std.proofs.Common.{None, Ok, Err, refl, sym, ap, subst, ◌∙◌, arith, append-nil, append_assoc, length-append, inl, inr}
+use Rattle.std.proofs.Common.{⊎_elim, ◌⊎◌}
 use Rattle.std.specs.Prelude.{slice_get, if◌then◌else◌}
 use Rattle.limbo_types.specs.Types.{Ty}
 use Rattle.limbo_layout.specs.Adts.{Def}
@@ -19,7 +20,8 @@ use Rattle.limbo_meaning.specs.Trees.{Aim, Term, Evaluated, Node, Lazy, Deciding
 use Rattle.limbo_meaning.specs.Trees.{NoTerms, MoreTerms}
 use Rattle.limbo_meaning.specs.Evaluation as evaluation
 use Rattle.limbo_meaning.specs.Evaluation.{Progress, Finished, Stepped, after, unless_raised, next, next_all, fill, fill_all, performed}
-use Rattle.limbo_meaning.specs.Evaluation.{passes_on, got_by, work_refers, refers, may_hold, note, operands_for, decided, reads_first, changes}
+use Rattle.limbo_meaning.specs.Evaluation.{passes_on, got_by, work_refers, refers, may_hold, note, operands_for, decided, reads_first}
+use Rattle.limbo_meaning.specs.Evaluation.{changes}
 use Rattle.limbo_meaning.specs.Evaluation.{given_by}
 use Rattle.limbo_meaning.specs.Program.{Program}
 use Rattle.core_code.specs.Slots.{Slot, Holds, Slots, slot, put, value_of, values_of, slot_names}
@@ -82,7 +84,8 @@ module _ (limit : ℕ) (program : Program) where
   GoesBy lo t x =
       (C : Term → Block) → Carries limit program (next program.adts) fill C → (g : Frame) (held : List (Option ℕ))
       → HasAt g.code g.pc x.code → Room g.slots lo x.free held
-      → Behind limit program g lo x.free x.value (g.pc + length x.code) x.drops held (λ v. C (Evaluated v)) → Going limit program g held (C t)
+      → Behind limit program g lo x.free x.value (g.pc + length x.code) x.drops held (λ v. C (Evaluated v)) → Going limit program g held
+      (C t)
 
   -- Operands behind which a step of the program may come that no instruction stands for, or an instruction.
   abbrev pub Comes : Bool → Frame → List (Option ℕ) → Block → Type 0
@@ -97,7 +100,8 @@ module _ (limit : ℕ) (program : Program) where
   begun b NoTerms = b
   begun b (MoreTerms t ts) = true
 
-  pub begins : (ts : Terms) (g : Frame) (held : List (Option ℕ)) (todo : Block) → Comes (begun true ts) g held todo → Going limit program g held todo
+  pub begins : (ts : Terms) (g : Frame) (held : List (Option ℕ)) (todo : Block) → Comes (begun true ts) g held todo → Going limit program
+      g held todo
   begins NoTerms g held todo x = x
   begins (MoreTerms t ts) g held todo x = x
 
@@ -105,7 +109,8 @@ module _ (limit : ℕ) (program : Program) where
   AllBy b lo ts x =
       (C : Terms → Block) → Carries limit program (next_all program.adts) fill_all C → (g : Frame) (held : List (Option ℕ))
       → HasAt g.code g.pc x.code → Room g.slots lo x.free held
-      → ((j : ℕ) (variables : List Value) (slots : Slots) (vs : List Value) (got held' : List (Option ℕ)) → Holding g.slots slots lo x.free x.drops got
+      → ((j : ℕ) (variables : List Value) (slots : Slots) (vs : List Value) (got held' : List (Option ℕ)) → Holding g.slots slots lo
+      x.free x.drops got
       → AllHold slots x.values vs → AllBetween lo x.free x.values → held' ≡ held ++ got
       → Comes b (spot g j (g.pc + length x.code) variables slots) held' (C (evaluated vs)))
       → Comes (begun b ts) g held (C ts)
@@ -141,7 +146,8 @@ module _ (limit : ℕ) (program : Program) where
       → GoesBy lo (Node t o ts) (record { code = l.code ++ is; drops = l.drops ++ ds; value = into; free = hi })
   by_own lo hi into t o ts l is ds p q own all C c g held has room k =
       begins ts g held (C (Node t o ts))
-      (all (λ us. C (Node t o us)) (in_node C c t o) g held (has_front g.code g.pc l.code is has) (room_front g.slots lo l.free hi held p q room)
+      (all (λ us. C (Node t o us)) (in_node C c t o) g held (has_front g.code g.pc l.code is has) (room_front g.slots lo l.free hi held p
+      q room)
       (behind_operands (Going limit program) lo hi into t o ts l is ds p q own C c g held has room k))
 
   -- one that has no drops of its own
@@ -152,8 +158,14 @@ module _ (limit : ℕ) (program : Program) where
       subst (λ (es : List Instr). GoesBy lo t (record { code = is; drops = es; value = into; free = hi })) (append-nil ds) x
 
   -- an assignment that writes nothing: a step without an instruction
-  by_nothing : (lo : ℕ) (t : Ty) (u : Term) (ts : Terms) (l : LoweredAll) → lo ≤ l.free → 0 < length l.values → AllBy false lo (MoreTerms u ts) l
-      → GoesBy lo (Node t (tree.Assign []) (MoreTerms u ts)) (record { code = l.code ++ []; drops = l.drops; value = slot_at 0 l.values; free = l.free })
+  by_nothing : (lo : ℕ) (t : Ty) (u : Term) (ts : Terms) (l : LoweredAll) → lo ≤ l.free → 0 < length l.values
+      → AllBy false lo (MoreTerms u ts) l
+      → GoesBy lo (Node t (tree.Assign []) (MoreTerms u ts)) (record {
+        code = l.code ++ [];
+        drops = l.drops;
+        value = slot_at 0 l.values;
+        free = l.free;
+      })
   by_nothing lo t u ts l p q all =
       same_drops lo (Node t (tree.Assign []) (MoreTerms u ts)) (l.code ++ []) l.drops (slot_at 0 l.values) l.free
       (λ C c g held has room k.
@@ -165,8 +177,10 @@ module _ (limit : ℕ) (program : Program) where
   node_goes : (lo : ℕ) (u t : Ty) (o : Work) (ts : Terms) (l : LoweredAll) → lo ≤ l.free → length l.values ≡ count ts → Suits o (count ts)
       → ((b : Bool) → AllBy b lo ts l) → GoesBy lo (Node t o ts) (node program.adts u t o l)
   node_goes lo u t (Operate o) ts l p n s all =
-      subst (λ (b : Bool). GoesBy lo (Node t (Operate o) ts) (if b then gathers program.adts t o l else gives program.adts t (Operate o) l)) (sym s)
-      (by_own lo (suc l.free) l.free t (Operate o) ts l _ _ p (omega arith) (own_gives limit program lo l.free t (Operate o) l.values s p) (all true))
+      subst (λ (b : Bool). GoesBy lo (Node t (Operate o) ts) (if b then gathers program.adts t o l else gives program.adts t (Operate o)
+      l)) (sym s)
+      (by_own lo (suc l.free) l.free t (Operate o) ts l _ _ p (omega arith) (own_gives limit program lo l.free t (Operate o) l.values s
+      p) (all true))
   node_goes lo u t (tree.Assign []) NoTerms l p n s all = absurd (omega arith)
   node_goes lo u t (tree.Assign []) (MoreTerms x ts) l p n s all = by_nothing lo t x ts l p (omega arith) (all false)
   node_goes lo u t (tree.Assign (a ∷ aims)) ts l p n s all =
@@ -176,7 +190,8 @@ module _ (limit : ℕ) (program : Program) where
   node_goes lo u t (tree.TakePart k) ts l p n s all = absurd s
   node_goes lo u t tree.Copy ts l p n s all =
       same_drops lo _ _ l.drops _ l.free
-      (by_own lo l.free (slot_at 2 l.values) t tree.Copy ts l _ [] p (omega arith) (own_copy limit program lo l.free t l.values (omega (arith, n, s)))
+      (by_own lo l.free (slot_at 2 l.values) t tree.Copy ts l _ [] p (omega arith) (own_copy limit program lo l.free t l.values
+      (omega (arith, n, s)))
       (all true))
   node_goes lo u t tree.Link ts l p n s all =
       by_own lo (suc (l.free + (length l.values - 1))) (l.free + (length l.values - 1)) t tree.Link ts l _ _ p (omega arith)
@@ -185,19 +200,24 @@ module _ (limit : ℕ) (program : Program) where
       by_own lo (suc l.free) l.free t (tree.Call f) ts l _ _ p (omega arith) (own_call limit program lo l.free t f l.values p) (all true)
   node_goes lo u t (tree.Print ps) ts l p n s all =
       same_drops lo _ _ l.drops _ (suc l.free)
-      (by_own lo (suc l.free) l.free t (tree.Print ps) ts l _ [] p (omega arith) (own_print limit program lo l.free t ps l.values p) (all true))
+      (by_own lo (suc l.free) l.free t (tree.Print ps) ts l _ [] p (omega arith) (own_print limit program lo l.free t ps l.values p)
+      (all true))
   node_goes lo u t tree.NewChannel ts l p n s all =
       by_own lo (suc l.free) l.free t tree.NewChannel ts l _ _ p (omega arith) (own_channel limit program lo l.free t l.values p) (all true)
   node_goes lo u t (tree.Literal c) ts l p n s all =
-      by_own lo (suc l.free) l.free t (tree.Literal c) ts l _ _ p (omega arith) (own_gives limit program lo l.free t (tree.Literal c) l.values tt p)
+      by_own lo (suc l.free) l.free t (tree.Literal c) ts l _ _ p (omega arith) (own_gives limit program lo l.free t (tree.Literal c)
+      l.values tt p)
       (all true)
   node_goes lo u t tree.Nil ts l p n s all =
-      by_own lo (suc l.free) l.free t tree.Nil ts l _ _ p (omega arith) (own_gives limit program lo l.free t tree.Nil l.values tt p) (all true)
+      by_own lo (suc l.free) l.free t tree.Nil ts l _ _ p (omega arith) (own_gives limit program lo l.free t tree.Nil l.values tt p)
+      (all true)
   node_goes lo u t (tree.Read w) ts l p n s all =
-      by_own lo (suc l.free) l.free t (tree.Read w) ts l _ _ p (omega arith) (own_gives limit program lo l.free t (tree.Read w) l.values tt p)
+      by_own lo (suc l.free) l.free t (tree.Read w) ts l _ _ p (omega arith) (own_gives limit program lo l.free t (tree.Read w) l.values
+      tt p)
       (all true)
   node_goes lo u t (tree.Sprint ps) ts l p n s all =
-      by_own lo (suc l.free) l.free t (tree.Sprint ps) ts l _ _ p (omega arith) (own_gives limit program lo l.free t (tree.Sprint ps) l.values tt p)
+      by_own lo (suc l.free) l.free t (tree.Sprint ps) ts l _ _ p (omega arith) (own_gives limit program lo l.free t (tree.Sprint ps)
+      l.values tt p)
       (all true)
 
   -- ---- connectives
@@ -219,7 +239,8 @@ module _ (limit : ℕ) (program : Program) where
   holding_number : (slots : Slots) (s : ℕ) (z : ℤ) → s < length slots → Holding slots (put slots s (Holds (Num z))) s (suc s) [] []
   holding_number slots s z l = holding_put slots s (Num z) [] [] l (owns_none s (Num z) (λ n. refl))
 
-  drops_split : (h : Bool) (d n : ℕ) (ds : List Instr) → (h ≡ false → ds ≡ []) → drops_if h (Mirror d n ∷ ds) ≡ drops_if h (Mirror d n ∷ []) ++ ds
+  drops_split : (h : Bool) (d n : ℕ) (ds : List Instr) → (h ≡ false → ds ≡ []) → drops_if h (Mirror d n ∷ ds) ≡ drops_if h
+      (Mirror d n ∷ []) ++ ds
   drops_split true d n ds e = refl
   drops_split false d n ds e = sym (e refl)
 
@@ -263,14 +284,17 @@ module _ (limit : ℕ) (program : Program) where
             (sym (append-nil ds)) refl none;
         within = ((omega arith, omega arith), t);
         names = name_clean two d (suc hi) (omega arith)
-            (clean_put one hi d (suc hi) (Holds (Num z)) (omega arith) (λ n. refl) (clean_put slots d d (suc hi) (Holds (Num (pos 1))) (omega arith) (λ n. refl) c));
+            (clean_put one hi d (suc hi) (Holds (Num z)) (omega arith) (λ n. refl) (clean_put slots d d (suc hi) (Holds (Num (pos 1)))
+            (omega arith) (λ n. refl) c));
       }
   shut_holding false slots d hi ds z l m c t = record {
     long = put_long slots hi (Holds (Num z));
-    same = λ s b. put_other slots hi s (Holds (Num z)) (λ e. absurd (elim b [ inl x ↦ omega (arith, x, e, l) | inr x ↦ omega (arith, x, e) ]));
+    same = λ s b. put_other slots hi s (Holds (Num z)) (λ e. absurd
+        (elim b [ inl x ↦ omega (arith, x, e, l) | inr x ↦ omega (arith, x, e) ]));
     dropping = none;
     within = tt;
-    names = name_clean (put slots hi (Holds (Num z))) d (suc hi) (omega arith) (clean_put slots hi d (suc hi) (Holds (Num z)) m (λ n. refl) c);
+    names = name_clean (put slots hi (Holds (Num z))) d (suc hi) (omega arith) (clean_put slots hi d (suc hi) (Holds (Num z)) m
+        (λ n. refl) c);
   }
 
   abbrev noting : Bool → (d : ℕ) → Option ℕ
@@ -290,7 +314,8 @@ module _ (limit : ℕ) (program : Program) where
       let x = truth_of v in
       let slots1 = machine.noted g.slots (noting h d) true in
       let slots2 = put slots1 hi (Holds x) in
-      gives_always limit program C c g held (note h) (Lazy k (Evaluated v) r) (Evaluated x) (skipping k h d hi from n) (suc g.pc + n) slots2 i room.names
+      gives_always limit program C c g held (note h) (Lazy k (Evaluated v) r) (Evaluated x) (skipping k h d hi from n) (suc g.pc + n)
+      slots2 i room.names
       (λ w m below p.
       ap (λ (b : Bool). machine.left_decides limit (code_of program) w (coded m g below p) hi (noting h d) from n b)
       (ap (λ (y : Slot). decides k (value_of y)) e ∙ eb)
@@ -315,7 +340,8 @@ module _ (limit : ℕ) (program : Program) where
       → Going limit program g held (C (Lazy k (Evaluated v) r))
   open_goes C c k r v h d hi from n m g held eh eb i room e done =
       let slots1 = machine.noted g.slots (noting h d) false in
-      gives_always limit program C c g held (note h) (Lazy k (Evaluated v) r) (Deciding r) (skipping k h d hi from n) (suc g.pc) slots1 i room.names
+      gives_always limit program C c g held (note h) (Lazy k (Evaluated v) r) (Deciding r) (skipping k h d hi from n) (suc g.pc) slots1 i
+      room.names
       (λ w q below p.
       ap (λ (b : Bool). machine.left_decides limit (code_of program) w (coded q g below p) hi (noting h d) from n b)
       (ap (λ (y : Slot). decides k (value_of y)) e ∙ eb))
@@ -324,13 +350,15 @@ module _ (limit : ℕ) (program : Program) where
       (done slots1 (open_holding h g.slots d m (let q = room.fits in omega arith) room.clean))
 
   truth_goes : (C : Term → Block) → Carries limit program (next program.adts) fill C → (v : Value) (into from : ℕ) (g : Frame)
-      (held : List (Option ℕ)) → slice_get g.code g.pc ≡ Some (Truth into from) → Room g.slots into (suc into) held → slot g.slots from ≡ Holds v
+      (held : List (Option ℕ)) → slice_get g.code g.pc ≡ Some (Truth into from) → Room g.slots into (suc into) held → slot g.slots from ≡
+      Holds v
       → Behind limit program g into (suc into) into (suc g.pc) [] held (λ x. C (Evaluated x))
       → Going limit program g held (C (Deciding (Evaluated v)))
   truth_goes C c v into from g held i room e done =
       let x = truth_of v in
       let l : into < length g.slots = let q = room.fits in omega arith in
-      gives_always limit program C c g held [] (Deciding (Evaluated v)) (Evaluated x) (Truth into from) (suc g.pc) (put g.slots into (Holds x)) i room.names
+      gives_always limit program C c g held [] (Deciding (Evaluated v)) (Evaluated x) (Truth into from) (suc g.pc)
+      (put g.slots into (Holds x)) i room.names
       (λ w m below p. ap (λ (y : Slot). machine.goes_on w (coded m g below p) (put g.slots into (Holds (truth_of (value_of y))))) e)
       (λ w. refl)
       (done g.into g.variables (put g.slots into (Holds x)) x [] (held ++ [])
@@ -384,7 +412,8 @@ module _ (limit : ℕ) (program : Program) where
       (touch_wide (suc d) b.free d hi b.drops (omega arith) (omega arith) touch)
       (λ j2 variables2 slots2 x got2 held2 h2 e2 b2 eq2.
       pc_is limit program g j2 end (suc start + suc (length b.code)) variables2 slots2 held2 (C (Evaluated x)) (omega arith)
-      (done j2 variables2 slots2 x (got ++ got2) held2 (holding_more g.slots slots slots2 lo d hi a.drops R got got2 up_left (omega arith) h1 h2)
+      (done j2 variables2 slots2 x (got ++ got2) held2 (holding_more g.slots slots slots2 lo d hi a.drops R got got2 up_left
+      (omega arith) h1 h2)
       e2 (omega arith, omega arith) (onward held got got2 held1 held2 eq1 eq2))))
       (λ (eb : decides k v ≡ false).
       open_goes C c k r v h d b.free a.value (suc (length b.code)) (length b.drops) g1 held1 eh eb has_own.0
@@ -408,7 +437,8 @@ module _ (limit : ℕ) (program : Program) where
       (as_is g.slots slots4 lo hi (((a.drops ++ M) ++ b.drops) ++ []) (a.drops ++ R) (((got ++ note h) ++ got3) ++ got4)
       (((got ++ note h) ++ got3) ++ got4)
       (append-nil ((a.drops ++ M) ++ b.drops) ∙ append_assoc a.drops M b.drops ∙ ap (λ (ds : List Instr). a.drops ++ ds) (sym split)) refl
-      (holding_more g.slots slots3 slots4 lo b.free hi ((a.drops ++ M) ++ b.drops) [] ((got ++ note h) ++ got3) got4 (omega arith) (omega arith)
+      (holding_more g.slots slots3 slots4 lo b.free hi ((a.drops ++ M) ++ b.drops) [] ((got ++ note h) ++ got3) got4 (omega arith)
+      (omega arith)
       (holding_more g.slots slots2 slots3 lo (suc d) b.free (a.drops ++ M) b.drops (got ++ note h) got3 (omega arith) up_right
       (holding_more g.slots slots slots2 lo d (suc d) a.drops M got (note h) up_left (omega arith) h1 h2) h3) h4))
       e4 (omega arith, omega arith)
@@ -430,7 +460,8 @@ module _ (limit : ℕ) (program : Program) where
   reads_place : (t : Ty) (into : ℕ) (m : Memory) (o : Operation) (k : Given) (p : Place) (us : Terms) (r : Raising Value) → p.type ≡ t
       → Both into (drops_from into 0 (count_of program.adts t)) (λ v. Change o k p (MoreTerms (Evaluated v) us))
       (unless_raised r (evaluation.gets program.adts m t))
-      (unless_raised r (λ v. Stepped m (references (fitted program.adts p.type v)) (Change o k p (MoreTerms (Evaluated (fitted program.adts p.type v)) us))))
+      (unless_raised r (λ v. Stepped m (references (fitted program.adts p.type v))
+      (Change o k p (MoreTerms (Evaluated (fitted program.adts p.type v)) us))))
   reads_place t into m o k p us (Ok v) e =
       subst (λ (u : Ty). Both into (drops_from into 0 (count_of program.adts t)) (λ v. Change o k p (MoreTerms (Evaluated v) us))
       (Stepped m (references (fitted program.adts t v)) (Evaluated (fitted program.adts t v)))
@@ -450,7 +481,8 @@ module _ (limit : ℕ) (program : Program) where
   changes_place t into m o k way vs old true r e f = absurd cc
   changes_place t into m o k way vs old false (Ok r) e f =
       let v = fitted program.adts t r.value in
-      let left : Value → Term = λ v. Put (record { place = record { type = t; way = way; operands = vs }; value = v } ∷ []) (given_by k old v) in
+      let left : Value → Term = λ v. Put (record { place = record { type = t; way = way; operands = vs }; value = v } ∷ [])
+      (given_by k old v) in
       let g : got_by o v ≡ references v = ap (λ (c : Bool). if c then [] else references v) e in
       subst (λ (got : List (Option ℕ)). Both into (drops_if (refers program.adts t) (drops_from into 0 (count_of program.adts t))) left
       (Stepped r.memory got (Evaluated v)) (Stepped r.memory got (left v))) (sym g)
@@ -489,7 +521,8 @@ module _ (limit : ℕ) (program : Program) where
       let D : List Instr = drops_from d 0 (count_of program.adts t) in
       let E : List Instr = drops_if (work_refers program.adts t (Operate o)) (drops_from b.free 0 (count_of program.adts t)) in
       begins ts g held (C (Update o k t w ts us))
-      (gl (λ x. C (Update o k t w x us)) (carry limit program (next_all program.adts) fill_all (next program.adts) fill C c (λ x. Update o k t w x us)
+      (gl (λ x. C (Update o k t w x us)) (carry limit program (next_all program.adts) fill_all (next program.adts) fill C c
+      (λ x. Update o k t w x us)
       (λ m vs. reads_first program.adts m o k (record { type = t; way = w; operands = vs }) us) (λ m x. refl) (λ v x. refl))
       g held (has_front g.code g.pc a.code own has_ab) (room_front g.slots lo d hi held up_left (omega arith) room)
       (λ j variables slots vs got held1 h1 hold1 bs1 eq1.
@@ -500,7 +533,8 @@ module _ (limit : ℕ) (program : Program) where
       (λ v. Change o k p (MoreTerms (Evaluated v) us)) has_own.0 (room_front slots d (suc d) hi held1 (omega arith) (omega arith) room1)
       (λ x. subst (λ (y : Progress Value Term). Both d D (λ v. Change o k p (MoreTerms (Evaluated v) us))
       (performed program.adts (memory_of x g1) t (tree.Read w) (values_of slots a.values)) y)
-      (sym (ap (λ (q : Progress (List Value) Terms). after q (λ vs. reads_first program.adts (memory_of x g1) o k (record { type = t; way = w; operands = vs }) us)
+      (sym (ap (λ (q : Progress (List Value) Terms). after q (λ vs. reads_first program.adts (memory_of x g1) o k
+      (record { type = t; way = w; operands = vs }) us)
       (λ ts. Update o k t w ts us)) (evaluated_done limit program (memory_of x g1) vs)))
       (subst (λ (ys : List Value). Both d D (λ v. Change o k p (MoreTerms (Evaluated v) us))
       (performed program.adts (memory_of x g1) t (tree.Read w) ys) (reads_first program.adts (memory_of x g1) o k p us))
@@ -508,7 +542,8 @@ module _ (limit : ℕ) (program : Program) where
       (λ j2 variables2 slots2 old got2 held2 h2 e2 b2 eq2.
       let g2 = spot g1 j2 (suc start) variables2 slots2 in
       let room2 = room_behind slots slots2 d (suc d) hi D held1 got2 held2 (omega arith) (omega arith) room1 h2 eq2 in
-      let c1 = carry limit program (next_all program.adts) fill_all (next program.adts) fill C c (Change o k p) (λ m ws. changes program.adts m o k p ws)
+      let c1 = carry limit program (next_all program.adts) fill_all (next program.adts) fill C c (Change o k p)
+      (λ m ws. changes program.adts m o k p ws)
       (λ m x. refl) (λ v x. refl) in
       let c2 = carry limit program (next_all program.adts) fill_all (next_all program.adts) fill_all (λ x. C (Change o k p x)) c1
       (MoreTerms (Evaluated old)) (λ m ws. Finished (old ∷ ws)) (λ m x. refl) (λ v x. refl) in
@@ -525,15 +560,18 @@ module _ (limit : ℕ) (program : Program) where
       hold_same slots2 slots3 lo d a.values vs bs1 (λ s x. h3.same s (inl (let y = x.1 in omega (arith, y))))
       (hold_same slots slots2 lo d a.values vs bs1 (λ s x. h2.same s (inl x.1)) hold1) in
       let operands3 : values_of slots3 (d ∷ b.values) ≡ old ∷ ws =
-      ap (λ (x : Slot). value_of x ∷ values_of slots3 b.values) old3 ∙ ap (λ (ys : List Value). old ∷ ys) (hold_values slots3 b.values ws hold3) in
+      ap (λ (x : Slot). value_of x ∷ values_of slots3 b.values) old3 ∙ ap (λ (ys : List Value). old ∷ ys)
+      (hold_values slots3 b.values ws hold3) in
       let left : Value → Term = λ v. Put (record { place = p; value = v } ∷ []) (given_by k old v) in
       give_goes limit program C c g3 held3 (Change o k p (evaluated (old ∷ ws))) t (Operate o) b.free (d ∷ b.values) E left has3.0 room3
-      (λ x. subst (λ (y : Progress Value Term). Both b.free E left (performed program.adts (memory_of x g3) t (Operate o) (values_of slots3 (d ∷ b.values))) y)
+      (λ x. subst (λ (y : Progress Value Term). Both b.free E left (performed program.adts (memory_of x g3) t (Operate o)
+      (values_of slots3 (d ∷ b.values))) y)
       (sym (ap (λ (q : Progress (List Value) Terms). after q (λ ys. changes program.adts (memory_of x g3) o k p ys) (Change o k p))
       (evaluated_done limit program (memory_of x g3) (old ∷ ws))))
       (subst (λ (ys : List Value). Both b.free E left (performed program.adts (memory_of x g3) t (Operate o) ys)
       (changes program.adts (memory_of x g3) o k p (old ∷ ws))) (sym operands3)
-      (changes_place t b.free (memory_of x g3) o k w vs old (passes_on o) (result_of program.adts (memory_of x g3) t o (old ∷ ws)) refl op)))
+      (changes_place t b.free (memory_of x g3) o k w vs old (passes_on o) (result_of program.adts (memory_of x g3) t o (old ∷ ws)) refl
+      op)))
       (λ j4 variables4 slots4 new got4 held4 h4 e4 b4 eq4.
       let pc4 : ℕ = suc (suc start + length b.code) in
       let g4 = spot g3 j4 pc4 variables4 slots4 in
@@ -547,7 +585,8 @@ module _ (limit : ℕ) (program : Program) where
       let whole : Holding g.slots slots4 lo hi (update_drops a b o t) got_all =
       as_is g.slots slots4 lo hi (((a.drops ++ D) ++ b.drops) ++ E) (update_drops a b o t) got_all got_all
       (append_assoc (a.drops ++ D) b.drops E ∙ append_assoc a.drops D (b.drops ++ E)) refl
-      (holding_more g.slots slots3 slots4 lo b.free hi ((a.drops ++ D) ++ b.drops) E ((got ++ got2) ++ got3) got4 (omega arith) (omega arith)
+      (holding_more g.slots slots3 slots4 lo b.free hi ((a.drops ++ D) ++ b.drops) E ((got ++ got2) ++ got3) got4 (omega arith)
+      (omega arith)
       (holding_more g.slots slots2 slots3 lo (suc d) b.free (a.drops ++ D) b.drops (got ++ got2) got3 (omega arith) up_right
       (holding_more g.slots slots slots2 lo d (suc d) a.drops D got got2 up_left (omega arith) h1 h2) h3) h4) in
       let v : Value = given_by k old new in
@@ -590,17 +629,21 @@ module _ (limit : ℕ) (program : Program) where
       let g1 = spot g g.into (suc g.pc) g.variables slots in
       let held1 : held ≡ held ++ [] = sym (append-nil held) in
       going (own_writes limit program lo (suc lo) t a aims ss (omega (arith, none_there)) C c g1 held (v ∷ []) has.1
-      (room_behind g.slots slots lo (suc lo) (suc lo) [] held [] held (omega arith) (omega arith) room h1 held1) (e1, tt) ((omega arith, omega arith), tt)
+      (room_behind g.slots slots lo (suc lo) (suc lo) [] held [] held (omega arith) (omega arith) room h1 held1) (e1, tt)
+      ((omega arith, omega arith), tt)
       (λ j variables slots2 x got held' h2 e2 b2 eq2.
       pc_is limit program g j (g.pc + suc (length is)) (suc g.pc + length is) variables slots2 held' (C (Evaluated x)) (omega arith)
-      (done j variables slots2 x got held' (holding_more g.slots slots slots2 lo (suc lo) (suc lo) [] [] [] got (omega arith) (omega arith) h1 h2) e2 b2 eq2))))
+      (done j variables slots2 x got held' (holding_more g.slots slots slots2 lo (suc lo) (suc lo) [] [] [] got (omega arith)
+      (omega arith) h1 h2) e2 b2 eq2))))
 
   -- ---- all trees
 
   pub node_either : (lo : ℕ) (t : Ty) (o : Work) (ts : Terms) → (Suits o (count ts) × AllHandled ts) ⊎ Declares o ts
-      → (AllHandled ts → (b : Bool) → AllBy b lo ts (lower_all program.adts lo ts)) → GoesBy lo (Node t o ts) (lower program.adts lo (Node t o ts))
+      → (AllHandled ts → (b : Bool) → AllBy b lo ts (lower_all program.adts lo ts)) → GoesBy lo (Node t o ts)
+      (lower program.adts lo (Node t o ts))
   node_either lo t o ts (inl x) all =
-      node_goes lo (type_at program.adts 0 ts) t o ts (lower_all program.adts lo ts) (terms_up program.adts lo ts) (values_counted program.adts lo ts) x.0
+      node_goes lo (type_at program.adts 0 ts) t o ts (lower_all program.adts lo ts) (terms_up program.adts lo ts)
+      (values_counted program.adts lo ts) x.0
       (all x.1)
   node_either lo t (tree.Assign (a ∷ aims)) (MoreTerms (Evaluated v) NoTerms) (inr d) all =
       declared_goes lo (type_at program.adts 0 (MoreTerms (Evaluated v) NoTerms)) t a aims v d.0 d.1

@@ -11,7 +11,8 @@ use Rattle.limbo_meaning.specs.Trees.{Work, Operate, Term, Evaluated, Node, Lazy
 use Rattle.limbo_meaning.specs.Evaluation.{may_hold, work_refers, operands_for}
 use Rattle.core_code.specs.Code.{Drop}
 use Rattle.core_code.specs.Code.{Instr, Take}
-use Rattle.core_code.specs.Terms.{Lowered, LoweredAll, drops_from, drops_if, count_of, gives, gathers, cell_drops, slot_at, type_at, node, lower}
+use Rattle.core_code.specs.Terms.{Lowered, LoweredAll, drops_from, drops_if, count_of, gives, gathers, cell_drops, slot_at, type_at}
+use Rattle.core_code.specs.Terms.{node, lower}
 use Rattle.core_code.specs.Terms.{lower_all, given_slot}
 use Rattle.std.specs.Prelude.{max}
 use Rattle.core_code.specs.Terms.{lower_items, lower_rest, items_end, rest_end, named}
@@ -74,17 +75,20 @@ module _ (defs : List Def) where
   spare_cells s zero free = tt
   spare_cells s (suc n) free = (tt, spare_cells s n (suc free))
 
-  gives_valued : (lo : ℕ) (t : Ty) (o : Work) (l : LoweredAll) → lo ≤ l.free → AllTouch (Between lo l.free) l.drops → Valued lo (gives defs t o l)
+  gives_valued : (lo : ℕ) (t : Ty) (o : Work) (l : LoweredAll) → lo ≤ l.free → AllTouch (Between lo l.free) l.drops
+      → Valued lo (gives defs t o l)
   gives_valued lo t o l p w = record {
     between = (p, omega arith);
     spares = spare_more l.free l.drops _ (spare_outside lo l.free l.free l.drops (inr (omega arith)) w)
         (spare_if l.free (work_refers defs t o) _ (spare_from l.free l.free 0 (count_of defs t)));
   }
 
-  node_valued : (lo : ℕ) (u t : Ty) (o : Work) (l : LoweredAll) (n : ℕ) → lo ≤ l.free → AllTouch (Between lo l.free) l.drops → length l.values ≡ n
+  node_valued : (lo : ℕ) (u t : Ty) (o : Work) (l : LoweredAll) (n : ℕ) → lo ≤ l.free → AllTouch (Between lo l.free) l.drops
+      → length l.values ≡ n
       → AllValued lo l.free l.drops l.values → Suits o n → Valued lo (node defs u t o l)
   node_valued lo u t (Operate o) l n p w e v s =
-      subst (λ (b : Bool). Valued lo (if b then gathers defs t o l else gives defs t (Operate o) l)) (sym s) (gives_valued lo t (Operate o) l p w)
+      subst (λ (b : Bool). Valued lo (if b then gathers defs t o l else gives defs t (Operate o) l)) (sym s)
+      (gives_valued lo t (Operate o) l p w)
   node_valued lo u t (tree.Assign aims) l n p w e v s =
       let x = valued_at lo l.free l.drops l.values (operands_for aims) (omega (arith, e, s)) v in record { between = x.0; spares = x.1 }
   node_valued lo u t (tree.TakePart k) l n p w e v s = absurd s
@@ -94,11 +98,13 @@ module _ (defs : List Def) where
       let at = l.free + (length l.values - 1) in
       record {
         between = (omega arith, omega arith);
-        spares = spare_more at l.drops _ (spare_outside lo l.free at l.drops (inr (omega arith)) w) (spare_cells at (length l.values) l.free);
+        spares = spare_more at l.drops _ (spare_outside lo l.free at l.drops (inr (omega arith)) w)
+            (spare_cells at (length l.values) l.free);
       }
   node_valued lo u t (tree.Call f) l n p w e v s = record {
     between = (p, omega arith);
-    spares = spare_more l.free l.drops _ (spare_outside lo l.free l.free l.drops (inr (omega arith)) w) (spare_from l.free l.free 0 (count_of defs t));
+    spares = spare_more l.free l.drops _ (spare_outside lo l.free l.free l.drops (inr (omega arith)) w)
+        (spare_from l.free l.free 0 (count_of defs t));
   }
   node_valued lo u t (tree.Print ps) l n p w e v s =
       record { between = (p, omega arith); spares = spare_outside lo l.free l.free l.drops (inr (omega arith)) w }
@@ -125,7 +131,8 @@ module _ (defs : List Def) where
   mutual
     pub value_stands : (t : Term) → Handled t → (lo : ℕ) → Valued lo (lower defs lo t)
     value_stands (Node t o ts) h lo = ⊎_elim
-        (λ (x : Suits o (count ts) × AllHandled ts). node_valued lo (type_at defs 0 ts) t o (lower_all defs lo ts) (count ts) (terms_up defs lo ts)
+        (λ (x : Suits o (count ts) × AllHandled ts). node_valued lo (type_at defs 0 ts) t o (lower_all defs lo ts) (count ts)
+        (terms_up defs lo ts)
         (all_within defs lo ts) (values_counted defs lo ts) (values_stand ts x.1 lo) x.0)
         (λ (x : Declares o ts). declared_valued lo t o ts x) h
     value_stands (Lazy k l r) h lo =
@@ -136,7 +143,11 @@ module _ (defs : List Def) where
         record {
           between = (omega arith, omega arith);
           spares = spare_more b.free a.drops _ (spare_outside lo a.free b.free a.drops (inr (omega arith)) (drops_within defs lo l))
-              (spare_if b.free (may_hold defs r) _ (tt, spare_outside (suc a.free) b.free b.free b.drops (inr (omega arith)) (drops_within defs (suc a.free) r)));
+              (spare_if b.free (may_hold defs r) _ (
+                tt,
+                spare_outside (suc a.free) b.free b.free b.drops (inr (omega arith))
+                    (drops_within defs (suc a.free) r),
+              ));
         }
     value_stands (Update o k t w ts us) h lo =
         let a = lower_all defs lo ts in
@@ -164,13 +175,19 @@ module _ (defs : List Def) where
         record {
           between = (p, omega arith);
           spares = spare_more n.free (n.drops ++ (Drop n.free 0 ∷ es.drops)) os.drops
-              (spare_more n.free n.drops (Drop n.free 0 ∷ es.drops) (spare_outside lo n.free n.free n.drops (inr (omega arith)) (drops_within defs lo l))
-              (tt, spare_outside s os.free n.free es.drops (inl (omega arith)) (items_within defs s os.free t n.free s from is (omega arith) v)))
-              (spare_outside s os.free n.free os.drops (inl (omega arith)) (rest_within defs s os.free t n.free (named defs is) s es.free rest (omega arith) (omega arith)));
+              (spare_more n.free n.drops (Drop n.free 0 ∷ es.drops) (spare_outside lo n.free n.free n.drops (inr (omega arith))
+              (drops_within defs lo l)) (
+                tt,
+                spare_outside s os.free n.free es.drops (inl (omega arith)) (items_within defs s os.free t n.free s from is
+                    (omega arith) v),
+              ))
+              (spare_outside s os.free n.free os.drops (inl (omega arith)) (rest_within defs s os.free t n.free (named defs is) s es.free
+              rest (omega arith) (omega arith)));
         }
     value_stands _ h lo = absurd h
 
-    pub values_stand : (ts : Terms) → AllHandled ts → (lo : ℕ) → AllValued lo (lower_all defs lo ts).free (lower_all defs lo ts).drops (lower_all defs lo ts).values
+    pub values_stand : (ts : Terms) → AllHandled ts → (lo : ℕ) → AllValued lo (lower_all defs lo ts).free (lower_all defs lo ts).drops
+        (lower_all defs lo ts).values
     values_stand NoTerms h lo = tt
     values_stand (MoreTerms t ts) h lo =
         let a = lower defs lo t in
@@ -179,7 +196,8 @@ module _ (defs : List Def) where
         let q = terms_up defs a.free ts in (
           (
             (v.between.0, let x = v.between.1 in omega (arith, x, q)),
-            spare_more a.value a.drops b.drops v.spares (spare_outside a.free b.free a.value b.drops (inl v.between.1) (all_within defs a.free ts)),
+            spare_more a.value a.drops b.drops v.spares (spare_outside a.free b.free a.value b.drops (inl v.between.1)
+                (all_within defs a.free ts)),
           ),
           valued_more a.free lo b.free a.drops b.drops b.values (term_up defs lo t) (drops_within defs lo t) (values_stand ts h.1 a.free),
         )

@@ -16,7 +16,8 @@ use Rattle.limbo_meaning.specs.Operations.{copied, elements_of, item_of}
 use Rattle.limbo_meaning.specs.Trees as tree
 use Rattle.limbo_meaning.specs.Trees.{Aim, Pending, Term, Evaluated, Node, Put, Linking, Block, Work, Terms}
 use Rattle.limbo_meaning.specs.Evaluation as evaluation
-use Rattle.limbo_meaning.specs.Evaluation.{Progress, Stepped, unless_raised, next, fill, performed, pending_for, operands_for, assigned, put_rest}
+use Rattle.limbo_meaning.specs.Evaluation.{Progress, Stepped, unless_raised, next, fill, performed, pending_for, operands_for, assigned}
+use Rattle.limbo_meaning.specs.Evaluation.{put_rest}
 use Rattle.limbo_meaning.specs.Evaluation.{link_rest, links, work_refers}
 use Rattle.limbo_meaning.specs.Program.{Program}
 use Rattle.limbo_meaning.specs.Process as source
@@ -34,21 +35,25 @@ use Rattle.core_follows.specs.Stands.{goes}
 use Rattle.core_follows.proofs.Slots.{put_same, put_other}
 use Rattle.core_follows.proofs.Holding.{Room, room_behind, Owns, holding_none, holding_more, holding_put}
 use Rattle.core_follows.proofs.Contexts.{Carries}
-use Rattle.core_follows.proofs.Nodes.{between_wide, AllBetween, AllHold, hold_same, hold_values, hold_at, hold_reverse, between_at, between_reverse}
+use Rattle.core_follows.proofs.Nodes.{between_wide, AllBetween, AllHold, hold_same, hold_values, hold_at, hold_reverse, between_at}
+use Rattle.core_follows.proofs.Nodes.{between_reverse}
 use Rattle.core_follows.proofs.Nodes.{values_take, values_drop, evaluated, node_next, spot, pc_is, store_goes, gives_always, call_goes}
 use Rattle.core_follows.proofs.Nodes.{print_goes}
 use Rattle.core_follows.proofs.Given.{Both, gave, Gives, given, give_goes, owns_row, owns_none, counted}
 
 module _ (limit : ℕ) (program : Program) where
   -- A step that changes nothing but the tree.
-  pub quiet_step : (C : Term → Block) → Carries limit program (next program.adts) fill C → (g : Frame) (held : List (Option ℕ)) (u u' : Term)
+  pub quiet_step : (C : Term → Block) → Carries limit program (next program.adts) fill C → (g : Frame) (held : List (Option ℕ))
+      (u u' : Term)
       → ((w : Shared) → next program.adts (memory_of w g) u ≡ Stepped (memory_of w g) [] u') → Quiet limit program g held (C u) (C u')
   quiet_step C c g held u u' e w n below =
-      subst (λ (h : List (Option ℕ)). sstep limit program w (sourced n (beside g held (C u)) below) ≡ Went w (sourced n (beside g h (C u')) below))
+      subst (λ (h : List (Option ℕ)). sstep limit program w (sourced n (beside g held (C u)) below) ≡ Went w
+      (sourced n (beside g h (C u')) below))
       (append-nil held) (c.steps w g held n below (memory_of w g) [] u u' (e w))
 
   -- What a node does where its operands are evaluated, the slots of which lie from lo on and below mid; its own are those behind, below hi.
-  abbrev pub Own : (X : Frame → List (Option ℕ) → Block → Type 0) → (lo mid hi into : ℕ) (t : Ty) (o : Work) (ss : List ℕ) (is ds : List Instr) → Type 0
+  abbrev pub Own : (X : Frame → List (Option ℕ) → Block → Type 0) → (lo mid hi into : ℕ) (t : Ty) (o : Work) (ss : List ℕ)
+      (is ds : List Instr) → Type 0
   Own X lo mid hi into t o ss is ds =
       (C : Term → Block) → Carries limit program (next program.adts) fill C → (g : Frame) (held : List (Option ℕ)) (vs : List Value)
       → HasAt g.code g.pc is → Room g.slots mid hi held → AllHold g.slots ss vs → AllBetween lo mid ss
@@ -76,7 +81,8 @@ module _ (limit : ℕ) (program : Program) where
   pub own_channel : (lo mid : ℕ) (t : Ty) (ss : List ℕ) → lo ≤ mid
       → Own (Going limit program) lo mid (suc mid) mid t tree.NewChannel ss (Give t tree.NewChannel mid [] ∷ []) (Drop mid 0 ∷ [])
   own_channel lo mid t ss p C c g held vs has room hold bs k =
-      give_goes limit program C c g held (Node t tree.NewChannel (evaluated vs)) t tree.NewChannel mid [] (Drop mid 0 ∷ []) Evaluated has.0 room
+      give_goes limit program C c g held (Node t tree.NewChannel (evaluated vs)) t tree.NewChannel mid [] (Drop mid 0 ∷ []) Evaluated
+      has.0 room
       (λ w. subst (λ x. Both mid (Drop mid 0 ∷ []) Evaluated (performed program.adts (memory_of w g) t tree.NewChannel []) x)
       (sym (node_next limit program (memory_of w g) t tree.NewChannel vs))
       (gave (made (memory_of w g) Channel) (Ref (Some (next_name (memory_of w g)))) (Some (next_name (memory_of w g)) ∷ [])
@@ -85,9 +91,11 @@ module _ (limit : ℕ) (program : Program) where
       (sym (one_more g.pc)) (k j variables slots v got held' h e (p, b.1) eq))
 
   pub own_call : (lo mid : ℕ) (t : Ty) (f : ℕ) (ss : List ℕ) → lo ≤ mid
-      → Own (Going limit program) lo mid (suc mid) mid t (tree.Call f) ss (Call t f mid ss ∷ []) (drops_from mid 0 (count_of program.adts t))
+      → Own (Going limit program) lo mid (suc mid) mid t (tree.Call f) ss (Call t f mid ss ∷ [])
+      (drops_from mid 0 (count_of program.adts t))
   own_call lo mid t f ss p C c g held vs has room hold bs k =
-      call_goes limit program C c g held t f mid ss vs (drops_from mid 0 (count_of program.adts t)) has.0 room (hold_values g.slots ss vs hold)
+      call_goes limit program C c g held t f mid ss vs (drops_from mid 0 (count_of program.adts t)) has.0 room
+      (hold_values g.slots ss vs hold)
       (λ v. owns_row mid (fitted program.adts t v) (count_of program.adts t) (counted program.adts t v))
       (λ j variables slots v got held' h e b eq. pc_is limit program g j (g.pc + 1) (suc g.pc) variables slots held' (C (Evaluated v))
       (sym (one_more g.pc)) (k j variables slots v got held' h e (p, b.1) eq))
@@ -109,7 +117,8 @@ module _ (limit : ℕ) (program : Program) where
       (held : List (Option ℕ)) (ss : List ℕ) (vs : List Value) (sv : ℕ) (v : Value) → values_of g.slots ss ≡ vs → slot g.slots sv ≡ Holds v
       → slice_get g.code g.pc ≡ Some (Write a.type a.way (take (operands_of a.way) ss) a.part sv) → SlotsName g.slots held
       → ((m : Memory) → next program.adts m u
-      ≡ unless_raised (written program.adts m (record { type = a.type; way = a.way; operands = take (operands_of a.way) vs }) (part_at a.part v))
+      ≡ unless_raised (written program.adts m (record { type = a.type; way = a.way; operands = take (operands_of a.way) vs })
+      (part_at a.part v))
       (λ m'. Stepped m' [] u'))
       → ((variables : List Value) → Stands limit program (spot g g.into (suc g.pc) variables g.slots) held (C u'))
       → Going limit program g held (C u)
@@ -117,7 +126,8 @@ module _ (limit : ℕ) (program : Program) where
       store_goes limit program C c g held u u' (Write a.type a.way (take (operands_of a.way) ss) a.part sv) i names
       (λ w. written program.adts (memory_of w g) place (part_at a.part v))
       (λ w n below p.
-      ap (λ (us : List Value). machine.stores limit (code_of program) w (coded n g below p) (record { type = a.type; way = a.way; operands = us })
+      ap (λ (us : List Value). machine.stores limit (code_of program) w (coded n g below p)
+      (record { type = a.type; way = a.way; operands = us })
       (part_at a.part (value_of (slot g.slots sv)))) same_operands
       ∙ ap (λ (x : Slot). machine.stores limit (code_of program) w (coded n g below p) place (part_at a.part (value_of x))) f)
       (λ w. steps (memory_of w g)) k
@@ -132,12 +142,14 @@ module _ (limit : ℕ) (program : Program) where
       (held : List (Option ℕ)) (ss : List ℕ) (vs : List Value) (sv : ℕ) (v : Value) → values_of g.slots ss ≡ vs → slot g.slots sv ≡ Holds v
       → HasAt g.code g.pc (writes program.adts (a ∷ aims) ss sv) → SlotsName g.slots held
       → ((m : Memory) → next program.adts m u ≡ evaluation.writes program.adts m (pending_for (a ∷ aims) vs v) v)
-      → ((variables : List Value) → Stands limit program (spot g g.into (g.pc + length (writes program.adts (a ∷ aims) ss sv)) variables g.slots)
+      → ((variables : List Value) → Stands limit program (spot g g.into (g.pc + length (writes program.adts (a ∷ aims) ss sv)) variables
+      g.slots)
       held (C (Evaluated v)))
       → Going limit program g held (C u)
   writes_go C c [] a u g held ss vs sv v e f has names steps k =
       write_goes C c a u (Evaluated v) g held ss vs sv v e f has.0 names steps
-      (λ variables. pc_is limit program g g.into (g.pc + 1) (suc g.pc) variables g.slots held (C (Evaluated v)) (sym (one_more g.pc)) (k variables))
+      (λ variables. pc_is limit program g g.into (g.pc + 1) (suc g.pc) variables g.slots held (C (Evaluated v)) (sym (one_more g.pc))
+      (k variables))
   writes_go C c (b ∷ bs) a u g held ss vs sv v e f has names steps k =
       let ss' = drop (operands_of a.way) ss in
       let vs' = drop (operands_of a.way) vs in
@@ -179,7 +191,8 @@ module _ (limit : ℕ) (program : Program) where
       let f0 = hold_at g.slots ss vs 0 (omega arith) hold in
       let f1 = hold_at g.slots ss vs 1 (omega arith) hold in
       let f2 = hold_at g.slots ss vs 2 l hold in
-      let r : Shared → Slot → Slot → Slot → Raising Memory = λ w x y z. copied (memory_of w g) (part_of (value_of x)) (number_of (value_of y)) (elements_of (memory_of w g) (part_of (value_of z))) in
+      let r : Shared → Slot → Slot → Slot → Raising Memory = λ w x y z. copied (memory_of w g) (part_of (value_of x))
+      (number_of (value_of y)) (elements_of (memory_of w g) (part_of (value_of z))) in
       store_goes limit program C c g held (Node t tree.Copy (evaluated vs)) (Evaluated (operand 2 vs)) _ has.0 room.names
       (λ w. r w (Holds (operand 0 vs)) (Holds (operand 1 vs)) (Holds (operand 2 vs)))
       (λ w n below p. ap (λ (x : Raising Memory). machine.unless_raised limit (code_of program) w (coded n g below p) x
@@ -188,8 +201,10 @@ module _ (limit : ℕ) (program : Program) where
       ∙ ap (λ (x : Slot). r w (Holds (operand 0 vs)) x (slot g.slots (slot_at 2 ss))) f1
       ∙ ap (λ (x : Slot). r w (Holds (operand 0 vs)) (Holds (operand 1 vs)) x) f2))
       (λ w. node_next limit program (memory_of w g) t tree.Copy vs)
-      (λ variables. pc_is limit program g g.into (g.pc + 1) (suc g.pc) variables g.slots held (C (Evaluated (operand 2 vs))) (sym (one_more g.pc))
-      (k g.into variables g.slots (operand 2 vs) [] held (holding_none g.slots mid) f2 (between_at lo mid ss 2 l bs) (sym (append-nil held))))
+      (λ variables. pc_is limit program g g.into (g.pc + 1) (suc g.pc) variables g.slots held (C (Evaluated (operand 2 vs)))
+      (sym (one_more g.pc))
+      (k g.into variables g.slots (operand 2 vs) [] held (holding_none g.slots mid) f2 (between_at lo mid ss 2 l bs)
+      (sym (append-nil held))))
 
   -- ---- lists
 
@@ -197,7 +212,8 @@ module _ (limit : ℕ) (program : Program) where
   cell_goes : (C : Term → Block) → Carries limit program (next program.adts) fill C → (t : Ty) (s f : ℕ) (b : Option ℕ) (v : Value)
       (vs : List Value) (r : Option ℕ) (u : Term) (g : Frame) (held : List (Option ℕ)) → slice_get g.code g.pc ≡ Some (code.Cell t f s b)
       → SlotsName g.slots held → slot g.slots s ≡ Holds v
-      → ((w : Shared) (n : ℕ) (below : List Frame) (p : Option Writing) → machine.behind_of limit (code_of program) w (coded n g below p) b ≡ r)
+      → ((w : Shared) (n : ℕ) (below : List Frame) (p : Option Writing) → machine.behind_of limit (code_of program) w (coded n g below p)
+      b ≡ r)
       → ((m : Memory) → next program.adts m u ≡ links program.adts m t (v ∷ vs) r)
       → ((name : ℕ) → Stands limit program (spot g g.into (suc g.pc) g.variables (put g.slots f (Holds (Ref (Some name)))))
       (held ++ (Some name ∷ [])) (C (link_rest t vs (Some name))))
@@ -221,13 +237,16 @@ module _ (limit : ℕ) (program : Program) where
   BehindCells g f ss pc held C =
       (j : ℕ) (variables : List Value) (slots : Slots) (v : Value) (got held' : List (Option ℕ))
       → Holding g.slots slots f (f + suc (length ss)) (cell_drops program.adts (suc (length ss)) f) got
-      → slot slots (f + length ss) ≡ Holds v → held' ≡ held ++ got → Stands limit program (spot g j pc variables slots) held' (C (Evaluated v))
+      → slot slots (f + length ss) ≡ Holds v → held' ≡ held ++ got → Stands limit program (spot g j pc variables slots) held'
+      (C (Evaluated v))
 
   -- The cells of a list, the last first.
-  cells_go : (C : Term → Block) → Carries limit program (next program.adts) fill C → (t : Ty) (ss : List ℕ) (s : ℕ) (vs : List Value) (v : Value)
+  cells_go : (C : Term → Block) → Carries limit program (next program.adts) fill C → (t : Ty) (ss : List ℕ) (s : ℕ) (vs : List Value)
+      (v : Value)
       (u : Term) (g : Frame) (held : List (Option ℕ)) (lo f : ℕ) (b r : Option ℕ) → HasAt g.code g.pc (cells program.adts t (s ∷ ss) b f)
       → Room g.slots f (f + suc (length ss)) held → AllHold g.slots (s ∷ ss) (v ∷ vs) → AllBetween lo f (s ∷ ss)
-      → ((w : Shared) (n : ℕ) (below : List Frame) (p : Option Writing) → machine.behind_of limit (code_of program) w (coded n g below p) b ≡ r)
+      → ((w : Shared) (n : ℕ) (below : List Frame) (p : Option Writing) → machine.behind_of limit (code_of program) w (coded n g below p)
+      b ≡ r)
       → ((m : Memory) → next program.adts m u ≡ links program.adts m t (v ∷ vs) r)
       → BehindCells g f ss (g.pc + length (cells program.adts t (s ∷ ss) b f)) held C → Going limit program g held (C u)
   cells_go C c t [] s [] v u g held lo f b r has room hold bs behind steps k =
@@ -256,10 +275,12 @@ module _ (limit : ℕ) (program : Program) where
       let e : hi ≡ suc f + suc (length ss) = omega arith in
       let h = holding_put g.slots f x (Drop f 0 ∷ []) (Some name ∷ []) l (owns_row f x 1 refl) in
       let g1 = spot g g.into (suc g.pc) g.variables slots1 in
-      let room1 = room_behind g.slots slots1 f (suc f) hi (Drop f 0 ∷ []) held (Some name ∷ []) held1 (omega arith) (omega arith) room h refl in
+      let room1 = room_behind g.slots slots1 f (suc f) hi (Drop f 0 ∷ []) held (Some name ∷ []) held1 (omega arith) (omega arith) room h
+      refl in
       going (cells_go C c t ss s' vs v' (Linking t (v' ∷ vs) (Some name)) g1 held1 lo (suc f) (Some f) (Some name) has.1
       (subst (λ (z : ℕ). Room slots1 (suc f) z held1) e room1)
-      (hold_same g.slots slots1 lo f (s' ∷ ss) (v' ∷ vs) bs.1 (λ d z. put_other g.slots f d (Holds x) (λ q. absurd (let y = z.1 in omega (arith, y, q)))) hold.1)
+      (hold_same g.slots slots1 lo f (s' ∷ ss) (v' ∷ vs) bs.1 (λ d z. put_other g.slots f d (Holds x)
+      (λ q. absurd (let y = z.1 in omega (arith, y, q)))) hold.1)
       (between_wide lo f lo (suc f) (s' ∷ ss) (omega arith) (omega arith) bs.1)
       (λ w n below p. ap (λ (y : Slot). name_of (value_of y)) (put_same g.slots f (Holds x) l))
       (λ m. refl)
@@ -269,7 +290,8 @@ module _ (limit : ℕ) (program : Program) where
       let h2' = subst (λ (z : ℕ). Holding slots1 slots (suc f) z (cell_drops program.adts (suc (length ss)) (suc f)) got) (sym e) h2 in
       pc_is limit program g j (g.pc + suc more) (suc g.pc + more) variables slots held' (C (Evaluated v2)) (omega arith)
       (k j variables slots v2 (Some name ∷ got) held'
-      (holding_more g.slots slots1 slots f (suc f) hi (Drop f 0 ∷ []) (cell_drops program.adts (suc (length ss)) (suc f)) (Some name ∷ []) got
+      (holding_more g.slots slots1 slots f (suc f) hi (Drop f 0 ∷ []) (cell_drops program.adts (suc (length ss)) (suc f))
+      (Some name ∷ []) got
       (omega arith) (omega arith) h h2')
       (subst (λ (d : ℕ). slot slots d ≡ Holds v2) fin e2)
       (eq ∙ append_assoc held (Some name ∷ []) got)))))
@@ -306,7 +328,8 @@ module _ (limit : ℕ) (program : Program) where
       let e : suc mid ≡ suc (mid + (0 - 1)) = omega arith in
       let z : mid ≡ mid + (0 - 1) = omega arith in
       let slots1 = put g.slots mid (Holds x) in
-      gives_always limit program C c g held [] (Node t tree.Link (evaluated [])) (Evaluated x) (Known x mid) (suc g.pc) slots1 has.0 room.names
+      gives_always limit program C c g held [] (Node t tree.Link (evaluated [])) (Evaluated x) (Known x mid) (suc g.pc) slots1 has.0
+      room.names
       (λ w n below q. refl) (λ w. node_next limit program (memory_of w g) t tree.Link [])
       (pc_is limit program g g.into (g.pc + 1) (suc g.pc) g.variables slots1 (held ++ []) (C (Evaluated x)) (sym (one_more g.pc))
       (k g.into g.variables slots1 x [] (held ++ [])

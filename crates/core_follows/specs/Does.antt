@@ -2,7 +2,8 @@
 use Rattle.std.specs.Prelude.{◌≡◌, ℕ, suc, ◌+◌, ◌-◌, ◌<◌, ◌≤◌, List, [], ◌∷◌, ◌++◌, length, Option, Some, None, slice_get}
 use Rattle.limbo_layout.specs.Adts.{Def}
 use Rattle.limbo_meaning.specs.Trees as tree
-use Rattle.limbo_meaning.specs.Trees.{Term, Over, Eval, If, While, Enter, Break, Continue, Leave, Loop, Looping, Block, Done, Then, Turn, Again}
+use Rattle.limbo_meaning.specs.Trees.{Term, Over, Eval, If, While, Enter, Break, Continue, Leave, Loop, Looping, Block, Done, Then}
+use Rattle.limbo_meaning.specs.Trees.{Turn, Again}
 use Rattle.limbo_meaning.specs.Trees.{join, entered, behind, at_turn}
 use Rattle.core_code.specs.Code.{Instr, Jump, Back, Return}
 use Rattle.core_code.specs.Terms.{lower}
@@ -73,10 +74,12 @@ module _ (defs : List Def) where
         tests : {rest : Block} (start : ℕ) (l : LoopIn) (c : Term) → l.condition ≡ Some c → TestedAt start l rest
             → Does start (Then (While c (loop_of l)) rest)
         tested_turns : {rest : Block} (start : ℕ) (l : LoopIn) → TestedAt start l rest → Does (tested_turn start l) (Turn (loop_of l) rest)
-        tested_agains : {rest : Block} (start : ℕ) (l : LoopIn) → TestedAt start l rest → Does (tested_back start l) (Again (loop_of l) rest)
+        tested_agains : {rest : Block} (start : ℕ) (l : LoopIn) → TestedAt start l rest → Does (tested_back start l)
+            (Again (loop_of l) rest)
         entered_tests : {rest : Block} (start : ℕ) (l : LoopIn) (c : Term) → l.condition ≡ Some c → EnteredAt start l rest
             → Does (entered_test start l) (Then (While c (loop_of l)) rest)
-        entered_turns : {rest : Block} (start : ℕ) (l : LoopIn) → EnteredAt start l rest → Does (entered_turn start l) (Turn (loop_of l) rest)
+        entered_turns : {rest : Block} (start : ℕ) (l : LoopIn) → EnteredAt start l rest → Does (entered_turn start l)
+            (Turn (loop_of l) rest)
         entered_agains : {rest : Block} (start : ℕ) (l : LoopIn) → EnteredAt start l rest
             → Does (entered_test start l) (Again (loop_of l) rest)
 

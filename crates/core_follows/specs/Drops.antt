@@ -1,7 +1,8 @@
 -- What the drops at the end of a statement let go, read off the slots.
 use Rattle.std.specs.Prelude.{◌≡◌, ℕ, suc, pos, ◌+◌, ◌-◌, ◌<◌, ◌≤◌, ◌⊎◌, List, [], ◌∷◌, ◌++◌, length, Option, Some, None, slice_get}
 use Rattle.limbo_meaning.specs.Values.{Num, among}
-use Rattle.core_code.specs.Slots.{Holds, Chain, Region, Regions, NoRegion, MoreRegions, Slots, slot, placed, region, slot_names, region_names}
+use Rattle.core_code.specs.Slots.{Holds, Chain, Region, Regions, NoRegion, MoreRegions, Slots, slot, placed, region, slot_names}
+use Rattle.core_code.specs.Slots.{region_names}
 use Rattle.core_code.specs.Code.{Instr, Drop, Mirror, Take, Back}
 use Rattle.core_code.specs.Naming.{reference, size}
 
@@ -76,7 +77,8 @@ mutual
         → Dropping slots is later → rest ≡ es ++ (Back (suc (length es)) ∷ is) → n ≡ suc (length es) → held ≡ turned ++ later
         → Dropping slots (Take c from words n ∷ rest) held
 
-  -- A chain has these turns: wherever a region of it comes back into the slots, the drops of a turn let go what that held. That there is one
+  -- A chain has these turns: wherever a region of it comes back into the slots, the drops of a turn let go what that held. That there is
+  -- one
   -- turn more, or none, is told in front of each.
   pub data Turns : (from words : ℕ) → List Instr → Regions → List (Option ℕ) → Type 0 where
     last : {from words : ℕ} {es : List Instr} → Turns from words es NoRegion (None ∷ [])

@@ -61,7 +61,8 @@ module _ (limit : ℕ) (program : Program) where
     pub follows : SharedFollows sides
     pub pace : follows.bound ≡ 3
     pub begins : (n instance f : ℕ) (r : Routine) (g : Function) (t : Ty) (arguments : List Value) → slice_get program.routines f ≡ Some r
-        → slice_get (code_of program).functions f ≡ Some g → Ready (first_source n instance r t arguments) (first_code n instance g t arguments)
+        → slice_get (code_of program).functions f ≡ Some g → Ready (first_source n instance r t arguments)
+        (first_code n instance g t arguments)
 
 -- All functions of the program are of the part that is handled.
 abbrev pub HandledProgram : Program → Type 0

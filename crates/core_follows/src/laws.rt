@@ -5,6 +5,6 @@ ghost use Rattle.core_follows.specs.Follows.{CodeKeeps};
 /// Whatever the code of a program does next, its program does too: each instruction is matched by none, one or more steps of the program,
 /// with one heap, equal releases and equal requests, and the processes name the same values, each as often; of any three instructions in
 /// a row one stands for a step. It holds of programs without tuples, values of adts and their parts.
-pub fn code_keeps()
+pub fn core_code_keeps()
     ensures { CodeKeeps }
 {}

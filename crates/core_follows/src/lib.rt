@@ -11,4 +11,4 @@
 
 mod laws;
 
-pub use laws::code_keeps;
+pub use laws::core_code_keeps;

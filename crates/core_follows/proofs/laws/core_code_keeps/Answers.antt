@@ -1,5 +1,5 @@
 use Rattle.core_follows.proofs.Follows.{code_keeps}
-use Rattle.core_follows.proofs.laws.code_keeps.Goals as goal
+use Rattle.core_follows.proofs.laws.core_code_keeps.Goals as goal
 
 pub returns : goal.returns
 returns c = code_keeps
