@@ -31,17 +31,17 @@ further_turns k n [] l = absurd (omega arith)
 further_turns k zero (a ∷ around) l = refl
 further_turns k (suc n) (a ∷ around) l = further_turns k n around (omega arith)
 
-behind_join : (k n : ℕ) (b r : Block) → HandledBlock k b → behind n (join b r) ≡ behind n r
-behind_join k n Done r h = refl
-behind_join k n (Then s b) r h = behind_join k n b r h.1
-behind_join k n (Turn l b) r h = absurd h
-behind_join k n (Again l b) r h = absurd h
+behind_join : (defs : List Def) (k n : ℕ) (b r : Block) → HandledBlock defs k b → behind n (join b r) ≡ behind n r
+behind_join defs k n Done r h = refl
+behind_join defs k n (Then s b) r h = behind_join defs k n b r h.1
+behind_join defs k n (Turn l b) r h = absurd h
+behind_join defs k n (Again l b) r h = absurd h
 
-at_turn_join : (k n : ℕ) (b r : Block) → HandledBlock k b → at_turn n (join b r) ≡ at_turn n r
-at_turn_join k n Done r h = refl
-at_turn_join k n (Then s b) r h = at_turn_join k n b r h.1
-at_turn_join k n (Turn l b) r h = absurd h
-at_turn_join k n (Again l b) r h = absurd h
+at_turn_join : (defs : List Def) (k n : ℕ) (b r : Block) → HandledBlock defs k b → at_turn n (join b r) ≡ at_turn n r
+at_turn_join defs k n Done r h = refl
+at_turn_join defs k n (Then s b) r h = at_turn_join defs k n b r h.1
+at_turn_join defs k n (Turn l b) r h = absurd h
+at_turn_join defs k n (Again l b) r h = absurd h
 
 module _ (defs : List Def) (codes : List Instr) (size : ℕ) where
   abbrev D : ℕ → Block → Type 0
@@ -65,10 +65,10 @@ module _ (defs : List Def) (codes : List Instr) (size : ℕ) where
       further_turns k n around a in
       does_at (e + k + turns_at n around) (e + turns_at n (further k around)) (at_turn n r) (omega arith) (h n a))
 
-  exits_join : (k e : ℕ) (around : List Around) (b r : Block) → HandledBlock k b → X e around r → X e around (join b r)
+  exits_join : (k e : ℕ) (around : List Around) (b r : Block) → HandledBlock defs k b → X e around r → X e around (join b r)
   exits_join k e around b r hb (exits f h) = exits
-      (λ n l. subst (D (e + leaves_at n around)) (sym (behind_join k n b r hb)) (f n l))
-      (λ n l. subst (D (e + turns_at n around)) (sym (at_turn_join k n b r hb)) (h n l))
+      (λ n l. subst (D (e + leaves_at n around)) (sym (behind_join defs k n b r hb)) (f n l))
+      (λ n l. subst (D (e + turns_at n around)) (sym (at_turn_join defs k n b r hb)) (h n l))
 
   exits_over : (e : ℕ) (around : List Around) (r : Block) → X e around r → X e around (Then Over r)
   exits_over e around r (exits f h) = exits f h
@@ -95,12 +95,12 @@ module _ (defs : List Def) (codes : List Instr) (size : ℕ) where
           let x = further_turns (b + k) n around a in
           does_at (e + k + turns_at n around) (place + turns_at n (further (b + k) around)) (at_turn n r) (omega (arith, x, q)) (h n a)
 
-  in_loop_long : (b k : ℕ) (around : List Around) (body : Block) → HandledBlock (suc (length around)) body
-      → HandledBlock (length (in_loop b k around)) body
-  in_loop_long b k around body h = subst (λ (n : ℕ). HandledBlock (suc n) body) (sym (further_long (b + k) around)) h
+  in_loop_long : (b k : ℕ) (around : List Around) (body : Block) → HandledBlock defs (suc (length around)) body
+      → HandledBlock defs (length (in_loop b k around)) body
+  in_loop_long b k around body h = subst (λ (n : ℕ). HandledBlock defs (suc n) body) (sym (further_long (b + k) around)) h
 
   mutual
-    pub block_does : (b : Block) (around : List Around) → HandledBlock (length around) b → block_slots defs b ≤ size → (pc e : ℕ)
+    pub block_does : (b : Block) (around : List Around) → HandledBlock defs (length around) b → block_slots defs b ≤ size → (pc e : ℕ)
         → HasAt codes pc (block_code defs around b) → pc + length (block_code defs around b) ≡ e → (r : Block) → X e around r → D e r
         → D pc (join b r)
     block_does Done around h s pc e has q r x d = does_at e pc r (omega arith) d
@@ -115,7 +115,7 @@ module _ (defs : List Def) (codes : List Instr) (size : ℕ) where
     block_does (Turn l b) around h s pc e has q r x d = absurd h
     block_does (Again l b) around h s pc e has q r x d = absurd h
 
-    pub stm_does : (a : Stm) (around : List Around) (k : ℕ) → HandledStm (length around) a → stm_slots defs a ≤ size → (pc e : ℕ)
+    pub stm_does : (a : Stm) (around : List Around) (k : ℕ) → HandledStm defs (length around) a → stm_slots defs a ≤ size → (pc e : ℕ)
         → HasAt codes pc (stm_code defs around k a) → pc + length (stm_code defs around k a) ≡ e → (r : Block) → X (e + k) around r → D e r
         → D pc (Then a r)
     stm_does Over around k h s pc e has q r x d = over (does_at e pc r (omega arith) d)
@@ -139,7 +139,8 @@ module _ (defs : List Def) (codes : List Instr) (size : ℕ) where
         chooses (suc (length first)) (h.0, omega arith)
         (has_more codes pc w (Unless (lower defs 0 t).value (suc (length first)) ∷ [])
         (has_front codes pc w (Unless (lower defs 0 t).value (suc (length first)) ∷ first) has1) (has3.0, tt))
-        (block_does a (further (suc (length other) + k) around) (subst (λ (z : ℕ). HandledBlock z a) (sym m2) h.1) (omega arith) at_first
+        (block_does a (further (suc (length other) + k) around) (subst (λ (z : ℕ). HandledBlock defs z a) (sym m2) h.1) (omega arith)
+        at_first
         end_first
         (subst (λ (z : ℕ). HasAt codes z first) (let z : suc (pc + length w) ≡ at_first = omega arith in z) has3.1) (omega arith)
         (Then Over r)
@@ -147,7 +148,8 @@ module _ (defs : List Def) (codes : List Instr) (size : ℕ) where
         (exits_over (end_first + (suc (length other) + k)) around r (exits_at (e + k) (end_first + (suc (length other) + k)) around r
         (omega arith) x)))
         (jumps (length other) has2.0 (does_at e (suc end_first + length other) r (omega arith) d)))
-        (block_does b (further k around) (subst (λ (z : ℕ). HandledBlock z b) (sym m1) h.2) (omega arith) (at_first + suc (length first)) e
+        (block_does b (further k around) (subst (λ (z : ℕ). HandledBlock defs z b) (sym m1) h.2) (omega arith)
+        (at_first + suc (length first)) e
         (subst (λ (z : ℕ). HasAt codes z other) (let z : suc end_first ≡ at_first + suc (length first) = omega arith in z) has2.1)
         (omega arith) (Then Over r)
         (exits_further e k around (Then Over r) (exits_over (e + k) around r x)) (over d))
@@ -232,7 +234,7 @@ module _ (defs : List Def) (codes : List Instr) (size : ℕ) where
       (entered_turns start l at)
 
   -- A function's body.
-  pub body_does : (b : Block) → HandledBlock 0 b → block_slots defs b ≤ size → HasAt codes 0 (block_code defs [] b ++ Return None ∷ [])
+  pub body_does : (b : Block) → HandledBlock defs 0 b → block_slots defs b ≤ size → HasAt codes 0 (block_code defs [] b ++ Return None ∷ [])
       → D 0 (join b Done)
   body_does b h s has =
       let c = block_code defs [] b in

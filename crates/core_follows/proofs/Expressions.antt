@@ -27,7 +27,7 @@ use Rattle.core_follows.proofs.Holding.{has_front, has_back, Room, room_front, r
 use Rattle.core_follows.proofs.Contexts.{Carries, carry}
 use Rattle.core_follows.proofs.Static.{drops_within, no_drops}
 use Rattle.core_follows.proofs.Nodes.{between_wide, evaluated}
-use Rattle.core_follows.proofs.Nodes.{spot, pc_is, Behind}
+use Rattle.core_follows.proofs.Nodes.{spot, pc_is}
 use Rattle.core_follows.proofs.Terms.{GoesBy, Comes, comes, begun, AllBy, node_either, lazy_goes, update_goes, known_goes, onward}
 use Rattle.core_follows.proofs.Terms.{as_is, handled_fill_all}
 use Rattle.std.specs.Prelude.{max}
@@ -271,17 +271,22 @@ module _ (limit : ℕ) (program : Program) where
       (C : Term → Block) → Carries limit program (next program.adts) fill C → (g : Frame) (held : List (Option ℕ)) → HasAt g.code g.pc
       x.code
       → 0 < place_at (slice_get g.code (g.pc + length x.code)) → Room g.slots lo x.free held
-      → Behind limit program g lo x.free x.value (g.pc + length x.code) x.drops held (λ v. C (Evaluated v)) → Going limit program g held
+      → ((j : ℕ) (variables : List Value) (slots : Slots) (v : Value) (got held' : List (Option ℕ)) → Holding g.slots slots lo x.free
+      x.drops got
+      → slot slots x.value ≡ Holds v → held' ≡ held ++ got
+      → Stands limit program (spot g j (g.pc + length x.code) variables slots) held' (C (Evaluated v))) → Going limit program g held
       (C l)
 
-  known_length : (lo : ℕ) (l : Term) → IsKnown l ⊎ Handled l → (Handled l → GoesBy limit program lo l (lower program.adts lo l))
+  known_length : (lo : ℕ) (l : Term) → IsKnown l ⊎ Handled program.adts l
+      → (Handled program.adts l → GoesBy limit program lo l (lower program.adts lo l))
       → LengthBy lo l (lower program.adts lo l)
   known_length lo (Evaluated v) (inl e) ge C c g held has rank room k =
       let z : g.pc + 1 ≡ suc g.pc = omega arith in
       known_goes limit program v lo g held (C (Evaluated v)) e has.0 (subst (λ (q : ℕ). 0 < place_at (slice_get g.code q)) z rank) room
       (λ slots h at. pc_is limit program g g.into (g.pc + 1) (suc g.pc) g.variables slots held (C (Evaluated v)) z
-      (k g.into g.variables slots v [] held h at (omega arith, omega arith) (sym (append-nil held))))
-  known_length lo l (inr h) ge C c g held has rank room k = ge h C c g held has room k
+      (k g.into g.variables slots v [] held h at (sym (append-nil held))))
+  known_length lo l (inr h) ge C c g held has rank room k = ge h C c g held has room
+      (λ j variables slots v got held' y e b eq. k j variables slots v got held' y e eq)
   known_length lo _ (inl e) ge C c g held has rank room k = absurd e
 
   fill_goes : (lo : ℕ) (t : Ty) (l : Term) (is : Items) (rest : Terms) (n es os : Lowered) (from : ℕ) → LengthBy lo l n → lo ≤ n.free
@@ -311,7 +316,7 @@ module _ (limit : ℕ) (program : Program) where
       g held (has_front g.code g.pc n.code (give ∷ es.code) has_A) (subst (λ (o : Option Instr). 0 < place_at o) (sym has_give.0)
       (omega arith))
       (room_front g.slots lo n.free hi held up1 (omega arith) room)
-      (λ j variables slots v got held1 h1 e1 b1 eq1.
+      (λ j variables slots v got held1 h1 e1 eq1.
       let g1 = spot g j start variables slots in
       let room1 = room_behind g.slots slots lo n.free hi n.drops held got held1 up1 (omega arith) room h1 eq1 in
       going (array_goes limit program C c g1 held1 t v is rest n.free n.value has_give.0 (room_front slots n.free shared hi held1
@@ -356,7 +361,8 @@ module _ (limit : ℕ) (program : Program) where
       (holding_more g.slots slots slots2 lo n.free shared n.drops (Drop n.free 0 ∷ []) got (Some p.array ∷ []) up1 (omega arith) h1 h2)
       (grown_whole slots2 slots4 shared from hi (es.drops ++ os.drops) (got3 ++ got4) up2 (omega arith)
       (grown_more slots2 slots3 slots4 shared from from es.free hi es.drops os.drops got3 got4 (omega arith) up3 up4 grown3 grown4))))
-      (grown4.same n.free (inl (omega arith)) (inl (omega arith)) ∙ array3) (up1, omega arith)
+      (grown4.same n.free (inl (omega arith)) (inl (omega arith)) ∙ array3)
+      (up1, omega arith, inl (x, refl))
       (onward limit program held (got ++ (Some p.array ∷ [])) (got3 ++ got4) held2 held4
       (onward limit program held got (Some p.array ∷ []) held1 held2 eq1 refl)
       (onward limit program held2 got3 got4 held3 held4 eq3 eq4))))))))
@@ -374,7 +380,7 @@ module _ (limit : ℕ) (program : Program) where
   comes_at b g j pc pc' variables slots held todo e x = subst (λ (q : ℕ). Comes limit program b (spot g j q variables slots) held todo) e x
 
   mutual
-    pub value_goes : (t : Term) → Handled t → (lo : ℕ) → GoesBy limit program lo t (lower program.adts lo t)
+    pub value_goes : (t : Term) → Handled program.adts t → (lo : ℕ) → GoesBy limit program lo t (lower program.adts lo t)
     value_goes (Node t o ts) h lo = node_either limit program lo t o ts h (λ x b. operands_go ts x lo b)
     value_goes (Lazy k l r) h lo =
         let a = lower program.adts lo l in
@@ -383,7 +389,8 @@ module _ (limit : ℕ) (program : Program) where
         (value_goes l h.0 lo) (value_goes r h.1 (suc a.free))
     value_goes (Update o k t w ts us) h lo =
         let a = lower_all program.adts lo ts in
-        update_goes limit program lo o k t w ts us a (lower_all program.adts (suc a.free) us) h.0 (λ v. handled_fill_all v us h.2)
+        update_goes limit program lo o k t w ts us a (lower_all program.adts (suc a.free) us) h.0
+        (λ v. handled_fill_all program.adts v us h.2)
         (terms_up program.adts lo ts)
         (terms_up program.adts (suc a.free) us) (operands_go ts h.1 lo true) (operands_go us h.2 (suc a.free) true)
     value_goes (Fill t l is rest) h lo =
@@ -400,9 +407,10 @@ module _ (limit : ℕ) (program : Program) where
         (let b = items_up program.adts t n.free shared from is in omega arith) (omega arith))
     value_goes _ h lo = absurd h
 
-    pub operands_go : (ts : Terms) → AllHandled ts → (lo : ℕ) (b : Bool) → AllBy limit program b lo ts (lower_all program.adts lo ts)
+    pub operands_go : (ts : Terms) → AllHandled program.adts ts → (lo : ℕ) (b : Bool) → AllBy limit program b lo ts
+        (lower_all program.adts lo ts)
     operands_go NoTerms h lo b C c g held has room k =
-        here b g held (C NoTerms) (k g.into g.variables g.slots [] [] held (holding_none g.slots lo) tt tt (sym (append-nil held)))
+        here b g held (C NoTerms) (k g.into g.variables g.slots [] [] held (holding_none g.slots lo) tt tt tt (sym (append-nil held)))
     operands_go (MoreTerms t ts) h lo b C c g held has room k =
         let x = lower program.adts lo t in
         let y = lower_all program.adts x.free ts in
@@ -412,7 +420,7 @@ module _ (limit : ℕ) (program : Program) where
         value_goes t h.0 lo (λ u. C (MoreTerms u ts))
         (carry limit program (next program.adts) fill (next_all program.adts) fill_all C c (λ u. MoreTerms u ts)
         (λ m v. after (next_all program.adts m ts) (λ vs. Finished (v ∷ vs)) (MoreTerms (Evaluated v))) (λ m u. refl)
-        (λ v u. ap (MoreTerms (fill v u)) (handled_fill_all v ts h.1)))
+        (λ v u. ap (MoreTerms (fill v u)) (handled_fill_all program.adts v ts h.1)))
         g held (has_front g.code g.pc x.code y.code has) (room_front g.slots lo x.free y.free held up ups room)
         (λ j variables slots v got held1 h1 e1 b1 eq1.
         comes limit program (begun limit program b ts) (spot g j (g.pc + length x.code) variables slots) held1
@@ -423,16 +431,17 @@ module _ (limit : ℕ) (program : Program) where
         (λ m us. refl) (λ z us. refl))
         (spot g j (g.pc + length x.code) variables slots) held1 (has_back g.code g.pc x.code y.code has)
         (room_behind g.slots slots lo x.free y.free x.drops held got held1 up ups room h1 eq1)
-        (λ j2 variables2 slots2 vs got2 held2 h2 hold2 bs2 eq2.
+        (λ j2 variables2 slots2 vs got2 held2 h2 hold2 bs2 fs2 eq2.
         comes_at b g j2 (g.pc + length (x.code ++ y.code)) (g.pc + length x.code + length y.code) variables2 slots2 held2
         (C (evaluated (v ∷ vs))) (omega arith)
         (k j2 variables2 slots2 (v ∷ vs) (got ++ got2) held2 (holding_more g.slots slots slots2 lo x.free y.free x.drops y.drops got got2
         up ups h1 h2)
         (h2.same x.value (inl b1.1) ∙ e1, hold2)
-        ((b1.0, let q = b1.1 in omega (arith, q, ups)), between_wide x.free y.free lo y.free y.values up (omega arith) bs2)
+        ((b1.0, let q = b1.1 in omega (arith, q, ups)), between_wide x.free y.free lo y.free y.values up (omega arith) bs2) (b1.2, fs2)
         (onward limit program held got got2 held1 held2 eq1 eq2)))))
 
-    pub items_go : (is : Items) → HandledItems is → (t : Ty) (a shared from lo : ℕ) → from ≤ lo → items_end program.adts shared is ≤ from
+    pub items_go : (is : Items) → HandledItems program.adts is → (t : Ty) (a shared from lo : ℕ) → from ≤ lo → items_end program.adts
+        shared is ≤ from
         → ItemsBy t a shared from lo is (lower_items program.adts t a shared lo is)
     items_go NoItems h t a shared from lo f m ns rest p C c g held hi has space l below array k =
         here_stands g held (C (fill_rest t p ns rest))
@@ -467,7 +476,7 @@ module _ (limit : ℕ) (program : Program) where
         (grown_more g.slots slots slots2 shared from lo lo' y.free x.drops y.drops got got2 f up_own up g1 g2)
         (onward limit program held got got2 held1 held2 eq1 eq2)))))
 
-    pub rest_go : (rest : Terms) → HandledRest rest → (t : Ty) (a : ℕ) (is : Items) (shared from lo : ℕ) → from ≤ lo
+    pub rest_go : (rest : Terms) → HandledRest program.adts rest → (t : Ty) (a : ℕ) (is : Items) (shared from lo : ℕ) → from ≤ lo
         → rest_end program.adts shared rest ≤ from
         → RestBy t a is shared from lo rest (lower_rest program.adts t a (named program.adts is) shared lo rest)
     rest_go NoTerms h t a is shared from lo f m p C c g held hi has space l below array k =

@@ -38,6 +38,7 @@ use Rattle.core_follows.specs.Stands.{softly, obeying, Next, goes, rests, raises
 use Rattle.core_follows.specs.Follows.{AllWait, none_waits, waits_below, Ready, ready, Asking, asking, sides, HandledProgram, CodeKeeps}
 use Rattle.core_follows.proofs.Blocks.{body_does}
 use Rattle.core_follows.proofs.Statements.{does_goes}
+use Rattle.limbo_layout.specs.Adts.{Def}
 
 -- ---- the heap
 
@@ -79,11 +80,11 @@ compiled program f = go program.routines f
     go (r ∷ rs) zero none has = has r refl refl
     go (r ∷ rs) (suc f) none has = go rs f none has
 
-join_done : (k : ℕ) (b : Block) → HandledBlock k b → join b Done ≡ b
-join_done k Done h = refl
-join_done k (Then s b) h = ap (Then s) (join_done k b h.1)
-join_done k (Turn l b) h = absurd h
-join_done k (Again l b) h = absurd h
+join_done : (defs : List Def) (k : ℕ) (b : Block) → HandledBlock defs k b → join b Done ≡ b
+join_done defs k Done h = refl
+join_done defs k (Then s b) h = ap (Then s) (join_done defs k b h.1)
+join_done defs k (Turn l b) h = absurd h
+join_done defs k (Again l b) h = absurd h
 
 has_all : (front is : List Instr) → HasAt (front ++ is) (length front) is
 has_all front [] = tt
@@ -132,7 +133,7 @@ module _ (limit : ℕ) (program : Program) (handled : HandledProgram program) wh
       let h = handled f r e in
       outside (λ n. empty_names n g.slots)
       (subst (λ (n : ℕ). Does program.adts g.code n 0 r.body) (sym (length-replicate g.slots empty))
-      (subst (λ (b : Block). Does program.adts g.code g.slots 0 b) (join_done 0 r.body h)
+      (subst (λ (b : Block). Does program.adts g.code g.slots 0 b) (join_done program.adts 0 r.body h)
       (body_does program.adts g.code g.slots r.body h (omega arith) (has_all [] g.code))))
 
   -- ---- names

@@ -1,6 +1,6 @@
 -- What nodes give, and the drops of the references that they get.
 use Rattle.std.proofs.Common.{◌≡◌, ℕ, zero, suc, ◌<◌, Bool, true, false, List, [], ◌∷◌, ◌++◌, length, Option, Some, None}
-use Rattle.std.proofs.Common.{Ok, Err, refl, sym, ap, subst, ◌∙◌, arith}
+use Rattle.std.proofs.Common.{inl, Ok, Err, refl, sym, ap, subst, ◌∙◌, arith}
 use Rattle.std.specs.Prelude.{slice_get, slice_index_or, if◌then◌else◌}
 use Rattle.limbo_types.specs.Types as ty
 use Rattle.limbo_types.specs.Types.{Ty, Tys, NoTys, MoreTys}
@@ -37,6 +37,7 @@ use Rattle.core_follows.specs.Stands.{coded, Going, obeying, Next, goes, raises}
 use Rattle.core_follows.proofs.Slots.{among_join, put_same}
 use Rattle.core_follows.proofs.Holding.{Room, Owns, holding_put}
 use Rattle.core_follows.proofs.Contexts.{Carries}
+use Rattle.core_follows.specs.Handled.{Fits}
 use Rattle.core_follows.proofs.Nodes.{Behind}
 
 -- ---- the drops of all references of a value
@@ -185,10 +186,11 @@ fitted_none n defs t v e = formed_none n (adt_formed defs (length defs)) (adt_no
 -- ---- nodes that give a value into a slot of their own
 
 -- What the instruction gives is what the step of the tree comes to, of which this is left then; or both raise.
-pub data Both (into : ℕ) (own : List Instr) (left : Value → Term) : Progress Value Term → Progress Value Term → Type 0 where
-  gave : (m : Memory) (v : Value) (got : List (Option ℕ)) → Owns into v own got
-      → Both into own left (Stepped m got (Evaluated v)) (Stepped m got (left v))
-  raised : (text : List ℕ) → Both into own left (Raises text) (Raises text)
+pub data Both (defs : List Def) (t : Ty) (into : ℕ) (own : List Instr) (left : Value → Term) : Progress Value Term → Progress Value Term
+    → Type 0 where
+  gave : (m : Memory) (v : Value) (got : List (Option ℕ)) → Owns into v own got → Fits defs t v
+      → Both defs t into own left (Stepped m got (Evaluated v)) (Stepped m got (left v))
+  raised : (text : List ℕ) → Both defs t into own left (Raises text) (Raises text)
 
 -- Works whose values go into a slot of their own by one instruction.
 abbrev pub Gives : Work → Type 0
@@ -208,31 +210,34 @@ module _ (defs : List Def) (m : Memory) (t : Ty) (into : ℕ) where
   constant_none (constant.Chars s) n = refl
 
   operates : (o : Operation) (b : Bool) (r : Raising Outcome) → passes_on o ≡ b → b ≡ false
-      → Both into (drops_if (if b then false else refers defs t) (drops_from into 0 (count_of defs t))) Evaluated
+      → Both defs t into (drops_if (if b then false else refers defs t) (drops_from into 0 (count_of defs t))) Evaluated
       (unless_raised r (leaves defs m t o)) (unless_raised r (leaves defs m t o))
   operates o true r e f = absurd cc
   operates o false (Ok r) e f =
       let v = fitted defs t r.value in
       let g : got_by o v ≡ references v = ap (λ (c : Bool). if c then [] else references v) e in
-      subst (λ (got : List (Option ℕ)). Both into (drops_if (refers defs t) (drops_from into 0 (count_of defs t))) Evaluated
+      subst (λ (got : List (Option ℕ)). Both defs t into (drops_if (refers defs t) (drops_from into 0 (count_of defs t))) Evaluated
       (Stepped r.memory got (Evaluated v)) (Stepped r.memory got (Evaluated v))) (sym g)
-      (gave r.memory v (references v) (owns_fitted defs t into r.value))
+      (gave r.memory v (references v) (owns_fitted defs t into r.value) (inl (r.value, refl)))
   operates o false (Err text) e f = raised text
 
-  reads : (r : Raising Value) → Both into (drops_if (refers defs t) (drops_from into 0 (count_of defs t))) Evaluated
+  reads : (r : Raising Value) → Both defs t into (drops_if (refers defs t) (drops_from into 0 (count_of defs t))) Evaluated
       (unless_raised r (gets defs m t)) (unless_raised r (gets defs m t))
-  reads (Ok v) = gave m (fitted defs t v) (references (fitted defs t v)) (owns_fitted defs t into v)
+  reads (Ok v) = gave m (fitted defs t v) (references (fitted defs t v)) (owns_fitted defs t into v) (inl (v, refl))
   reads (Err text) = raised text
 
-  prints_into : (r : Raising (List ℕ)) → Both into [] Evaluated
+  prints_into : (r : Raising (List ℕ)) → Both defs t into [] Evaluated
       (unless_raised r (λ text. passes defs m t (Chars text))) (unless_raised r (λ text. passes defs m t (Chars text)))
   prints_into (Ok text) = gave m (fitted defs t (Chars text)) [] (owns_none into _ (λ n. fitted_none n defs t (Chars text) refl))
+      (inl (Chars text, refl))
   prints_into (Err text) = raised text
 
-  pub given : (o : Work) (vs : List Value) → Gives o → Both into (own o) Evaluated (performed defs m t o vs) (performed defs m t o vs)
+  pub given : (o : Work) (vs : List Value) → Gives o → Both defs t into (own o) Evaluated (performed defs m t o vs)
+      (performed defs m t o vs)
   given (Literal c) vs g =
       gave m (fitted defs t (constant_value c)) [] (owns_none into _ (λ n. fitted_none n defs t (constant_value c) (constant_none c n)))
-  given Nil vs g = gave m (fitted defs t nothing) [] (owns_none into _ (λ n. fitted_none n defs t nothing refl))
+      (inl (constant_value c, refl))
+  given Nil vs g = gave m (fitted defs t nothing) [] (owns_none into _ (λ n. fitted_none n defs t nothing refl)) (inl (nothing, refl))
   given (Operate o) vs g = operates o (passes_on o) (result_of defs m t o vs) refl g
   given (Read w) vs g = reads (read m (record { type = t; way = w; operands = vs }))
   given (Sprint ps) vs g = prints_into (not_longer (formatted ps vs))
@@ -242,8 +247,8 @@ module _ (limit : ℕ) (program : Program) where
   pub give_goes : (C : Term → Block) → Carries limit program (next program.adts) fill C → (g : Frame) (held : List (Option ℕ)) (u : Term)
       (t : Ty) (o : Work) (into : ℕ) (from : List ℕ) (own : List Instr) (left : Value → Term)
       → slice_get g.code g.pc ≡ Some (Give t o into from) → Room g.slots into (suc into) held
-      → ((w : Shared) → Both into own left (performed program.adts (memory_of w g) t o (values_of g.slots from))
-      (next program.adts (memory_of w g) u)) → Behind limit program g into (suc into) into (suc g.pc) own held (λ v. C (left v))
+      → ((w : Shared) → Both program.adts t into own left (performed program.adts (memory_of w g) t o (values_of g.slots from))
+      (next program.adts (memory_of w g) u)) → Behind limit program t g into (suc into) into (suc g.pc) own held (λ v. C (left v))
       → Going limit program g held (C u)
   give_goes C c g held u t o into from own left i room both k =
       obeying (Give t o into from) room.names i
@@ -251,14 +256,15 @@ module _ (limit : ℕ) (program : Program) where
       (both w))
     where
       by : (w : Shared) (pm ps : Progress Value Term) → performed program.adts (memory_of w g) t o (values_of g.slots from) ≡ pm
-          → next program.adts (memory_of w g) u ≡ ps → Both into own left pm ps → Next limit program w g held (C u) (Give t o into from)
-      by w pm ps em es (gave m v got owns) =
+          → next program.adts (memory_of w g) u ≡ ps → Both program.adts t into own left pm ps → Next limit program w g held (C u)
+          (Give t o into from)
+      by w pm ps em es (gave m v got owns fit) =
           goes m (suc g.pc) (put g.slots into (Holds v)) (held ++ got) (C (left v))
           (λ n below p. ap (λ x. machine.gives limit (code_of program) w (coded n g below p) into g.slots x) em)
           (λ n below. c.steps w g held n below m got u (left v) es)
           (let h = holding_put g.slots into v own got (let a = room.fits in omega arith) owns in
           k g.into m.variables (put g.slots into (Holds v)) v got (held ++ got) h
-          (put_same g.slots into (Holds v) (let a = room.fits in omega arith)) (omega arith, omega arith) refl)
+          (put_same g.slots into (Holds v) (let a = room.fits in omega arith)) (omega arith, omega arith, fit) refl)
       by w pm ps em es (raised text) =
           raises text
           (λ n below p. ap (λ x. machine.gives limit (code_of program) w (coded n g below p) into g.slots x) em)

@@ -3,6 +3,7 @@ pub mod Drops
 pub mod Holding
 pub mod Contexts
 pub mod Static
+pub mod Moves
 pub mod Nodes
 pub mod Given
 pub mod Works
@@ -11,6 +12,7 @@ pub mod Dropped
 pub mod Blocks
 pub mod Expressions
 pub mod Valued
+pub mod Gathers
 pub mod Statements
 pub mod Follows
 pub mod Filling

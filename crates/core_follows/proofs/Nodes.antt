@@ -1,12 +1,15 @@
 -- One instruction of a node behind its operands.
-use Rattle.std.proofs.Common.{◌≡◌, ℕ, zero, suc, ◌<◌, ◌≤◌, List, [], ◌∷◌, ◌++◌, length, Option, Some, None}
+use Rattle.std.proofs.Common.{inl, inr, ◌≡◌, ℕ, zero, suc, ◌<◌, ◌≤◌, List, [], ◌∷◌, ◌++◌, length, Option, Some, None}
 use Rattle.std.proofs.Common.{Ok, Err, refl, sym, ap, subst, ◌∙◌, arith, append-nil}
 use Rattle.std.proofs.lemmas.List.{reverse-append}
 use Rattle.std.specs.Prelude.{slice_get, slice_index_or, take, drop, reverse}
 use Rattle.process_model.specs.Process.{Went}
 use Rattle.system_model.specs.Values as system
 use Rattle.system_model.specs.Prints.{Writing, print}
+use Rattle.limbo_types.specs.Types as ty
 use Rattle.limbo_types.specs.Types.{Ty}
+use Rattle.limbo_layout.specs.Adts.{Def}
+use Rattle.core_follows.specs.Handled.{Fits}
 use Rattle.limbo_typed.specs.declared.print.Piece.{Piece}
 use Rattle.limbo_meaning.specs.Values.{Value, nothing, fitted, references}
 use Rattle.limbo_meaning.specs.Memory.{Memory}
@@ -134,6 +137,13 @@ spot g j pc variables slots = record {
   into = j;
 }
 
+-- Where the value of an evaluation is, and of which type.
+abbrev pub Placed : List Def → Ty → (lo hi into : ℕ) → Value → Type 0
+Placed defs t lo hi into v = (lo ≤ into) × (into < hi) × Fits defs t v
+
+number_fits : (defs : List Def) (t : Ty) (v : system.Value) → t ≡ ty.Int → Fits defs t (source.value_of v)
+number_fits defs t (system.Num z) e = inr (e, z, refl)
+
 module _ (limit : ℕ) (program : Program) where
   pub evaluated_done : (m : Memory) (vs : List Value) → next_all program.adts m (evaluated vs) ≡ Finished vs
   evaluated_done m [] = refl
@@ -152,10 +162,10 @@ module _ (limit : ℕ) (program : Program) where
   pc_is g j pc pc' variables slots held b e s = subst (λ (q : ℕ). Stands limit program (spot g j q variables slots) held b) e s
 
   -- Behind an evaluation: its value is in a slot, and what it got is held.
-  abbrev pub Behind : Frame → (lo hi into pc : ℕ) → List Instr → List (Option ℕ) → (Value → Block) → Type 0
-  Behind g lo hi into pc ds held C =
+  abbrev pub Behind : Ty → Frame → (lo hi into pc : ℕ) → List Instr → List (Option ℕ) → (Value → Block) → Type 0
+  Behind t g lo hi into pc ds held C =
       (j : ℕ) (variables : List Value) (slots : Slots) (v : Value) (got held' : List (Option ℕ)) → Holding g.slots slots lo hi ds got
-      → slot slots into ≡ Holds v → Between lo hi into → held' ≡ held ++ got
+      → slot slots into ≡ Holds v → Placed program.adts t lo hi into v → held' ≡ held ++ got
       → Stands limit program (spot g j pc variables slots) held' (C v)
 
   -- ---- one instruction
@@ -199,7 +209,7 @@ module _ (limit : ℕ) (program : Program) where
       (t : Ty) (f into : ℕ) (from : List ℕ) (vs : List Value) (own : List Instr)
       → slice_get g.code g.pc ≡ Some (Call t f into from) → Room g.slots into (suc into) held → values_of g.slots from ≡ vs
       → ((v : Value) → Owns into (fitted program.adts t v) own (references (fitted program.adts t v)))
-      → Behind g into (suc into) into (suc g.pc) own held (λ v. C (Evaluated v))
+      → Behind t g into (suc into) into (suc g.pc) own held (λ v. C (Evaluated v))
       → Going limit program g held (C (Node t (tree.Call f) (evaluated vs)))
   call_goes C c g held t f into from vs own i room e owns k =
       obeying (Call t f into from) room.names i
@@ -214,16 +224,17 @@ module _ (limit : ℕ) (program : Program) where
       subst (λ (b : Block). Stands limit program (spot g into (suc g.pc) g.variables (put g.slots into (Holds x))) (held ++ references x) b)
       (sym (c.fills x Awaiting))
       (k into g.variables (put g.slots into (Holds x)) x (references x) (held ++ references x)
-      (holding_put g.slots into x own (references x) l (owns v)) (put_same g.slots into (Holds x) l) (omega arith, omega arith) refl))))
+      (holding_put g.slots into x own (references x) l (owns v)) (put_same g.slots into (Holds x) l)
+      (omega arith, omega arith, inl (v, refl)) refl))))
 
   -- A print, which answers a number.
   pub print_goes : (C : Term → Block) → Carries limit program (next program.adts) fill C → (g : Frame) (held : List (Option ℕ))
       (t : Ty) (ps : List Piece) (into : ℕ) (from : List ℕ) (vs : List Value)
       → slice_get g.code g.pc ≡ Some (Print ps into from) → Room g.slots into (suc into) held → values_of g.slots from ≡ vs
-      → ((v : system.Value) → Owns into (source.value_of v) [] [])
-      → Behind g into (suc into) into (suc g.pc) [] held (λ v. C (Evaluated v))
+      → ((v : system.Value) → Owns into (source.value_of v) [] []) → t ≡ ty.Int
+      → Behind t g into (suc into) into (suc g.pc) [] held (λ v. C (Evaluated v))
       → Going limit program g held (C (Node t (tree.Print ps) (evaluated vs)))
-  print_goes C c g held t ps into from vs i room e owns k =
+  print_goes C c g held t ps into from vs i room e owns et k =
       obeying (Print ps into from) room.names i
       (λ w. prints into (formatted ps vs) (C Awaiting)
       (λ n below p. ap (λ (xs : List Value). machine.prints w (coded n g below p) (waiting g into)
@@ -237,5 +248,6 @@ module _ (limit : ℕ) (program : Program) where
       subst (λ (b : Block). Stands limit program (spot g into (suc g.pc) g.variables (put g.slots into (Holds x))) held b)
       (sym (c.fills x Awaiting))
       (k into g.variables (put g.slots into (Holds x)) x [] held
-      (holding_put g.slots into x [] [] l (owns v)) (put_same g.slots into (Holds x) l) (omega arith, omega arith)
+      (holding_put g.slots into x [] [] l (owns v)) (put_same g.slots into (Holds x) l)
+      (omega arith, omega arith, number_fits program.adts t v et)
       (sym (append-nil held))))))

@@ -61,7 +61,8 @@ holds_number v u e = ap operators.holds e
 module _ (limit : ℕ) (program : Program) where
   -- An expression with its drops, behind which nothing is held.
   pub expression_goes : (t : Term) (C : Term → Block) → Carries limit program (next program.adts) fill C
-      → ((v : Value) → ends_first (C (Evaluated v)) ≡ true) → (g : Frame) → Handled t → (lower program.adts 0 t).free ≤ length g.slots
+      → ((v : Value) → ends_first (C (Evaluated v)) ≡ true) → (g : Frame) → Handled program.adts t → (lower program.adts 0 t).free ≤
+      length g.slots
       → HasAt g.code g.pc (whole program.adts t) → SlotsName g.slots []
       → ((j : ℕ) (variables : List Value) (slots : Slots) (v : Value) → length slots ≡ length g.slots → SlotsName slots []
       → slot_number slots (lower program.adts 0 t).value ≡ number_of v
@@ -140,7 +141,7 @@ module _ (limit : ℕ) (program : Program) where
 
     -- An expression that stands alone.
     stands_alone : (j pc : ℕ) (variables : List Value) (slots : Slots) (t : Term) (rest : Block) → length slots ≡ size → SlotsName slots []
-        → Handled t → (lower program.adts 0 t).free ≤ size → HasAt g.code pc (whole program.adts t)
+        → Handled program.adts t → (lower program.adts 0 t).free ≤ size → HasAt g.code pc (whole program.adts t)
         → ((j : ℕ) (variables : List Value) (slots : Slots) → length slots ≡ size → SlotsName slots []
         → Stands limit program (F j (pc + length (whole program.adts t)) variables slots) [] rest)
         → Going limit program (F j pc variables slots) [] (Then (Eval t) rest)
@@ -154,7 +155,7 @@ module _ (limit : ℕ) (program : Program) where
         → Carries limit program (next program.adts) fill C → ((v : Value) → ends_first (C (Evaluated v)) ≡ true)
         → ((j pc : ℕ) (variables : List Value) (slots : Slots) (v : Value)
         → Quiet limit program (F j pc variables slots) [] (C (Evaluated v)) (after (holds v)))
-        → length slots ≡ size → SlotsName slots [] → Handled t → (lower program.adts 0 t).free ≤ size
+        → length slots ≡ size → SlotsName slots [] → Handled program.adts t → (lower program.adts 0 t).free ≤ size
         → HasAt g.code pc (test program.adts (Some t) n)
         → D (pc + length (test program.adts (Some t) n)) (after true) → D (pc + length (test program.adts (Some t) n) + n) (after false)
         → Going limit program (F j pc variables slots) [] (C t)
@@ -194,9 +195,9 @@ module _ (limit : ℕ) (program : Program) where
     tested_none None n body rest e = refl
     tested_none (Some y) n body rest e = absurd cc
 
-    handled_some : (c : Option Term) (x : Term) → c ≡ Some x → HandledIf c → Handled x
+    handled_some : (c : Option Term) (x : Term) → c ≡ Some x → HandledIf program.adts c → Handled program.adts x
     handled_some None x e h = absurd cc
-    handled_some (Some y) x e h = let f : y ≡ x = cc in subst Handled f h
+    handled_some (Some y) x e h = let f : y ≡ x = cc in subst (Handled program.adts) f h
 
     free_some : (c : Option Term) (x : Term) → c ≡ Some x → free_after program.adts c ≤ size → (lower program.adts 0 x).free ≤ size
     free_some c x e l = subst (λ (o : Option Term). free_after program.adts o ≤ size) e l
@@ -259,7 +260,8 @@ module _ (limit : ℕ) (program : Program) where
         )
 
     tested_next_has : (start : ℕ) (l : LoopIn) (rest : Block) (t : Term) → l.next ≡ Some t → TestedAt program.adts g.code size start l rest
-        → HasAt g.code (tested_turn program.adts start l) (whole program.adts t) × Handled t × ((lower program.adts 0 t).free ≤ size)
+        → HasAt g.code (tested_turn program.adts start l) (whole program.adts t) × Handled program.adts t ×
+        ((lower program.adts 0 t).free ≤ size)
         × (tested_turn program.adts start l + length (whole program.adts t) ≡ tested_back program.adts start l)
     tested_next_has start l rest t en (tested_at c' ec' h s1 s2 s3 has d x) =
         let head = tested_head program.adts l in
@@ -398,7 +400,8 @@ module _ (limit : ℕ) (program : Program) where
 
     entered_next_has : (start : ℕ) (l : LoopIn) (rest : Block) (t : Term) → l.next ≡ Some t → EnteredAt program.adts g.code size start l
         rest
-        → HasAt g.code (entered_turn program.adts start l) (whole program.adts t) × Handled t × ((lower program.adts 0 t).free ≤ size)
+        → HasAt g.code (entered_turn program.adts start l) (whole program.adts t) × Handled program.adts t ×
+        ((lower program.adts 0 t).free ≤ size)
         × (entered_turn program.adts start l + length (whole program.adts t) ≡ entered_test program.adts start l)
     entered_next_has start l rest t en (entered_at h s1 s2 s3 has d x) =
         let bc = entered_body program.adts l in

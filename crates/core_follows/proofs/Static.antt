@@ -41,11 +41,12 @@ after_one own v (Mirror d n) o h = h
 after_one own v (Take c from words n) o h = h
 after_one own v _ o h = tt
 
-after_touch : (own : ℕ → Type 0) (v : Moved) (is : List Instr) → own v.into → AllTouch own is → AllTouch own (drops_after v is)
+pub after_touch : (own : ℕ → Type 0) (v : Moved) (is : List Instr) → own v.into → AllTouch own is → AllTouch own (drops_after v is)
 after_touch own v [] o h = tt
 after_touch own v (i ∷ is) o h = (after_one own v i o h.0, after_touch own v is o h.1)
 
-after_all : (own : ℕ → Type 0) (defs : List Def) (ts : List Ty) (into : ℕ) (ns ss : List ℕ) (is : List Instr) → own into → AllTouch own is
+pub after_all : (own : ℕ → Type 0) (defs : List Def) (ts : List Ty) (into : ℕ) (ns ss : List ℕ) (is : List Instr) → own into
+    → AllTouch own is
     → AllTouch own (drops_after_all (moves_into defs ts into ns ss) is)
 after_all own defs ts into [] [] is o h = h
 after_all own defs ts into [] (s ∷ ss) is o h = h

@@ -35,56 +35,69 @@ use Rattle.core_code.proofs.Used.{terms_up}
 use Rattle.core_follows.specs.Drops.{Clean, Between, AllTouch, HasAt, none, enters, passes, Holding}
 use Rattle.core_follows.specs.Stands.{coded, Stands, Going, going, obeying}
 use Rattle.core_follows.specs.Stands.{place_at, rests}
-use Rattle.core_follows.specs.Handled.{count, Suits, Declares, IsKnown, Handled, AllHandled}
+use Rattle.limbo_types.specs.Types as ty
+use Rattle.core_code.specs.Terms.{type_of}
+use Rattle.core_follows.specs.Handled.{Fits, AllFit, Makes, types_in, count, Suits, Declares, IsKnown, Handled, AllHandled}
 use Rattle.std.proofs.lemmas.Bool.{cases_eq}
 use Rattle.core_follows.proofs.Slots.{put_same, put_other, put_long, name_clean}
 use Rattle.core_follows.proofs.Holding.{has_front, has_back, Room, room_front, room_behind, holding_more}
 use Rattle.core_follows.proofs.Holding.{holding_put}
 use Rattle.core_follows.proofs.Contexts.{Carries, carry}
 use Rattle.core_follows.proofs.Static.{touch_wide, values_counted}
-use Rattle.core_follows.proofs.Nodes.{AllBetween, AllHold, hold_same, hold_values, evaluated}
+use Rattle.core_follows.proofs.Nodes.{AllBetween, AllHold, hold_same, hold_values, hold_long, node_next, evaluated}
 use Rattle.core_follows.proofs.Nodes.{evaluated_done, spot, pc_is, Behind, store_goes, gives_always}
 use Rattle.core_follows.proofs.Given.{Both, gave, raised, give_goes, owns_row, owns_none, owns_fitted, counted}
 use Rattle.core_follows.proofs.Works.{Own, own_gives, own_channel, own_call, own_print, own_writes, own_nothing, own_copy, own_link}
+use Rattle.limbo_meaning.specs.Values.{nothing}
+use Rattle.std.specs.Prelude.{slice_index_or}
+use Rattle.std.specs.Prelude.{zero}
+use Rattle.core_follows.proofs.Valued.{AllValued, values_stand, values_differ, spare_outside}
+use Rattle.core_follows.proofs.Gathers.{SpareEach, gather_holding, tuple_references, tuple_segments}
+use Rattle.core_code.specs.Naming.{AllDiffer}
+use Rattle.core_code.specs.Terms.{numbers_from}
+use Rattle.core_code.specs.Code.{Gather}
+use Rattle.core_code.specs.Slots.{emptied}
+use Rattle.core_code.proofs.Names.{long_emptied}
+use Rattle.limbo_meaning.specs.Values.{Parts, row, among}
+use Rattle.limbo_layout.specs.Adts.{listed}
+use Rattle.limbo_typed.specs.declared.operation.Operation.TheVariants as operation
 
 -- ---- nothing waits in a tree of which nothing is evaluated
 
 mutual
-  pub handled_fill : (v : Value) (t : Term) → Handled t → fill v t ≡ t
-  handled_fill v (Node t o ts) h = ap (Node t o) (⊎_elim
-      (λ (x : Suits o (count ts) × AllHandled ts). handled_fill_all v ts x.1)
+  pub handled_fill : (defs : List Def) (v : Value) (t : Term) → Handled defs t → fill v t ≡ t
+  handled_fill defs v (Node t o ts) h = ap (Node t o) (⊎_elim
+      (λ (x : Suits defs t o ts × AllHandled defs ts). handled_fill_all defs v ts x.1)
       (λ (x : Declares o ts). declared_fill v o ts x) h)
-  handled_fill v (Lazy c l r) h = ap (λ (x : Term). Lazy c x r) (handled_fill v l h.0)
-  handled_fill v (Update o g t w ts us) h = ap (λ (x : Terms). Update o g t w x us) (handled_fill_all v ts h.1)
-  handled_fill v (Fill t l is rest) h = ap (λ (x : Term). Fill t x is rest) (⊎_elim
+  handled_fill defs v (Lazy c l r) h = ap (λ (x : Term). Lazy c x r) (handled_fill defs v l h.0)
+  handled_fill defs v (Update o g t w ts us) h = ap (λ (x : Terms). Update o g t w x us) (handled_fill_all defs v ts h.1)
+  handled_fill defs v (Fill t l is rest) h = ap (λ (x : Term). Fill t x is rest) (⊎_elim
       (λ (x : IsKnown l). known_fill v l x)
-      (λ (x : Handled l). handled_fill v l x) h.0)
-  handled_fill v _ h = absurd h
+      (λ (x : Handled defs l). handled_fill defs v l x) h.0)
+  handled_fill defs v _ h = absurd h
 
   known_fill : (v : Value) (t : Term) → IsKnown t → fill v t ≡ t
   known_fill v (Evaluated x) h = refl
   known_fill v _ h = absurd h
 
-  pub handled_fill_all : (v : Value) (ts : Terms) → AllHandled ts → fill_all v ts ≡ ts
-  handled_fill_all v NoTerms h = refl
-  handled_fill_all v (MoreTerms t ts) h =
-      ap (λ (x : Term). MoreTerms x (fill_all v ts)) (handled_fill v t h.0) ∙ ap (MoreTerms t) (handled_fill_all v ts h.1)
+  pub handled_fill_all : (defs : List Def) (v : Value) (ts : Terms) → AllHandled defs ts → fill_all v ts ≡ ts
+  handled_fill_all defs v NoTerms h = refl
+  handled_fill_all defs v (MoreTerms t ts) h =
+      ap (λ (x : Term). MoreTerms x (fill_all v ts)) (handled_fill defs v t h.0) ∙ ap (MoreTerms t) (handled_fill_all defs v ts h.1)
 
   declared_fill : (v : Value) (o : Work) (ts : Terms) → Declares o ts → fill_all v ts ≡ ts
   declared_fill v (tree.Assign (a ∷ aims)) (MoreTerms (Evaluated x) NoTerms) h = refl
   declared_fill v _ _ h = absurd h
 
 module _ (limit : ℕ) (program : Program) where
-  abbrev defs : List Def
-  defs = program.adts
-
   -- ---- what is to be shown of a tree and its code
 
   abbrev pub GoesBy : (lo : ℕ) → Term → Lowered → Type 0
   GoesBy lo t x =
       (C : Term → Block) → Carries limit program (next program.adts) fill C → (g : Frame) (held : List (Option ℕ))
       → HasAt g.code g.pc x.code → Room g.slots lo x.free held
-      → Behind limit program g lo x.free x.value (g.pc + length x.code) x.drops held (λ v. C (Evaluated v)) → Going limit program g held
+      → Behind limit program (type_of program.adts t) g lo x.free x.value (g.pc + length x.code) x.drops held (λ v. C (Evaluated v))
+      → Going limit program g held
       (C t)
 
   -- Operands behind which a step of the program may come that no instruction stands for, or an instruction.
@@ -111,7 +124,7 @@ module _ (limit : ℕ) (program : Program) where
       → HasAt g.code g.pc x.code → Room g.slots lo x.free held
       → ((j : ℕ) (variables : List Value) (slots : Slots) (vs : List Value) (got held' : List (Option ℕ)) → Holding g.slots slots lo
       x.free x.drops got
-      → AllHold slots x.values vs → AllBetween lo x.free x.values → held' ≡ held ++ got
+      → AllHold slots x.values vs → AllBetween lo x.free x.values → AllFit program.adts (types_in program.adts ts) vs → held' ≡ held ++ got
       → Comes b (spot g j (g.pc + length x.code) variables slots) held' (C (evaluated vs)))
       → Comes (begun b ts) g held (C ts)
 
@@ -123,17 +136,19 @@ module _ (limit : ℕ) (program : Program) where
   -- ---- a node behind its operands
 
   -- what the node does where its operands are evaluated
-  behind_operands : (X : Frame → List (Option ℕ) → Block → Type 0) (lo hi into : ℕ) (t : Ty) (o : Work) (ts : Terms) (l : LoweredAll)
-      (is ds : List Instr) → lo ≤ l.free → l.free ≤ hi → Own limit program X lo l.free hi into t o l.values is ds
+  behind_operands : (X : Frame → List (Option ℕ) → Block → Type 0) (lo hi into : ℕ) (T t : Ty) (o : Work) (ts : Terms) (l : LoweredAll)
+      (is ds : List Instr) → lo ≤ l.free → l.free ≤ hi → Own limit program X lo l.free hi into (types_in program.adts ts) T t o l.values
+      is ds
       → (C : Term → Block) → Carries limit program (next program.adts) fill C → (g : Frame) (held : List (Option ℕ))
       → HasAt g.code g.pc (l.code ++ is) → Room g.slots lo hi held
-      → Behind limit program g lo hi into (g.pc + length (l.code ++ is)) (l.drops ++ ds) held (λ v. C (Evaluated v))
+      → Behind limit program T g lo hi into (g.pc + length (l.code ++ is)) (l.drops ++ ds) held (λ v. C (Evaluated v))
       → (j : ℕ) (variables : List Value) (slots : Slots) (vs : List Value) (got held' : List (Option ℕ))
-      → Holding g.slots slots lo l.free l.drops got → AllHold slots l.values vs → AllBetween lo l.free l.values → held' ≡ held ++ got
-      → X (spot g j (g.pc + length l.code) variables slots) held' (C (Node t o (evaluated vs)))
-  behind_operands X lo hi into t o ts l is ds p q own C c g held has room k j variables slots vs got held' h hold bs eq =
+      → Holding g.slots slots lo l.free l.drops got → AllHold slots l.values vs → AllBetween lo l.free l.values
+      → AllFit program.adts (types_in program.adts ts) vs → held' ≡ held ++ got → X (spot g j (g.pc + length l.code) variables slots)
+      held' (C (Node t o (evaluated vs)))
+  behind_operands X lo hi into T t o ts l is ds p q own C c g held has room k j variables slots vs got held' h hold bs fs eq =
       own C c (spot g j (g.pc + length l.code) variables slots) held' vs (has_back g.code g.pc l.code is has)
-      (room_behind g.slots slots lo l.free hi l.drops held got held' p q room h eq) hold bs
+      (room_behind g.slots slots lo l.free hi l.drops held got held' p q room h eq) hold bs fs
       (λ j2 variables2 slots2 v got2 held2 h2 e2 b2 eq2.
       let n = length-append l.code is in
       pc_is limit program g j2 (g.pc + length (l.code ++ is)) (g.pc + length l.code + length is) variables2 slots2 held2 (C (Evaluated v))
@@ -141,14 +156,21 @@ module _ (limit : ℕ) (program : Program) where
       (k j2 variables2 slots2 v (got ++ got2) held2 (holding_more g.slots slots slots2 lo l.free hi l.drops ds got got2 p q h h2) e2 b2
       (eq2 ∙ ap (λ (x : List (Option ℕ)). x ++ got2) eq ∙ append_assoc held got got2)))
 
-  by_own : (lo hi into : ℕ) (t : Ty) (o : Work) (ts : Terms) (l : LoweredAll) (is ds : List Instr) → lo ≤ l.free → l.free ≤ hi
-      → Own limit program (Going limit program) lo l.free hi into t o l.values is ds → AllBy true lo ts l
+  by_own : (lo hi into : ℕ) (T t : Ty) (o : Work) (ts : Terms) (l : LoweredAll) (is ds : List Instr) → lo ≤ l.free → l.free ≤ hi
+      → T ≡ type_of program.adts (Node t o ts)
+      → Own limit program (Going limit program) lo l.free hi into (types_in program.adts ts) T t o l.values is ds → AllBy true lo ts l
       → GoesBy lo (Node t o ts) (record { code = l.code ++ is; drops = l.drops ++ ds; value = into; free = hi })
-  by_own lo hi into t o ts l is ds p q own all C c g held has room k =
+  by_own lo hi into T t o ts l is ds p q et own all C c g held has room k =
       begins ts g held (C (Node t o ts))
       (all (λ us. C (Node t o us)) (in_node C c t o) g held (has_front g.code g.pc l.code is has) (room_front g.slots lo l.free hi held p
       q room)
-      (behind_operands (Going limit program) lo hi into t o ts l is ds p q own C c g held has room k))
+      (behind_operands (Going limit program) lo hi into T t o ts l is ds p q own C c g held has room
+      (λ j variables slots v got held' h e b eq. k j variables slots v got held' h e (
+        b.0,
+        b.1,
+        subst (λ (u : Ty). Fits program.adts u v)
+            et b.2,
+      ) eq)))
 
   -- one that has no drops of its own
   same_drops : (lo : ℕ) (t : Term) (is ds : List Instr) (into hi : ℕ)
@@ -171,54 +193,109 @@ module _ (limit : ℕ) (program : Program) where
       (λ C c g held has room k.
       all (λ us. C (Node t (tree.Assign []) us)) (in_node C c t (tree.Assign [])) g held (has_front g.code g.pc l.code [] has)
       (room_front g.slots lo l.free l.free held p (omega arith) room)
-      (behind_operands (Stands limit program) lo l.free (slot_at 0 l.values) t (tree.Assign []) (MoreTerms u ts) l [] [] p (omega arith)
-      (own_nothing limit program lo l.free t l.values q) C c g held has room k))
+      (behind_operands (Stands limit program) lo l.free (slot_at 0 l.values) (type_of program.adts u) t (tree.Assign []) (MoreTerms u ts)
+      l [] []
+      p (omega arith) (own_nothing limit program lo l.free t l.values (types_in program.adts (MoreTerms u ts)) q) C c g held has room k))
 
-  node_goes : (lo : ℕ) (u t : Ty) (o : Work) (ts : Terms) (l : LoweredAll) → lo ≤ l.free → length l.values ≡ count ts → Suits o (count ts)
-      → ((b : Bool) → AllBy b lo ts l) → GoesBy lo (Node t o ts) (node program.adts u t o l)
-  node_goes lo u t (Operate o) ts l p n s all =
+  types_at : (k : ℕ) (ts : Terms) → slice_index_or (types_in program.adts ts) k ty.Nothing ≡ type_at program.adts k ts
+  types_at k NoTerms = refl
+  types_at zero (MoreTerms t ts) = refl
+  types_at (suc k) (MoreTerms t ts) = types_at k ts
+
+  spare_each : (lo hi : ℕ) (ds : List Instr) (ss : List ℕ) → AllValued lo hi ds ss → SpareEach ss ds
+  spare_each lo hi ds [] h = tt
+  spare_each lo hi ds (s ∷ ss) h = (h.0.1, spare_each lo hi ds ss h.1)
+
+  -- the parts of a tuple move into it
+  gathers_goes : (lo : ℕ) (t : Ty) (o : Operation) (ts : Terms) (l : LoweredAll) → lo ≤ l.free → AllValued lo l.free l.drops l.values
+      → AllDiffer l.values → Makes program.adts t o (types_in program.adts ts) → AllBy true lo ts l
+      → GoesBy lo (Node t (Operate o) ts) (gathers program.adts t o l)
+  gathers_goes lo (ty.Tuple us) operation.Tuple ts l p valued differ s all C c g held has room k =
+      let t : Ty = ty.Tuple us in
+      let mid : ℕ = l.free in
+      let is : List Instr = Gather t (Operate operation.Tuple) mid l.values ∷ [] in
+      let n1 = length-append l.code is in
+      begins ts g held (C (Node t (Operate operation.Tuple) ts))
+      (all (λ xs. C (Node t (Operate operation.Tuple) xs)) (in_node C c t (Operate operation.Tuple)) g held
+      (has_front g.code g.pc l.code is has)
+      (room_front g.slots lo mid (suc mid) held p (omega arith) room)
+      (λ j variables slots vs got held1 h hold bs fs eq.
+      let g1 = spot g j (g.pc + length l.code) variables slots in
+      let room1 = room_behind g.slots slots lo mid (suc mid) l.drops held got held1 p (omega arith) room h eq in
+      let u : Value = fitted program.adts t (Parts (row vs)) in
+      let slots2 = put (emptied slots l.values) mid (Holds u) in
+      let long : mid < length slots = let q = room1.fits in omega arith in
+      let refs = tuple_references program.adts us (types_in program.adts ts) vs s fs in
+      let segments = tuple_segments program.adts u (types_in program.adts ts) (listed us) [] vs l.values [] 0 refs refl s fs
+      (sym (hold_long slots l.values vs hold)) (omega arith) in
+      let whole = gather_holding program.adts (listed us) u g.slots slots lo mid (numbers_from program.adts 0 (length l.values)) l.values
+      vs l.drops got
+      p long h hold bs differ (spare_each lo mid l.drops l.values valued) (spare_outside lo mid mid l.drops (inr (omega arith)) h.within)
+      segments
+      (λ n. ap (among n) refs) (λ n. room1.clean mid (omega arith) (omega arith) n) in
+      gives_always limit program C c g1 held1 [] (Node t (Operate operation.Tuple) (evaluated vs)) (Evaluated u)
+      (Gather t (Operate operation.Tuple) mid l.values)
+      (suc (g.pc + length l.code)) slots2 (has_back g.code g.pc l.code is has).0 room1.names
+      (λ w q below r. ap (λ (xs : List Value). machine.gives limit (code_of program) w (coded q g1 below r) mid (emptied slots l.values)
+      (performed program.adts (memory_of w g1) t (Operate operation.Tuple) xs)) (hold_values slots l.values vs hold))
+      (λ w. node_next limit program (memory_of w g1) t (Operate operation.Tuple) vs)
+      (pc_is limit program g j (g.pc + length (l.code ++ is)) (suc (g.pc + length l.code)) variables slots2 (held1 ++ [])
+      (C (Evaluated u)) (omega arith)
+      (k j variables slots2 u got (held1 ++ []) whole
+      (put_same (emptied slots l.values) mid (Holds u) (let q = long_emptied slots l.values in omega arith))
+      (p, omega arith, inl (Parts (row vs), refl)) (append-nil held1 ∙ eq)))))
+  gathers_goes lo _ _ ts l p valued differ s all C c g held has room k = absurd s
+
+  node_goes : (lo : ℕ) (u t : Ty) (o : Work) (ts : Terms) (l : LoweredAll) → lo ≤ l.free → length l.values ≡ count ts
+      → Suits program.adts t o ts
+      → AllValued lo l.free l.drops l.values → AllDiffer l.values → ((b : Bool) → AllBy b lo ts l) → GoesBy lo (Node t o ts)
+      (node program.adts u t o l)
+  node_goes lo u t (Operate o) ts l p n (inl s) vd df all =
       subst (λ (b : Bool). GoesBy lo (Node t (Operate o) ts) (if b then gathers program.adts t o l else gives program.adts t (Operate o)
       l)) (sym s)
-      (by_own lo (suc l.free) l.free t (Operate o) ts l _ _ p (omega arith) (own_gives limit program lo l.free t (Operate o) l.values s
-      p) (all true))
-  node_goes lo u t (tree.Assign []) NoTerms l p n s all = absurd (omega arith)
-  node_goes lo u t (tree.Assign []) (MoreTerms x ts) l p n s all = by_nothing lo t x ts l p (omega arith) (all false)
-  node_goes lo u t (tree.Assign (a ∷ aims)) ts l p n s all =
+      (by_own lo (suc l.free) l.free t t (Operate o) ts l _ _ p (omega arith) refl
+      (own_gives limit program lo l.free t (Operate o) l.values (types_in program.adts ts) s p) (all true))
+  node_goes lo u t (Operate o) ts l p n (inr s) vd df all =
+      subst (λ (b : Bool). GoesBy lo (Node t (Operate o) ts) (if b then gathers program.adts t o l else gives program.adts t (Operate o)
+      l)) (sym s.0)
+      (gathers_goes lo t o ts l p vd df s.1 (all true))
+  node_goes lo u t (tree.Assign []) NoTerms l p n s vd df all = absurd (omega arith)
+  node_goes lo u t (tree.Assign []) (MoreTerms x ts) l p n s vd df all = by_nothing lo t x ts l p (omega arith) (all false)
+  node_goes lo u t (tree.Assign (a ∷ aims)) ts l p n s vd df all =
       same_drops lo _ _ l.drops _ l.free
-      (by_own lo l.free (slot_at (operands_for (a ∷ aims)) l.values) t (tree.Assign (a ∷ aims)) ts l _ [] p (omega arith)
-      (own_writes limit program lo l.free t a aims l.values (omega (arith, n, s))) (all true))
-  node_goes lo u t (tree.TakePart k) ts l p n s all = absurd s
-  node_goes lo u t tree.Copy ts l p n s all =
+      (by_own lo l.free (slot_at (operands_for (a ∷ aims)) l.values) _ t (tree.Assign (a ∷ aims)) ts l _ [] p (omega arith)
+      (types_at (operands_for (a ∷ aims)) ts)
+      (own_writes limit program lo l.free t a aims l.values (types_in program.adts ts) (omega (arith, n, s))) (all true))
+  node_goes lo u t (tree.TakePart k) ts l p n s vd df all = absurd s
+  node_goes lo u t tree.Copy ts l p n s vd df all =
       same_drops lo _ _ l.drops _ l.free
-      (by_own lo l.free (slot_at 2 l.values) t tree.Copy ts l _ [] p (omega arith) (own_copy limit program lo l.free t l.values
-      (omega (arith, n, s)))
-      (all true))
-  node_goes lo u t tree.Link ts l p n s all =
-      by_own lo (suc (l.free + (length l.values - 1))) (l.free + (length l.values - 1)) t tree.Link ts l _ _ p (omega arith)
-      (own_link limit program lo l.free t l.values p) (all true)
-  node_goes lo u t (tree.Call f) ts l p n s all =
-      by_own lo (suc l.free) l.free t (tree.Call f) ts l _ _ p (omega arith) (own_call limit program lo l.free t f l.values p) (all true)
-  node_goes lo u t (tree.Print ps) ts l p n s all =
+      (by_own lo l.free (slot_at 2 l.values) _ t tree.Copy ts l _ [] p (omega arith) (types_at 2 ts)
+      (own_copy limit program lo l.free t l.values (types_in program.adts ts) (omega (arith, n, s))) (all true))
+  node_goes lo u t tree.Link ts l p n s vd df all =
+      by_own lo (suc (l.free + (length l.values - 1))) (l.free + (length l.values - 1)) t t tree.Link ts l _ _ p (omega arith) refl
+      (own_link limit program lo l.free t l.values (types_in program.adts ts) s p) (all true)
+  node_goes lo u t (tree.Call f) ts l p n s vd df all =
+      by_own lo (suc l.free) l.free t t (tree.Call f) ts l _ _ p (omega arith) refl
+      (own_call limit program lo l.free t f l.values (types_in program.adts ts) p) (all true)
+  node_goes lo u t (tree.Print ps) ts l p n s vd df all =
       same_drops lo _ _ l.drops _ (suc l.free)
-      (by_own lo (suc l.free) l.free t (tree.Print ps) ts l _ [] p (omega arith) (own_print limit program lo l.free t ps l.values p)
-      (all true))
-  node_goes lo u t tree.NewChannel ts l p n s all =
-      by_own lo (suc l.free) l.free t tree.NewChannel ts l _ _ p (omega arith) (own_channel limit program lo l.free t l.values p) (all true)
-  node_goes lo u t (tree.Literal c) ts l p n s all =
-      by_own lo (suc l.free) l.free t (tree.Literal c) ts l _ _ p (omega arith) (own_gives limit program lo l.free t (tree.Literal c)
-      l.values tt p)
-      (all true)
-  node_goes lo u t tree.Nil ts l p n s all =
-      by_own lo (suc l.free) l.free t tree.Nil ts l _ _ p (omega arith) (own_gives limit program lo l.free t tree.Nil l.values tt p)
-      (all true)
-  node_goes lo u t (tree.Read w) ts l p n s all =
-      by_own lo (suc l.free) l.free t (tree.Read w) ts l _ _ p (omega arith) (own_gives limit program lo l.free t (tree.Read w) l.values
-      tt p)
-      (all true)
-  node_goes lo u t (tree.Sprint ps) ts l p n s all =
-      by_own lo (suc l.free) l.free t (tree.Sprint ps) ts l _ _ p (omega arith) (own_gives limit program lo l.free t (tree.Sprint ps)
-      l.values tt p)
-      (all true)
+      (by_own lo (suc l.free) l.free t t (tree.Print ps) ts l _ [] p (omega arith) refl
+      (own_print limit program lo l.free t ps l.values (types_in program.adts ts) s p) (all true))
+  node_goes lo u t tree.NewChannel ts l p n s vd df all =
+      by_own lo (suc l.free) l.free t t tree.NewChannel ts l _ _ p (omega arith) refl
+      (own_channel limit program lo l.free t l.values (types_in program.adts ts) s p) (all true)
+  node_goes lo u t (tree.Literal c) ts l p n s vd df all =
+      by_own lo (suc l.free) l.free t t (tree.Literal c) ts l _ _ p (omega arith) refl
+      (own_gives limit program lo l.free t (tree.Literal c) l.values (types_in program.adts ts) tt p) (all true)
+  node_goes lo u t tree.Nil ts l p n s vd df all =
+      by_own lo (suc l.free) l.free t t tree.Nil ts l _ _ p (omega arith) refl
+      (own_gives limit program lo l.free t tree.Nil l.values (types_in program.adts ts) tt p) (all true)
+  node_goes lo u t (tree.Read w) ts l p n s vd df all =
+      by_own lo (suc l.free) l.free t t (tree.Read w) ts l _ _ p (omega arith) refl
+      (own_gives limit program lo l.free t (tree.Read w) l.values (types_in program.adts ts) tt p) (all true)
+  node_goes lo u t (tree.Sprint ps) ts l p n s vd df all =
+      by_own lo (suc l.free) l.free t t (tree.Sprint ps) ts l _ _ p (omega arith) refl
+      (own_gives limit program lo l.free t (tree.Sprint ps) l.values (types_in program.adts ts) tt p) (all true)
 
   -- ---- connectives
 
@@ -308,7 +385,7 @@ module _ (limit : ℕ) (program : Program) where
       (d hi from : ℕ) (ds : List Instr) (n : ℕ) (g : Frame) (held : List (Option ℕ)) → may_hold program.adts r ≡ h → decides k v ≡ true
       → slice_get g.code g.pc ≡ Some (skipping k h d hi from n) → Room g.slots d (suc hi) held → d < hi → slot g.slots from ≡ Holds v
       → AllTouch (Between d (suc hi)) ds
-      → Behind limit program g d (suc hi) hi (suc g.pc + n) (drops_if h (Mirror d (length ds) ∷ ds)) held (λ x. C (Evaluated x))
+      → Behind limit program ty.Int g d (suc hi) hi (suc g.pc + n) (drops_if h (Mirror d (length ds) ∷ ds)) held (λ x. C (Evaluated x))
       → Going limit program g held (C (Lazy k (Evaluated v) r))
   shut_goes C c k r v h d hi from ds n g held eh eb i room l e t done =
       let x = truth_of v in
@@ -325,7 +402,7 @@ module _ (limit : ℕ) (program : Program) where
       (let f : hi < length g.slots = let q = room.fits in omega arith in
       let q = shut_holding h g.slots d hi ds (truth (holds v)) l f room.clean t in
       done g.into g.variables slots2 x (note h) (held ++ note h) q
-      (put_same slots1 hi (Holds x) (noted_long h g.slots d hi f)) (omega arith, omega arith) refl)
+      (put_same slots1 hi (Holds x) (noted_long h g.slots d hi f)) (omega arith, omega arith, inr (refl, truth (holds v), refl)) refl)
     where
       noted_long : (h : Bool) (slots : Slots) (d hi : ℕ) → hi < length slots → hi < length (machine.noted slots (noting h d) true)
       noted_long true slots d hi f = let q = put_long slots d (Holds (Num (pos 1))) in omega arith
@@ -352,7 +429,7 @@ module _ (limit : ℕ) (program : Program) where
   truth_goes : (C : Term → Block) → Carries limit program (next program.adts) fill C → (v : Value) (into from : ℕ) (g : Frame)
       (held : List (Option ℕ)) → slice_get g.code g.pc ≡ Some (Truth into from) → Room g.slots into (suc into) held → slot g.slots from ≡
       Holds v
-      → Behind limit program g into (suc into) into (suc g.pc) [] held (λ x. C (Evaluated x))
+      → Behind limit program ty.Int g into (suc into) into (suc g.pc) [] held (λ x. C (Evaluated x))
       → Going limit program g held (C (Deciding (Evaluated v)))
   truth_goes C c v into from g held i room e done =
       let x = truth_of v in
@@ -363,7 +440,7 @@ module _ (limit : ℕ) (program : Program) where
       (λ w. refl)
       (done g.into g.variables (put g.slots into (Holds x)) x [] (held ++ [])
       (holding_number g.slots into (truth (holds v)) l)
-      (put_same g.slots into (Holds x) l) (omega arith, omega arith) refl)
+      (put_same g.slots into (Holds x) l) (omega arith, omega arith, inr (refl, truth (holds v), refl)) refl)
 
   abbrev lazy_code : Connective → Bool → (a b : Lowered) → List Instr
   lazy_code k h a b =
@@ -414,7 +491,7 @@ module _ (limit : ℕ) (program : Program) where
       pc_is limit program g j2 end (suc start + suc (length b.code)) variables2 slots2 held2 (C (Evaluated x)) (omega arith)
       (done j2 variables2 slots2 x (got ++ got2) held2 (holding_more g.slots slots slots2 lo d hi a.drops R got got2 up_left
       (omega arith) h1 h2)
-      e2 (omega arith, omega arith) (onward held got got2 held1 held2 eq1 eq2))))
+      e2 (omega arith, omega arith, b2.2) (onward held got got2 held1 held2 eq1 eq2))))
       (λ (eb : decides k v ≡ false).
       open_goes C c k r v h d b.free a.value (suc (length b.code)) (length b.drops) g1 held1 eh eb has_own.0
       (room_front slots d (suc d) hi held1 (omega arith) (omega arith) room1) e1
@@ -441,7 +518,7 @@ module _ (limit : ℕ) (program : Program) where
       (omega arith)
       (holding_more g.slots slots2 slots3 lo (suc d) b.free (a.drops ++ M) b.drops (got ++ note h) got3 (omega arith) up_right
       (holding_more g.slots slots slots2 lo d (suc d) a.drops M got (note h) up_left (omega arith) h1 h2) h3) h4))
-      e4 (omega arith, omega arith)
+      e4 (omega arith, omega arith, b4.2)
       (onward held ((got ++ note h) ++ got3) got4 held3 held4
       (onward held (got ++ note h) got3 held2 held3 (onward held got (note h) held1 held2 eq1 refl) eq3) eq4))))))))))
 
@@ -458,21 +535,22 @@ module _ (limit : ℕ) (program : Program) where
       ++ (b.drops ++ drops_if (work_refers program.adts t (Operate o)) (drops_from b.free 0 (count_of program.adts t))))
 
   reads_place : (t : Ty) (into : ℕ) (m : Memory) (o : Operation) (k : Given) (p : Place) (us : Terms) (r : Raising Value) → p.type ≡ t
-      → Both into (drops_from into 0 (count_of program.adts t)) (λ v. Change o k p (MoreTerms (Evaluated v) us))
+      → Both program.adts t into (drops_from into 0 (count_of program.adts t)) (λ v. Change o k p (MoreTerms (Evaluated v) us))
       (unless_raised r (evaluation.gets program.adts m t))
       (unless_raised r (λ v. Stepped m (references (fitted program.adts p.type v))
       (Change o k p (MoreTerms (Evaluated (fitted program.adts p.type v)) us))))
   reads_place t into m o k p us (Ok v) e =
-      subst (λ (u : Ty). Both into (drops_from into 0 (count_of program.adts t)) (λ v. Change o k p (MoreTerms (Evaluated v) us))
+      subst (λ (u : Ty). Both program.adts t into (drops_from into 0 (count_of program.adts t))
+      (λ v. Change o k p (MoreTerms (Evaluated v) us))
       (Stepped m (references (fitted program.adts t v)) (Evaluated (fitted program.adts t v)))
       (Stepped m (references (fitted program.adts u v)) (Change o k p (MoreTerms (Evaluated (fitted program.adts u v)) us)))) (sym e)
       (gave m (fitted program.adts t v) (references (fitted program.adts t v))
-      (owns_row into (fitted program.adts t v) (count_of program.adts t) (counted program.adts t v)))
+      (owns_row into (fitted program.adts t v) (count_of program.adts t) (counted program.adts t v)) (inl (v, refl)))
   reads_place t into m o k p us (Err text) e = raised text
 
   changes_place : (t : Ty) (into : ℕ) (m : Memory) (o : Operation) (k : Given) (way : Way) (vs : List Value) (old : Value) (b : Bool)
       (r : Raising Outcome) → passes_on o ≡ b → b ≡ false
-      → Both into (drops_if (if b then false else refers program.adts t) (drops_from into 0 (count_of program.adts t)))
+      → Both program.adts t into (drops_if (if b then false else refers program.adts t) (drops_from into 0 (count_of program.adts t)))
       (λ v. Put (record { place = record { type = t; way = way; operands = vs }; value = v } ∷ []) (given_by k old v))
       (unless_raised r (evaluation.leaves program.adts m t o))
       (unless_raised r (λ r. Stepped r.memory (got_by o (fitted program.adts t r.value))
@@ -484,15 +562,21 @@ module _ (limit : ℕ) (program : Program) where
       let left : Value → Term = λ v. Put (record { place = record { type = t; way = way; operands = vs }; value = v } ∷ [])
       (given_by k old v) in
       let g : got_by o v ≡ references v = ap (λ (c : Bool). if c then [] else references v) e in
-      subst (λ (got : List (Option ℕ)). Both into (drops_if (refers program.adts t) (drops_from into 0 (count_of program.adts t))) left
+      subst (λ (got : List (Option ℕ)). Both program.adts t into
+      (drops_if (refers program.adts t) (drops_from into 0 (count_of program.adts t))) left
       (Stepped r.memory got (Evaluated v)) (Stepped r.memory got (left v))) (sym g)
-      (gave r.memory v (references v) (owns_fitted program.adts t into r.value))
+      (gave r.memory v (references v) (owns_fitted program.adts t into r.value) (inl (r.value, refl)))
   changes_place t into m o k way vs old false (Err text) e f = raised text
 
   given_slot_holds : (k : Given) (slots : Slots) (s d : ℕ) (old new : Value) → slot slots s ≡ Holds old → slot slots d ≡ Holds new
       → slot slots (given_slot program.adts k s d) ≡ Holds (given_by k old new)
   given_slot_holds given_kind.Old slots s d old new e f = e
   given_slot_holds given_kind.New slots s d old new e f = f
+
+  given_fits : (k : Given) (t : Ty) (old new : Value) → Fits program.adts t old → Fits program.adts t new → Fits program.adts t
+      (given_by k old new)
+  given_fits given_kind.Old t old new a b = a
+  given_fits given_kind.New t old new a b = b
 
   given_between : (k : Given) (lo hi s d : ℕ) → Between lo hi s → Between lo hi d → Between lo hi (given_slot program.adts k s d)
   given_between given_kind.Old lo hi s d b c = b
@@ -525,18 +609,18 @@ module _ (limit : ℕ) (program : Program) where
       (λ x. Update o k t w x us)
       (λ m vs. reads_first program.adts m o k (record { type = t; way = w; operands = vs }) us) (λ m x. refl) (λ v x. refl))
       g held (has_front g.code g.pc a.code own has_ab) (room_front g.slots lo d hi held up_left (omega arith) room)
-      (λ j variables slots vs got held1 h1 hold1 bs1 eq1.
+      (λ j variables slots vs got held1 h1 hold1 bs1 fs1 eq1.
       let p : Place = record { type = t; way = w; operands = vs } in
       let g1 = spot g j start variables slots in
       let room1 = room_behind g.slots slots lo d hi a.drops held got held1 up_left (omega arith) room h1 eq1 in
       give_goes limit program C c g1 held1 (Update o k t w (evaluated vs) us) t (tree.Read w) d a.values D
       (λ v. Change o k p (MoreTerms (Evaluated v) us)) has_own.0 (room_front slots d (suc d) hi held1 (omega arith) (omega arith) room1)
-      (λ x. subst (λ (y : Progress Value Term). Both d D (λ v. Change o k p (MoreTerms (Evaluated v) us))
+      (λ x. subst (λ (y : Progress Value Term). Both program.adts t d D (λ v. Change o k p (MoreTerms (Evaluated v) us))
       (performed program.adts (memory_of x g1) t (tree.Read w) (values_of slots a.values)) y)
       (sym (ap (λ (q : Progress (List Value) Terms). after q (λ vs. reads_first program.adts (memory_of x g1) o k
       (record { type = t; way = w; operands = vs }) us)
       (λ ts. Update o k t w ts us)) (evaluated_done limit program (memory_of x g1) vs)))
-      (subst (λ (ys : List Value). Both d D (λ v. Change o k p (MoreTerms (Evaluated v) us))
+      (subst (λ (ys : List Value). Both program.adts t d D (λ v. Change o k p (MoreTerms (Evaluated v) us))
       (performed program.adts (memory_of x g1) t (tree.Read w) ys) (reads_first program.adts (memory_of x g1) o k p us))
       (sym (hold_values slots a.values vs hold1)) (reads_place t d (memory_of x g1) o k p us (read (memory_of x g1) p) refl)))
       (λ j2 variables2 slots2 old got2 held2 h2 e2 b2 eq2.
@@ -550,7 +634,7 @@ module _ (limit : ℕ) (program : Program) where
       going (begins us g2 held2 (C (Change o k p (MoreTerms (Evaluated old) us)))
       (gr (λ x. C (Change o k p (MoreTerms (Evaluated old) x))) c2 g2 held2 has_own.1
       (room_front slots2 (suc d) b.free hi held2 up_right (omega arith) room2)
-      (λ j3 variables3 slots3 ws got3 held3 h3 hold3 bs3 eq3.
+      (λ j3 variables3 slots3 ws got3 held3 h3 hold3 bs3 fs3 eq3.
       let g3 = spot g2 j3 (suc start + length b.code) variables3 slots3 in
       let at_last : g.pc + length (a.code ++ own) ≡ suc start + length b.code = omega arith in
       let has3 = subst (λ (q : ℕ). HasAt g.code q last) at_last has_last in
@@ -564,11 +648,11 @@ module _ (limit : ℕ) (program : Program) where
       (hold_values slots3 b.values ws hold3) in
       let left : Value → Term = λ v. Put (record { place = p; value = v } ∷ []) (given_by k old v) in
       give_goes limit program C c g3 held3 (Change o k p (evaluated (old ∷ ws))) t (Operate o) b.free (d ∷ b.values) E left has3.0 room3
-      (λ x. subst (λ (y : Progress Value Term). Both b.free E left (performed program.adts (memory_of x g3) t (Operate o)
+      (λ x. subst (λ (y : Progress Value Term). Both program.adts t b.free E left (performed program.adts (memory_of x g3) t (Operate o)
       (values_of slots3 (d ∷ b.values))) y)
       (sym (ap (λ (q : Progress (List Value) Terms). after q (λ ys. changes program.adts (memory_of x g3) o k p ys) (Change o k p))
       (evaluated_done limit program (memory_of x g3) (old ∷ ws))))
-      (subst (λ (ys : List Value). Both b.free E left (performed program.adts (memory_of x g3) t (Operate o) ys)
+      (subst (λ (ys : List Value). Both program.adts t b.free E left (performed program.adts (memory_of x g3) t (Operate o) ys)
       (changes program.adts (memory_of x g3) o k p (old ∷ ws))) (sym operands3)
       (changes_place t b.free (memory_of x g3) o k w vs old (passes_on o) (result_of program.adts (memory_of x g3) t o (old ∷ ws)) refl
       op)))
@@ -600,7 +684,8 @@ module _ (limit : ℕ) (program : Program) where
       (λ variables5.
       pc_is limit program g4 j4 end (suc pc4) variables5 slots4 held4 (C (Evaluated v)) (omega arith)
       (done j4 variables5 slots4 v got_all held4 whole (given_slot_holds k slots4 d b.free old new old4 e4)
-      (given_between k lo hi d b.free (up_left, omega arith) (omega arith, omega arith)) all_held))))))))))
+      (let w = given_between k lo hi d b.free (up_left, omega arith) (omega arith, omega arith) in
+      (w.0, w.1, given_fits k t old new b2.2 b4.2)) all_held))))))))))
 
   -- ---- a value that is known, for variables that are declared without one
 
@@ -616,34 +701,37 @@ module _ (limit : ℕ) (program : Program) where
       (λ w. rests (suc g.pc) slots1 (λ n below p. refl) rank
       (done slots1 (holding_put g.slots lo v [] [] l (owns_none lo v (λ n. ap (among n) e))) (put_same g.slots lo (Holds v) l)))
 
-  declared_goes : (lo : ℕ) (u t : Ty) (a : Aim) (aims : List Aim) (v : Value) → operands_for (a ∷ aims) ≡ 0 → references v ≡ []
+  declared_goes : (lo : ℕ) (u t : Ty) (a : Aim) (aims : List Aim) (v : Value) → operands_for (a ∷ aims) ≡ 0 → v ≡ nothing
       → GoesBy lo (Node t (tree.Assign (a ∷ aims)) (MoreTerms (Evaluated v) NoTerms))
       (node program.adts u t (tree.Assign (a ∷ aims)) (lower_all program.adts lo (MoreTerms (Evaluated v) NoTerms)))
   declared_goes lo u t a aims v none_there e C c g held has room done =
       let ss : List ℕ = lo ∷ [] in
       let n : ℕ = operands_for (a ∷ aims) in
       let is : List Instr = writes program.adts (a ∷ aims) ss (slot_at n ss) in
-      known_goes v lo g held (C (Node t (tree.Assign (a ∷ aims)) (evaluated (v ∷ [])))) e has.0
+      known_goes v lo g held (C (Node t (tree.Assign (a ∷ aims)) (evaluated (v ∷ [])))) (ap references e) has.0
       (subst (λ (o : Option Instr). 0 < place_at o) (sym has.1.0) (omega arith)) room
       (λ slots h1 e1.
       let g1 = spot g g.into (suc g.pc) g.variables slots in
       let held1 : held ≡ held ++ [] = sym (append-nil held) in
-      going (own_writes limit program lo (suc lo) t a aims ss (omega (arith, none_there)) C c g1 held (v ∷ []) has.1
+      going (own_writes limit program lo (suc lo) t a aims ss (ty.Nothing ∷ []) (omega (arith, none_there)) C c g1 held (v ∷ []) has.1
       (room_behind g.slots slots lo (suc lo) (suc lo) [] held [] held (omega arith) (omega arith) room h1 held1) (e1, tt)
-      ((omega arith, omega arith), tt)
+      ((omega arith, omega arith), tt) (inl (v, e), tt)
       (λ j variables slots2 x got held' h2 e2 b2 eq2.
       pc_is limit program g j (g.pc + suc (length is)) (suc g.pc + length is) variables slots2 held' (C (Evaluated x)) (omega arith)
       (done j variables slots2 x got held' (holding_more g.slots slots slots2 lo (suc lo) (suc lo) [] [] [] got (omega arith)
-      (omega arith) h1 h2) e2 b2 eq2))))
+      (omega arith) h1 h2) e2
+      (b2.0, b2.1, subst (λ (u : Ty). Fits program.adts u x) (types_at (operands_for (a ∷ aims)) (MoreTerms (Evaluated v) NoTerms)) b2.2)
+      eq2))))
 
   -- ---- all trees
 
-  pub node_either : (lo : ℕ) (t : Ty) (o : Work) (ts : Terms) → (Suits o (count ts) × AllHandled ts) ⊎ Declares o ts
-      → (AllHandled ts → (b : Bool) → AllBy b lo ts (lower_all program.adts lo ts)) → GoesBy lo (Node t o ts)
+  pub node_either : (lo : ℕ) (t : Ty) (o : Work) (ts : Terms) → (Suits program.adts t o ts × AllHandled program.adts ts) ⊎ Declares o ts
+      → (AllHandled program.adts ts → (b : Bool) → AllBy b lo ts (lower_all program.adts lo ts)) → GoesBy lo (Node t o ts)
       (lower program.adts lo (Node t o ts))
   node_either lo t o ts (inl x) all =
       node_goes lo (type_at program.adts 0 ts) t o ts (lower_all program.adts lo ts) (terms_up program.adts lo ts)
-      (values_counted program.adts lo ts) x.0
+      (values_counted program.adts lo ts) x.0 (values_stand program.adts ts x.1 lo)
+      (values_differ program.adts ts x.1 lo)
       (all x.1)
   node_either lo t (tree.Assign (a ∷ aims)) (MoreTerms (Evaluated v) NoTerms) (inr d) all =
       declared_goes lo (type_at program.adts 0 (MoreTerms (Evaluated v) NoTerms)) t a aims v d.0 d.1

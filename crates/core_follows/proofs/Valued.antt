@@ -20,12 +20,17 @@ use Rattle.core_code.proofs.Used.{end_up, items_up, rest_up, term_up, terms_up}
 use Rattle.core_follows.specs.Drops.{Between, Beside, Touches, AllTouch, Spares, AllSpare}
 use Rattle.core_follows.specs.Handled.{count, Suits, Declares, Handled, AllHandled}
 use Rattle.core_follows.proofs.Static.{items_within, rest_within, drops_within, all_within, values_counted}
+use Rattle.core_code.specs.Terms.{Moved, is_moved, drop_after, drops_after, drops_after_all, moves_into, part_types, part_numbers}
+use Rattle.core_code.specs.Code.{Mirror}
+use Rattle.core_code.specs.Naming.{DiffersFrom, AllDiffer}
 
 spare_one : (lo hi s : ℕ) (i : Instr) → Beside lo hi s → Touches (Between lo hi) i → Spares s i
 spare_one lo hi s (Take c from words n) b t = (
   (λ e. absurd (let x = t.0 in elim b [ inl y ↦ omega (arith, y, e, x.0) | inr y ↦ omega (arith, y, e, x.1) ])),
   λ p q. absurd (let x = t.2 s p q in elim b [ inl y ↦ omega (arith, y, x.0) | inr y ↦ omega (arith, y, x.1) ]),
 )
+spare_one lo hi s (Mirror d n) b t =
+    λ e. absurd (elim b [ inl y ↦ (let x = t.0 in omega (arith, y, e, x)) | inr y ↦ (let x = t.1 in omega (arith, y, e, x)) ])
 spare_one lo hi s _ b t = tt
 
 pub spare_outside : (lo hi s : ℕ) (is : List Instr) → Beside lo hi s → AllTouch (Between lo hi) is → AllSpare s is
@@ -43,6 +48,24 @@ spare_from s d k (suc n) = (tt, spare_from s d (suc k) n)
 spare_if : (s : ℕ) (b : Bool) (is : List Instr) → AllSpare s is → AllSpare s (drops_if b is)
 spare_if s true is h = h
 spare_if s false is h = tt
+
+spare_after : (s : ℕ) (v : Moved) (i : Instr) → Spares s i → Spares s (drop_after v i)
+spare_after s v (Drop r j) h = either (is_moved v r j)
+  where
+    either : (b : Bool) → Spares s (if b then Drop v.into (v.at + (j - v.first)) else Drop r j)
+    either true = tt
+    either false = tt
+spare_after s v (Mirror d n) h = h
+spare_after s v (Take c from words n) h = h
+spare_after s v _ h = tt
+
+pub spare_after_one : (s : ℕ) (v : Moved) (is : List Instr) → AllSpare s is → AllSpare s (drops_after v is)
+spare_after_one s v [] h = tt
+spare_after_one s v (i ∷ is) h = (spare_after s v i h.0, spare_after_one s v is h.1)
+
+spare_after_all : (s : ℕ) (vs : List Moved) (is : List Instr) → AllSpare s is → AllSpare s (drops_after_all vs is)
+spare_after_all s [] is h = h
+spare_after_all s (v ∷ vs) is h = spare_after_all s vs (drops_after v is) (spare_after_one s v is h)
 
 pub record Valued (lo : ℕ) (x : Lowered) : Type 0 where
   pub between : Between lo x.free x.value
@@ -83,39 +106,47 @@ module _ (defs : List Def) where
         (spare_if l.free (work_refers defs t o) _ (spare_from l.free l.free 0 (count_of defs t)));
   }
 
-  node_valued : (lo : ℕ) (u t : Ty) (o : Work) (l : LoweredAll) (n : ℕ) → lo ≤ l.free → AllTouch (Between lo l.free) l.drops
-      → length l.values ≡ n
-      → AllValued lo l.free l.drops l.values → Suits o n → Valued lo (node defs u t o l)
-  node_valued lo u t (Operate o) l n p w e v s =
+  node_valued : (lo : ℕ) (u t : Ty) (o : Work) (ts : Terms) (l : LoweredAll) → lo ≤ l.free → AllTouch (Between lo l.free) l.drops
+      → length l.values ≡ count ts
+      → AllValued lo l.free l.drops l.values → Suits defs t o ts → Valued lo (node defs u t o l)
+  node_valued lo u t (Operate o) ts l p w e v (inl s) =
       subst (λ (b : Bool). Valued lo (if b then gathers defs t o l else gives defs t (Operate o) l)) (sym s)
       (gives_valued lo t (Operate o) l p w)
-  node_valued lo u t (tree.Assign aims) l n p w e v s =
+  node_valued lo u t (Operate o) ts l p w e v (inr s) =
+      subst (λ (b : Bool). Valued lo (if b then gathers defs t o l else gives defs t (Operate o) l)) (sym s.0)
+      (record {
+        between = (p, omega arith);
+        spares = spare_after_all l.free (moves_into defs (part_types defs t) l.free (part_numbers defs o (length l.values)) l.values)
+            l.drops
+            (spare_outside lo l.free l.free l.drops (inr (omega arith)) w);
+      })
+  node_valued lo u t (tree.Assign aims) ts l p w e v s =
       let x = valued_at lo l.free l.drops l.values (operands_for aims) (omega (arith, e, s)) v in record { between = x.0; spares = x.1 }
-  node_valued lo u t (tree.TakePart k) l n p w e v s = absurd s
-  node_valued lo u t tree.Copy l n p w e v s =
+  node_valued lo u t (tree.TakePart k) ts l p w e v s = absurd s
+  node_valued lo u t tree.Copy ts l p w e v s =
       let x = valued_at lo l.free l.drops l.values 2 (omega (arith, e, s)) v in record { between = x.0; spares = x.1 }
-  node_valued lo u t tree.Link l n p w e v s =
+  node_valued lo u t tree.Link ts l p w e v s =
       let at = l.free + (length l.values - 1) in
       record {
         between = (omega arith, omega arith);
         spares = spare_more at l.drops _ (spare_outside lo l.free at l.drops (inr (omega arith)) w)
             (spare_cells at (length l.values) l.free);
       }
-  node_valued lo u t (tree.Call f) l n p w e v s = record {
+  node_valued lo u t (tree.Call f) ts l p w e v s = record {
     between = (p, omega arith);
     spares = spare_more l.free l.drops _ (spare_outside lo l.free l.free l.drops (inr (omega arith)) w)
         (spare_from l.free l.free 0 (count_of defs t));
   }
-  node_valued lo u t (tree.Print ps) l n p w e v s =
+  node_valued lo u t (tree.Print ps) ts l p w e v s =
       record { between = (p, omega arith); spares = spare_outside lo l.free l.free l.drops (inr (omega arith)) w }
-  node_valued lo u t tree.NewChannel l n p w e v s = record {
+  node_valued lo u t tree.NewChannel ts l p w e v s = record {
     between = (p, omega arith);
     spares = spare_more l.free l.drops _ (spare_outside lo l.free l.free l.drops (inr (omega arith)) w) (tt, tt);
   }
-  node_valued lo u t (tree.Literal c) l n p w e v s = gives_valued lo t (tree.Literal c) l p w
-  node_valued lo u t tree.Nil l n p w e v s = gives_valued lo t tree.Nil l p w
-  node_valued lo u t (tree.Read r) l n p w e v s = gives_valued lo t (tree.Read r) l p w
-  node_valued lo u t (tree.Sprint ps) l n p w e v s = gives_valued lo t (tree.Sprint ps) l p w
+  node_valued lo u t (tree.Literal c) ts l p w e v s = gives_valued lo t (tree.Literal c) l p w
+  node_valued lo u t tree.Nil ts l p w e v s = gives_valued lo t tree.Nil l p w
+  node_valued lo u t (tree.Read r) ts l p w e v s = gives_valued lo t (tree.Read r) l p w
+  node_valued lo u t (tree.Sprint ps) ts l p w e v s = gives_valued lo t (tree.Sprint ps) l p w
 
   declared_valued : (lo : ℕ) (t : Ty) (o : Work) (ts : Terms) → Declares o ts → Valued lo (lower defs lo (Node t o ts))
   declared_valued lo t (tree.Assign (a ∷ aims)) (MoreTerms (Evaluated v) NoTerms) d =
@@ -129,9 +160,9 @@ module _ (defs : List Def) where
   given_valued given_kind.New lo s d hi ds x y = y
 
   mutual
-    pub value_stands : (t : Term) → Handled t → (lo : ℕ) → Valued lo (lower defs lo t)
+    pub value_stands : (t : Term) → Handled defs t → (lo : ℕ) → Valued lo (lower defs lo t)
     value_stands (Node t o ts) h lo = ⊎_elim
-        (λ (x : Suits o (count ts) × AllHandled ts). node_valued lo (type_at defs 0 ts) t o (lower_all defs lo ts) (count ts)
+        (λ (x : Suits defs t o ts × AllHandled defs ts). node_valued lo (type_at defs 0 ts) t o ts (lower_all defs lo ts)
         (terms_up defs lo ts)
         (all_within defs lo ts) (values_counted defs lo ts) (values_stand ts x.1 lo) x.0)
         (λ (x : Declares o ts). declared_valued lo t o ts x) h
@@ -144,7 +175,7 @@ module _ (defs : List Def) where
           between = (omega arith, omega arith);
           spares = spare_more b.free a.drops _ (spare_outside lo a.free b.free a.drops (inr (omega arith)) (drops_within defs lo l))
               (spare_if b.free (may_hold defs r) _ (
-                tt,
+                (λ e. absurd (omega (arith, e, q))),
                 spare_outside (suc a.free) b.free b.free b.drops (inr (omega arith))
                     (drops_within defs (suc a.free) r),
               ));
@@ -186,7 +217,7 @@ module _ (defs : List Def) where
         }
     value_stands _ h lo = absurd h
 
-    pub values_stand : (ts : Terms) → AllHandled ts → (lo : ℕ) → AllValued lo (lower_all defs lo ts).free (lower_all defs lo ts).drops
+    pub values_stand : (ts : Terms) → AllHandled defs ts → (lo : ℕ) → AllValued lo (lower_all defs lo ts).free (lower_all defs lo ts).drops
         (lower_all defs lo ts).values
     values_stand NoTerms h lo = tt
     values_stand (MoreTerms t ts) h lo =
@@ -201,3 +232,17 @@ module _ (defs : List Def) where
           ),
           valued_more a.free lo b.free a.drops b.drops b.values (term_up defs lo t) (drops_within defs lo t) (values_stand ts h.1 a.free),
         )
+
+  -- ---- the values of operands stand apart
+
+  differs_from : (s lo hi : ℕ) (ds : List Instr) (ss : List ℕ) → s < lo → AllValued lo hi ds ss → DiffersFrom s ss
+  differs_from s lo hi ds [] l h = tt
+  differs_from s lo hi ds (r ∷ ss) l h = ((λ e. absurd (let x = h.0.0.0 in omega (arith, x, l, e))), differs_from s lo hi ds ss l h.1)
+
+  pub values_differ : (ts : Terms) → AllHandled defs ts → (lo : ℕ) → AllDiffer (lower_all defs lo ts).values
+  values_differ NoTerms h lo = tt
+  values_differ (MoreTerms t ts) h lo =
+      let a = lower defs lo t in
+      let b = lower_all defs a.free ts in
+      let v = value_stands t h.0 lo in
+      (differs_from a.value a.free b.free b.drops b.values v.between.1 (values_stand ts h.1 a.free), values_differ ts h.1 a.free)

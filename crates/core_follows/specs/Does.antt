@@ -49,7 +49,7 @@ module _ (defs : List Def) where
   module _ (codes : List Instr) (size : ℕ) where
     -- A tree of which nothing is evaluated, with slots that are there.
     abbrev pub Ready : Term → Type 0
-    Ready t = Handled t × ((lower defs 0 t).free ≤ size)
+    Ready t = Handled defs t × ((lower defs 0 t).free ≤ size)
 
     mutual
       pub data Does : (pc : ℕ) → Block → Type 0 where
@@ -85,13 +85,14 @@ module _ (defs : List Def) where
 
       -- The code of a whole loop stands there, and what follows it.
       pub data TestedAt : (start : ℕ) → LoopIn → Block → Type 0 where
-        tested_at : {start : ℕ} {l : LoopIn} {rest : Block} (c : Term) → l.condition ≡ Some c → HandledLoop (length l.around) (loop_of l)
+        tested_at : {start : ℕ} {l : LoopIn} {rest : Block} (c : Term) → l.condition ≡ Some c → HandledLoop defs (length l.around)
+            (loop_of l)
             → free_after defs l.condition ≤ size → free_after defs l.next ≤ size → block_slots defs l.body ≤ size
             → HasAt codes start (loop_tested defs l.condition (tested_body l) (whole_if defs l.next))
             → Does (suc (tested_back start l)) rest → Exits (suc (tested_back start l) + l.rest) l.around rest → TestedAt start l rest
 
       pub data EnteredAt : (start : ℕ) → LoopIn → Block → Type 0 where
-        entered_at : {start : ℕ} {l : LoopIn} {rest : Block} → HandledLoop (length l.around) (loop_of l)
+        entered_at : {start : ℕ} {l : LoopIn} {rest : Block} → HandledLoop defs (length l.around) (loop_of l)
             → free_after defs l.condition ≤ size → free_after defs l.next ≤ size → block_slots defs l.body ≤ size
             → HasAt codes start (loop_entered defs l.condition (entered_body l) (whole_if defs l.next))
             → Does (suc (entered_test start l + length (test defs l.condition 1))) rest

@@ -50,9 +50,10 @@ abbrev pub AllMiss : (s k : ℕ) → List Instr → Type 0
 AllMiss s k [] = Unit {0}
 AllMiss s k (i ∷ is) = Misses s k i × AllMiss s k is
 
--- No drop of these brings a value back into a slot.
+-- No drop of these brings a value back into a slot, or reads it again as what was decided.
 abbrev pub Spares : (s : ℕ) → Instr → Type 0
 Spares s (Take c from words n) = Apart c from words s
+Spares s (Mirror d n) = s ≡ d → ⊥
 Spares s i = Unit {0}
 
 abbrev pub AllSpare : (s : ℕ) → List Instr → Type 0

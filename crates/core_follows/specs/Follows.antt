@@ -66,7 +66,7 @@ module _ (limit : ℕ) (program : Program) where
 
 -- All functions of the program are of the part that is handled.
 abbrev pub HandledProgram : Program → Type 0
-HandledProgram program = (f : ℕ) (r : Routine) → slice_get program.routines f ≡ Some r → HandledBlock 0 r.body
+HandledProgram program = (f : ℕ) (r : Routine) → slice_get program.routines f ≡ Some r → HandledBlock program.adts 0 r.body
 
 abbrev pub CodeKeeps : Type 0
 CodeKeeps = (limit : ℕ) (program : Program) → HandledProgram program → Keeps limit program

@@ -5,8 +5,9 @@
 //! the law speaks of), `Does` (what the code does from a place on where nothing of a statement is begun), `Stands` (when a frame of the
 //! code stands for one of the program, in the midst of whatever), `Follows` (the law).
 //!
-//! In `proofs/`, `Slots`, `Drops`, `Holding` and `Static` have what slots name and drops touch; `Contexts`, `Nodes`, `Given`, `Works` and
-//! `Terms` are expressions, `Dropped` the drops of a statement, `Valued`, `Blocks` and `Statements` statements, and `Follows` processes.
+//! In `proofs/`, `Slots`, `Drops`, `Holding` and `Static` have what slots name and drops touch, and `Moves`, `Gathers` what they name after
+//! the parts of a tuple have moved into it; `Contexts`, `Nodes`, `Given`, `Works`, `Terms`, `Filling` and `Expressions` are expressions,
+//! `Dropped` the drops of a statement, `Valued`, `Blocks` and `Statements` statements, and `Follows` processes.
 #![tactic(auto)]
 
 mod laws;

@@ -1,0 +1,362 @@
+-- Parts that move from their slots into one value.
+use Rattle.std.proofs.Common.{◌≡◌, ℕ, zero, suc, ◌+◌, ◌-◌, ◌<◌, ◌≤◌, List, [], ◌∷◌, ◌++◌, length, Option}
+use Rattle.std.proofs.Common.{None}
+use Rattle.std.proofs.Common.{refl, sym, ap, subst, ◌∙◌, arith, append_assoc, length-append, inl, inr, ⊎_elim, ◌⊎◌, take}
+use Rattle.std.proofs.lemmas.Bool.{cases_eq}
+use Rattle.std.specs.Prelude.{slice_index_or}
+use Rattle.limbo_types.specs.Types as ty
+use Rattle.limbo_types.specs.Types.{Ty, Tys}
+use Rattle.limbo_layout.specs.Adts.{Def, listed}
+use Rattle.limbo_meaning.specs.Values as values
+use Rattle.limbo_meaning.specs.Values.{Value, Parts, row, references, references_in, all_fitted, fitted, among}
+use Rattle.core_code.specs.Slots.{Slot, Holds, Slots, empty, slot, put, value_of, emptied, slot_names}
+use Rattle.core_code.specs.Code.{Instr, Drop}
+use Rattle.core_code.specs.Naming.{reference, DiffersFrom, AllDiffer, HoldValues}
+use Rattle.core_code.specs.Terms.{Moved, drop_after, drops_after, drops_after_all, moves_into, count_of, count_all, numbers_from}
+use Rattle.core_code.proofs.Names.{names_put, names_emptied, emptied_other, long_emptied, listed_row, row_references}
+use Rattle.core_code.proofs.Whole.{values_are_whole}
+use Rattle.core_follows.specs.Drops.{Between, Beside, AllTouch, Touches, AllSpare, Dropping, Holding}
+use Rattle.core_follows.specs.Handled.{AllFit, AllStandFor}
+use Rattle.core_follows.proofs.Slots.{put_same, put_other, put_long, total, total_same, slots_split}
+use Rattle.core_follows.proofs.Drops.{dropping_kept, touch_others}
+use Rattle.core_follows.proofs.Static.{after_all}
+use Rattle.core_follows.proofs.Moves.{Under, AllUnder, IsMoved, IsNotMoved, moved_or, to_moved, to_same, Goes_over, move_dropping}
+use Rattle.core_follows.proofs.Nodes.{AllBetween, AllHold, hold_values}
+use Rattle.core_follows.proofs.Given.{counted}
+use Rattle.core_follows.proofs.Valued.{spare_after_one}
+use Rattle.core_follows.proofs.Slots.{total_split}
+
+-- ---- slots that are emptied
+
+abbrev In : ℕ → List ℕ → Type 0
+In d [] = ⊥
+In d (s ∷ ss) = (d ≡ s) ⊎ In d ss
+
+in_or : (d : ℕ) (ss : List ℕ) → In d ss ⊎ DiffersFrom d ss
+in_or d [] = inr tt
+in_or d (s ∷ ss) = ⊎_elim
+    (λ (e : d ≡ s). inl (inl e))
+    (λ (e : d ≡ s → ⊥). ⊎_elim (λ (h : In d ss). inl (inr h)) (λ (h : DiffersFrom d ss). inr (e, h)) (in_or d ss))
+    (cases_eq d s)
+
+abbrev Below : ℕ → List ℕ → Type 0
+Below n [] = Unit {0}
+Below n (s ∷ ss) = (s < n) × Below n ss
+
+emptied_in : (slots : Slots) (ss : List ℕ) (d : ℕ) → Below (length slots) ss → In d ss → slot (emptied slots ss) d ≡ empty
+emptied_in slots [] d b h = absurd h
+emptied_in slots (s ∷ ss) d b h =
+    let long = long_emptied slots ss in
+    ⊎_elim
+    (λ (e : d ≡ s). subst (λ (r : ℕ). slot (put (emptied slots ss) s empty) r ≡ empty) (sym e)
+    (put_same (emptied slots ss) s empty (let x = b.0 in omega (arith, x, long))))
+    (λ (e : d ≡ s → ⊥). put_other (emptied slots ss) s d empty e ∙ elim h [ inl f ↦ absurd (e f) | inr f ↦ emptied_in slots ss d b.1 f ])
+    (cases_eq d s)
+
+abbrev cleared_all : Slots → List ℕ → Slots
+cleared_all slots [] = slots
+cleared_all slots (s ∷ ss) = cleared_all (put slots s empty) ss
+
+cleared_other : (slots : Slots) (ss : List ℕ) (d : ℕ) → DiffersFrom d ss → slot (cleared_all slots ss) d ≡ slot slots d
+cleared_other slots [] d h = refl
+cleared_other slots (s ∷ ss) d h = cleared_other (put slots s empty) ss d h.1 ∙ put_other slots s d empty h.0
+
+below_put : (slots : Slots) (s : ℕ) (x : Slot) (ss : List ℕ) → Below (length slots) ss → Below (length (put slots s x)) ss
+below_put slots s x ss b = subst (λ (n : ℕ). Below n ss) (sym (put_long slots s x)) b
+
+cleared_in : (slots : Slots) (ss : List ℕ) (d : ℕ) → Below (length slots) ss → In d ss → slot (cleared_all slots ss) d ≡ empty
+cleared_in slots [] d b h = absurd h
+cleared_in slots (s ∷ ss) d b h = ⊎_elim
+    (λ (i : In d ss). cleared_in (put slots s empty) ss d (below_put slots s empty ss b.1) i)
+    (λ (i : DiffersFrom d ss). cleared_other (put slots s empty) ss d i ∙ elim h [
+      | inl e ↦ subst (λ (r : ℕ). slot (put slots s empty) r ≡ empty) (sym e) (put_same slots s empty b.0)
+      | inr f ↦ absurd (apart d ss f i)
+    ])
+    (in_or d ss)
+  where
+    apart : (d : ℕ) (ss : List ℕ) → In d ss → DiffersFrom d ss → ⊥
+    apart d [] h i = h
+    apart d (s ∷ ss) h i = elim h [ inl e ↦ i.0 e | inr f ↦ apart d ss f i.1 ]
+
+-- ---- where the references of parts are
+
+module _ (defs : List Def) (P : List Ty) (u : Value) where
+  abbrev pub Segments : (b : ℕ) → List ℕ → List ℕ → List Value → Type 0
+  Segments b [] [] [] = Unit {0}
+  Segments b (n ∷ ns) (s ∷ ss) (v ∷ vs) =
+      (b ≤ count_all defs (take n P))
+      × ((k : ℕ) → k < count_of defs (slice_index_or P n ty.Int) → reference (count_all defs (take n P) + k) (Holds u) ≡ reference k
+      (Holds v))
+      × (length (references v) ≡ count_of defs (slice_index_or P n ty.Int))
+      × Segments (count_all defs (take n P) + count_of defs (slice_index_or P n ty.Int)) ns ss vs
+  Segments b _ _ _ = ⊥
+
+nth_past : (rs : List (Option ℕ)) (k : ℕ) → length rs ≤ k → slice_index_or rs k None ≡ None
+nth_past [] k l = refl
+nth_past (r ∷ rs) zero l = absurd (omega arith)
+nth_past (r ∷ rs) (suc k) l = nth_past rs k (omega arith)
+
+nth_front : (rs ss : List (Option ℕ)) (k : ℕ) → k < length rs → slice_index_or (rs ++ ss) k None ≡ slice_index_or rs k None
+nth_front [] ss k l = absurd (omega arith)
+nth_front (r ∷ rs) ss zero l = refl
+nth_front (r ∷ rs) ss (suc k) l = nth_front rs ss k (omega arith)
+
+nth_back : (rs ss : List (Option ℕ)) (k : ℕ) → slice_index_or (rs ++ ss) (length rs + k) None ≡ slice_index_or ss k None
+nth_back [] ss k = let e : 0 + k ≡ k = omega arith in ap (λ (j : ℕ). slice_index_or ss j None) e
+nth_back (r ∷ rs) ss k =
+    let e : suc (length rs) + k ≡ suc (length rs + k) = omega arith in
+    ap (λ (j : ℕ). slice_index_or (r ∷ (rs ++ ss)) j None) e ∙ nth_back rs ss k
+
+abbrev pub SpareEach : List ℕ → List Instr → Type 0
+SpareEach [] ds = Unit {0}
+SpareEach (s ∷ ss) ds = AllSpare s ds × SpareEach ss ds
+
+spare_each_after : (v : Moved) (ss : List ℕ) (ds : List Instr) → SpareEach ss ds → SpareEach ss (drops_after v ds)
+spare_each_after v [] ds h = tt
+spare_each_after v (s ∷ ss) ds h = (spare_after_one s v ds h.0, spare_each_after v ss ds h.1)
+
+under_after : (s n first count at b c : ℕ) (ds : List Instr) → b ≤ c → at + count ≤ c → AllUnder n b ds
+    → AllUnder n c (drops_after (record { slot = s; first = first; count = count; into = n; at = at }) ds)
+under_after s n first count at b c [] l m h = tt
+under_after s n first count at b c (i ∷ ds) l m h = (one i h.0, under_after s n first count at b c ds l m h.1)
+  where
+    v : Moved
+    v = record { slot = s; first = first; count = count; into = n; at = at }
+
+    one : (i : Instr) → Under n b i → Under n c (drop_after (record { slot = s; first = first; count = count; into = n; at = at }) i)
+    one (Drop r j) h = ⊎_elim
+        (λ (m' : IsMoved (record { slot = s; first = first; count = count; into = n; at = at }) r j).
+        subst (Under n c) (sym (to_moved (record { slot = s; first = first; count = count; into = n; at = at }) r j m'.is))
+        (λ e. let x = m'.from in let y = m'.to in omega (arith, x, y, m)))
+        (λ (m' : IsNotMoved (record { slot = s; first = first; count = count; into = n; at = at }) r j).
+        subst (Under n c) (sym (to_same (record { slot = s; first = first; count = count; into = n; at = at }) r j m'.is))
+        (λ e. let x = h e in omega (arith, x, l)))
+        (moved_or (record { slot = s; first = first; count = count; into = n; at = at }) r j)
+    one _ h = tt
+
+hold_cleared : (slots : Slots) (s : ℕ) (ss : List ℕ) (vs : List Value) → DiffersFrom s ss → AllHold slots ss vs
+    → AllHold (put slots s empty) ss vs
+hold_cleared slots s [] [] d h = tt
+hold_cleared slots s [] (v ∷ vs) d h = h
+hold_cleared slots s (r ∷ ss) [] d h = h
+hold_cleared slots s (r ∷ ss) (v ∷ vs) d h = (put_other slots s r empty (λ e. d.0 (sym e)) ∙ h.0, hold_cleared slots s ss vs d.1 h.1)
+
+-- All moves, one after the other.
+moves_dropping : (defs : List Def) (P : List Ty) (u : Value) (into : ℕ) (ns ss : List ℕ) (vs : List Value) (b : ℕ) (slots : Slots)
+    (ds : List Instr)
+    (got : List (Option ℕ)) → Segments defs P u b ns ss vs → slot slots into ≡ Holds u → AllHold slots ss vs → AllDiffer ss
+    → DiffersFrom into ss
+    → Below (length slots) ss → AllUnder into b ds → SpareEach ss ds → AllSpare into ds → Dropping slots ds got
+    → Dropping (cleared_all slots ss) (drops_after_all (moves_into defs P into ns ss) ds) got
+moves_dropping defs P u into [] [] [] b slots ds got g e h a ai l un sp si d = d
+moves_dropping defs P u into (n ∷ ns) (s ∷ ss) (v ∷ vs) b slots ds got g e h a ai l un sp si d =
+    let at : ℕ = count_all defs (take n P) in
+    let c : ℕ = count_of defs (slice_index_or P n ty.Int) in
+    let m : Moved = record { slot = s; first = 0; count = c; into = into; at = at } in
+    let one = put slots s empty in
+    let here : slot one into ≡ Holds u = put_other slots s into empty ai.0 ∙ e in
+    let over : Goes_over m slots one = record {
+      moved = λ k p q. ap (reference (at + (k - 0))) here
+          ∙ (let z : k - 0 ≡ k = omega arith in subst (λ (j : ℕ). reference (at + j) (Holds u) ≡ reference k (Holds v)) (sym z)
+          (g.1 k (omega arith)))
+          ∙ sym (ap (reference k) h.0);
+      left = λ k p. ap (reference k) (put_same slots s empty l.0)
+          ∙ sym (ap (reference k) h.0 ∙ nth_past (references v) k
+          (let x = g.2 in elim p [ inl y ↦ absurd (omega arith) | inr y ↦ omega (arith, y, x) ]));
+      others = λ r p q. put_other slots s r empty p;
+      below = λ j p. ap (reference j) (put_other slots s into empty ai.0);
+      apart = ai.0;
+    } in
+    moves_dropping defs P u into ns ss vs (at + c) one (drops_after m ds) got g.3 here (hold_cleared slots s ss vs a.0 h.1) a.1 ai.1
+    (below_put slots s empty ss l.1) (under_after s into 0 c at b (at + c) ds (let x = g.0 in omega arith) (omega arith) un)
+    (spare_each_after m ss ds sp.1) (spare_after_one into m ds si)
+    (move_dropping m slots one ds got over (under_wide into b at ds g.0 un) sp.0 si d)
+  where
+    under_wide : (n b c : ℕ) (ds : List Instr) → b ≤ c → AllUnder n b ds → AllUnder n c ds
+    under_wide n b c [] l h = tt
+    under_wide n b c (i ∷ ds) l h = (one i h.0, under_wide n b c ds l h.1)
+      where
+        one : (i : Instr) → Under n b i → Under n c i
+        one (Drop r j) h = λ e. let x = h e in omega (arith, x, l)
+        one _ h = tt
+moves_dropping defs P u into [] [] (v ∷ vs) b slots ds got g e h a ai l un sp si d = absurd g
+moves_dropping defs P u into [] (s ∷ ss) vs b slots ds got g e h a ai l un sp si d = absurd g
+moves_dropping defs P u into (n ∷ ns) [] vs b slots ds got g e h a ai l un sp si d = absurd g
+moves_dropping defs P u into (n ∷ ns) (s ∷ ss) [] b slots ds got g e h a ai l un sp si d = absurd g
+
+-- ---- the value that they move into
+
+pub gather_holding : (defs : List Def) (P : List Ty) (u : Value) (one slots : Slots) (lo mid : ℕ) (ns ss : List ℕ) (vs : List Value)
+    (ds : List Instr) (got : List (Option ℕ)) → lo ≤ mid → mid < length slots → Holding one slots lo mid ds got → AllHold slots ss vs
+    → AllBetween lo mid ss → AllDiffer ss → SpareEach ss ds → AllSpare mid ds → Segments defs P u 0 ns ss vs
+    → ((n : ℕ) → among n (references u) ≡ among n (references_in vs)) → ((n : ℕ) → slot_names (slot slots mid) n ≡ 0)
+    → Holding one (put (emptied slots ss) mid (Holds u)) lo (suc mid) (drops_after_all (moves_into defs P mid ns ss) ds) got
+gather_holding defs P u one slots lo mid ns ss vs ds got p l h hold bs differ sp si g names clean =
+    let x = Holds u in
+    let placed = put slots mid x in
+    let out = emptied slots ss in
+    let last = put out mid x in
+    let long_out = long_emptied slots ss in
+    let below = all_below lo mid (length slots) ss (omega arith) bs in
+    let apart = all_apart lo mid ss bs in
+    let within = after_all (Between lo (suc mid)) defs P mid ns ss ds (p, omega arith)
+    (touch_others (Between lo mid) (Between lo (suc mid)) ds (λ s b. (b.0, let y = b.1 in omega (arith, y))) h.within) in
+    let d0 : Dropping placed ds got = dropping_kept (Between lo mid) slots placed ds got h.within
+    (λ s b. put_other slots mid s x (λ e. absurd (let y = b.1 in omega (arith, y, e)))) h.dropping in
+    let d1 = moves_dropping defs P u mid ns ss vs 0 placed ds got g (put_same slots mid x l)
+    (hold_put slots mid x lo mid ss vs (omega arith) bs hold)
+    differ apart (subst (λ (n : ℕ). Below n ss) (sym (put_long slots mid x)) below) (under_none lo mid ds h.within) sp si d0 in
+    let pointwise : (s : ℕ) → slot last s ≡ slot (cleared_all placed ss) s = λ s. ⊎_elim
+    (λ (e : s ≡ mid). subst (λ (r : ℕ). slot last r ≡ slot (cleared_all placed ss) r) (sym e)
+    (put_same out mid x (omega arith) ∙ sym (cleared_other placed ss mid apart ∙ put_same slots mid x l)))
+    (λ (e : s ≡ mid → ⊥). put_other out mid s x e ∙ ⊎_elim
+    (λ (i : In s ss). emptied_in slots ss s below i ∙ sym (cleared_in placed ss s
+    (subst (λ (n : ℕ). Below n ss) (sym (put_long slots mid x)) below) i))
+    (λ (i : DiffersFrom s ss). emptied_other slots ss s i ∙ sym (cleared_other placed ss s i ∙ put_other slots mid s x e))
+    (in_or s ss))
+    (cases_eq s mid) in
+    record {
+      long = put_long out mid x ∙ long_out ∙ h.long;
+      same = λ s b.
+          put_other out mid s x (λ e. absurd (elim b [ inl y ↦ omega (arith, y, e, p) | inr y ↦ omega (arith, y, e) ]))
+          ∙ emptied_other slots ss s (out_of lo mid s ss (elim b [ inl y ↦ inl y | inr y ↦ inr (omega arith) ]) bs)
+          ∙ h.same s (elim b [ inl y ↦ inl y | inr y ↦ inr (omega arith) ]);
+      dropping = dropping_kept (λ s. Unit {0}) (cleared_all placed ss) last (drops_after_all (moves_into defs P mid ns ss) ds) got
+          (touch_others (Between lo (suc mid)) (λ s. Unit {0}) (drops_after_all (moves_into defs P mid ns ss) ds) (λ s b. tt) within)
+          (λ s b. pointwise s) d1;
+      within = within;
+      names = λ n.
+          let a1 = names_emptied n slots ss differ (hold_there slots ss vs below hold) in
+          let a2 = ap (λ (ys : List Value). among n (references_in ys)) (hold_values slots ss vs hold) in
+          let a3 = names_put n out mid x (omega arith) in
+          let a4 = ap (λ (s : Slot). slot_names s n) (emptied_other slots ss mid apart) in
+          let a5 = clean n in
+          let a6 = names n in
+          let b1 = slots_split n slots lo (suc mid) (omega arith) (omega arith) in
+          let b2 = slots_split n last lo (suc mid) (omega arith) (let q = put_long out mid x in omega arith) in
+          let out_same : (s : ℕ) → (s < lo) ⊎ (suc mid ≤ s) → slot last s ≡ slot slots s = λ s b.
+          put_other out mid s x (λ e. absurd (elim b [ inl y ↦ omega (arith, y, e, p) | inr y ↦ omega (arith, y, e) ]))
+          ∙ emptied_other slots ss s (out_of lo mid s ss (elim b [ inl y ↦ inl y | inr y ↦ inr (omega arith) ]) bs) in
+          let c1 = total_same n slots last 0 lo (λ s q r. out_same s (inl (omega arith))) in
+          let c2 = total_same n slots last (suc mid) (length slots - suc mid) (λ s q r. out_same s (inr q)) in
+          let c3 : length last ≡ length slots = put_long out mid x ∙ long_out in
+          let c4 = ap (λ (k : ℕ). total last (suc mid) (k - suc mid) n) c3 in
+          let e1 : suc mid - lo ≡ (mid - lo) + 1 = omega arith in
+          let e2 = ap (λ (k : ℕ). total slots lo k n) e1 in
+          let e3 = total_split n slots lo (mid - lo) 1 in
+          let e4 : lo + (mid - lo) ≡ mid = omega arith in
+          let e5 = ap (λ (k : ℕ). total slots k 1 n) e4 in
+          let e6 : total slots mid 1 n ≡ slot_names (slot slots mid) n + 0 = refl in
+          let e7 = h.names n in
+          omega arith;
+    }
+  where
+    all_below : (lo mid n : ℕ) (ss : List ℕ) → mid ≤ n → AllBetween lo mid ss → Below n ss
+    all_below lo mid n [] q b = tt
+    all_below lo mid n (s ∷ ss) q b = (let y = b.0.1 in omega (arith, y, q), all_below lo mid n ss q b.1)
+
+    all_apart : (lo mid : ℕ) (ss : List ℕ) → AllBetween lo mid ss → DiffersFrom mid ss
+    all_apart lo mid [] b = tt
+    all_apart lo mid (s ∷ ss) b = ((λ e. absurd (let y = b.0.1 in omega (arith, y, e))), all_apart lo mid ss b.1)
+
+    out_of : (lo mid s : ℕ) (ss : List ℕ) → Beside lo mid s → AllBetween lo mid ss → DiffersFrom s ss
+    out_of lo mid s [] o b = tt
+    out_of lo mid s (r ∷ ss) o b = (
+      (λ e. absurd (elim o [ inl y ↦ (let z = b.0.0 in omega (arith, y, z, e)) | inr y ↦ (let z = b.0.1 in omega (arith, y, z, e)) ])),
+      out_of lo mid s ss o b.1,
+    )
+
+    hold_put : (slots : Slots) (m : ℕ) (x : Slot) (lo mid : ℕ) (ss : List ℕ) (vs : List Value) → mid ≤ m → AllBetween lo mid ss
+        → AllHold slots ss vs
+        → AllHold (put slots m x) ss vs
+    hold_put slots m x lo mid [] [] q b h = tt
+    hold_put slots m x lo mid [] (v ∷ vs) q b h = h
+    hold_put slots m x lo mid (s ∷ ss) [] q b h = h
+    hold_put slots m x lo mid (s ∷ ss) (v ∷ vs) q b h =
+        (put_other slots m s x (λ e. absurd (let y = b.0.1 in omega (arith, y, e, q))) ∙ h.0, hold_put slots m x lo mid ss vs q b.1 h.1)
+
+    under_none : (lo mid : ℕ) (ds : List Instr) → AllTouch (Between lo mid) ds → AllUnder mid 0 ds
+    under_none lo mid [] t = tt
+    under_none lo mid (i ∷ ds) t = (under_one i t.0, under_none lo mid ds t.1)
+      where
+        under_one : (i : Instr) → Touches (Between lo mid) i → Under mid 0 i
+        under_one (Drop r j) t = λ e. absurd (let y = t.1 in omega (arith, y, e))
+        under_one _ t = tt
+
+    hold_there : (slots : Slots) (ss : List ℕ) (vs : List Value) → Below (length slots) ss → AllHold slots ss vs → HoldValues slots ss
+    hold_there slots [] vs b h = tt
+    hold_there slots (s ∷ ss) [] b h = absurd h
+    hold_there slots (s ∷ ss) (v ∷ vs) b h =
+        (b.0, subst (λ (y : Slot). y ≡ Holds (value_of y)) (sym h.0) refl, hold_there slots ss vs b.1 h.1)
+
+-- ---- tuples
+
+module _ (defs : List Def) where
+  pub fitted_all : (Ts P : List Ty) (vs : List Value) → AllStandFor defs Ts P → AllFit defs Ts vs
+      → references_in (all_fitted defs P vs) ≡ references_in vs
+  fitted_all [] [] [] a f = refl
+  fitted_all [] [] (v ∷ vs) a f = absurd f
+  fitted_all [] (t ∷ P) vs a f = absurd a
+  fitted_all (T ∷ Ts) [] vs a f = absurd a
+  fitted_all (T ∷ Ts) (t ∷ P) [] a f = absurd f
+  fitted_all (T ∷ Ts) (t ∷ P) (v ∷ vs) a f =
+      ap (λ (rs : List (Option ℕ)). rs ++ references_in (all_fitted defs P vs)) (a.0 v f.0)
+      ∙ ap (λ (rs : List (Option ℕ)). references v ++ rs) (fitted_all Ts P vs a.1 f.1)
+
+  take_front : (pre P : List Ty) → take (length pre) (pre ++ P) ≡ pre
+  take_front [] P = refl
+  take_front (t ∷ pre) P = ap (λ (ts : List Ty). t ∷ ts) (take_front pre P)
+
+  index_front : (pre P : List Ty) (t : Ty) → slice_index_or (pre ++ (t ∷ P)) (length pre) ty.Int ≡ t
+  index_front [] P t = refl
+  index_front (u ∷ pre) P t = index_front pre P t
+
+  count_more : (pre : List Ty) (t : Ty) → count_all defs (pre ++ (t ∷ [])) ≡ count_all defs pre + count_of defs t
+  count_more [] t = omega arith
+  count_more (u ∷ pre) t = let a = count_more pre t in omega arith
+
+  pub tuple_segments : (u : Value) (Ts P pre : List Ty) (vs : List Value) (ss : List ℕ) (front : List (Option ℕ)) (b : ℕ)
+      → references u ≡ front ++ references_in vs → length front ≡ count_all defs pre → AllStandFor defs Ts P → AllFit defs Ts vs
+      → length ss ≡ length vs → b ≤ length front
+      → Segments defs (pre ++ P) u b (numbers_from defs (length pre) (length ss)) ss vs
+  tuple_segments u [] [] pre [] [] front b e c a f l m = tt
+  tuple_segments u [] [] pre [] (s ∷ ss) front b e c a f l m = absurd (omega arith)
+  tuple_segments u [] [] pre (v ∷ vs) ss front b e c a f l m = absurd f
+  tuple_segments u [] (t ∷ P) pre vs ss front b e c a f l m = absurd a
+  tuple_segments u (T ∷ Ts) [] pre vs ss front b e c a f l m = absurd a
+  tuple_segments u (T ∷ Ts) (t ∷ P) pre [] ss front b e c a f l m = absurd f
+  tuple_segments u (T ∷ Ts) (t ∷ P) pre (v ∷ vs) [] front b e c a f l m = absurd (omega arith)
+  tuple_segments u (T ∷ Ts) (t ∷ P) pre (v ∷ vs) (s ∷ ss) front b e c a f l m =
+      let R = references v in
+      let eA : count_all defs (take (length pre) (pre ++ (t ∷ P))) ≡ length front = ap (count_all defs) (take_front pre (t ∷ P)) ∙ sym c in
+      let eC : count_of defs (slice_index_or (pre ++ (t ∷ P)) (length pre) ty.Int) ≡ count_of defs t = ap (count_of defs)
+      (index_front pre P t) in
+      let long : length R ≡ count_of defs t = ap length (sym (a.0 v f.0)) ∙ counted defs t v in
+      let e2 : references u ≡ (front ++ R) ++ references_in vs = e ∙ sym (append_assoc front R (references_in vs)) in
+      let n1 = length-append front R in
+      let n2 = count_more pre t in
+      let n3 = length-append pre (t ∷ []) in
+      let more = tuple_segments u Ts P (pre ++ (t ∷ [])) vs ss (front ++ R)
+      (count_all defs (take (length pre) (pre ++ (t ∷ P))) + count_of defs (slice_index_or (pre ++ (t ∷ P)) (length pre) ty.Int)) e2
+      (omega arith) a.1 f.1 (omega arith) (omega arith) in
+      let z : length (pre ++ (t ∷ [])) ≡ suc (length pre) = omega arith in (
+        omega arith,
+        (λ k q.
+            ap (λ (j : ℕ). reference (j + k) (Holds u)) eA ∙ ap (λ (rs : List (Option ℕ)). slice_index_or rs (length front + k) None) e
+            ∙ nth_back front (R ++ references_in vs) k ∙ nth_front R (references_in vs) k (omega arith)),
+        long ∙ sym eC,
+        subst (λ (j : ℕ). Segments defs (pre ++ (t ∷ P)) u
+            (count_all defs (take (length pre) (pre ++ (t ∷ P))) + count_of defs (slice_index_or (pre ++ (t ∷ P)) (length pre) ty.Int))
+            (numbers_from defs j (length ss)) ss vs) z
+            (subst (λ (Q : List Ty). Segments defs Q u
+            (count_all defs (take (length pre) (pre ++ (t ∷ P))) + count_of defs (slice_index_or (pre ++ (t ∷ P)) (length pre) ty.Int))
+            (numbers_from defs (length (pre ++ (t ∷ []))) (length ss)) ss vs) (append_assoc pre (t ∷ []) P) more),
+      )
+
+  -- the references of a tuple are those of its parts
+  pub tuple_references : (us : Tys) (Ts : List Ty) (vs : List Value) → AllStandFor defs Ts (listed us) → AllFit defs Ts vs
+      → references (fitted defs (ty.Tuple us) (Parts (row vs))) ≡ references_in vs
+  tuple_references us Ts vs a f =
+      ap references (values_are_whole.tuples defs us (Parts (row vs)))
+      ∙ ap (λ (xs : List Value). values.all_references (row (all_fitted defs (listed us) xs))) (listed_row vs)
+      ∙ row_references (all_fitted defs (listed us) vs) ∙ fitted_all Ts (listed us) vs a f
