@@ -96,12 +96,12 @@ nth_past [] k l = refl
 nth_past (r ∷ rs) zero l = absurd (omega arith)
 nth_past (r ∷ rs) (suc k) l = nth_past rs k (omega arith)
 
-nth_front : (rs ss : List (Option ℕ)) (k : ℕ) → k < length rs → slice_index_or (rs ++ ss) k None ≡ slice_index_or rs k None
+pub nth_front : (rs ss : List (Option ℕ)) (k : ℕ) → k < length rs → slice_index_or (rs ++ ss) k None ≡ slice_index_or rs k None
 nth_front [] ss k l = absurd (omega arith)
 nth_front (r ∷ rs) ss zero l = refl
 nth_front (r ∷ rs) ss (suc k) l = nth_front rs ss k (omega arith)
 
-nth_back : (rs ss : List (Option ℕ)) (k : ℕ) → slice_index_or (rs ++ ss) (length rs + k) None ≡ slice_index_or ss k None
+pub nth_back : (rs ss : List (Option ℕ)) (k : ℕ) → slice_index_or (rs ++ ss) (length rs + k) None ≡ slice_index_or ss k None
 nth_back [] ss k = let e : 0 + k ≡ k = omega arith in ap (λ (j : ℕ). slice_index_or ss j None) e
 nth_back (r ∷ rs) ss k =
     let e : suc (length rs) + k ≡ suc (length rs + k) = omega arith in
@@ -185,6 +185,15 @@ moves_dropping defs P u into (n ∷ ns) [] vs b slots ds got g e h a ai l un sp 
 moves_dropping defs P u into (n ∷ ns) (s ∷ ss) [] b slots ds got g e h a ai l un sp si d = absurd g
 
 -- ---- the value that they move into
+
+pub under_none : (lo mid : ℕ) (ds : List Instr) → AllTouch (Between lo mid) ds → AllUnder mid 0 ds
+under_none lo mid [] t = tt
+under_none lo mid (i ∷ ds) t = (under_one i t.0, under_none lo mid ds t.1)
+  where
+    under_one : (i : Instr) → Touches (Between lo mid) i → Under mid 0 i
+    under_one (Drop r j) t = λ e. absurd (let y = t.1 in omega (arith, y, e))
+    under_one _ t = tt
+
 
 pub gather_holding : (defs : List Def) (P : List Ty) (u : Value) (one slots : Slots) (lo mid : ℕ) (ns ss : List ℕ) (vs : List Value)
     (ds : List Instr) (got : List (Option ℕ)) → lo ≤ mid → mid < length slots → Holding one slots lo mid ds got → AllHold slots ss vs
@@ -274,14 +283,6 @@ gather_holding defs P u one slots lo mid ns ss vs ds got p l h hold bs differ sp
     hold_put slots m x lo mid (s ∷ ss) [] q b h = h
     hold_put slots m x lo mid (s ∷ ss) (v ∷ vs) q b h =
         (put_other slots m s x (λ e. absurd (let y = b.0.1 in omega (arith, y, e, q))) ∙ h.0, hold_put slots m x lo mid ss vs q b.1 h.1)
-
-    under_none : (lo mid : ℕ) (ds : List Instr) → AllTouch (Between lo mid) ds → AllUnder mid 0 ds
-    under_none lo mid [] t = tt
-    under_none lo mid (i ∷ ds) t = (under_one i t.0, under_none lo mid ds t.1)
-      where
-        under_one : (i : Instr) → Touches (Between lo mid) i → Under mid 0 i
-        under_one (Drop r j) t = λ e. absurd (let y = t.1 in omega (arith, y, e))
-        under_one _ t = tt
 
     hold_there : (slots : Slots) (ss : List ℕ) (vs : List Value) → Below (length slots) ss → AllHold slots ss vs → HoldValues slots ss
     hold_there slots [] vs b h = tt

@@ -13,6 +13,7 @@ pub mod Blocks
 pub mod Expressions
 pub mod Valued
 pub mod Gathers
+pub mod Picks
 pub mod Statements
 pub mod Follows
 pub mod Filling

@@ -55,7 +55,15 @@ use Rattle.core_follows.proofs.Valued.{AllValued, values_stand, values_differ, s
 use Rattle.core_follows.proofs.Gathers.{SpareEach, gather_holding, tuple_references, tuple_segments}
 use Rattle.core_code.specs.Naming.{AllDiffer}
 use Rattle.core_code.specs.Terms.{numbers_from}
-use Rattle.core_code.specs.Code.{Gather}
+use Rattle.core_code.specs.Code.{Gather, Pick}
+use Rattle.core_follows.proofs.Picks.{taken, whole_of, pick_holding}
+use Rattle.core_follows.proofs.Nodes.{hold_at}
+use Rattle.core_follows.proofs.Works.{fit_at}
+use Rattle.core_follows.proofs.Valued.{valued_at}
+use Rattle.limbo_meaning.specs.Values.{Values, parts_of, all_fitted}
+use Rattle.limbo_meaning.specs.Places.{value_part, put_part}
+use Rattle.core_code.specs.Terms.{picks, moves_out, drops_after, part_types}
+use Rattle.core_follows.specs.Handled.{Takes}
 use Rattle.core_code.specs.Slots.{emptied}
 use Rattle.core_code.proofs.Names.{long_emptied}
 use Rattle.limbo_meaning.specs.Values.{Parts, row, among}
@@ -246,54 +254,108 @@ module _ (limit : ℕ) (program : Program) where
       (p, omega arith, inl (Parts (row vs), refl)) (append-nil held1 ∙ eq)))))
   gathers_goes lo _ _ ts l p valued differ s all C c g held has room k = absurd s
 
-  node_goes : (lo : ℕ) (u t : Ty) (o : Work) (ts : Terms) (l : LoweredAll) → lo ≤ l.free → length l.values ≡ count ts
+  -- a part moves out of a value
+  picks_goes : (lo : ℕ) (t : Ty) (k : ℕ) (ts : Terms) (l : LoweredAll) → lo ≤ l.free → length l.values ≡ count ts
+      → AllValued lo l.free l.drops l.values → Takes program.adts (type_at program.adts 0 ts) k t → AllBy true lo ts l
+      → GoesBy lo (Node t (tree.TakePart k) ts) (picks program.adts (type_at program.adts 0 ts) t k l)
+  picks_goes lo t k NoTerms l p n valued takes all C c g held has room done = absurd takes.0
+  picks_goes lo t k (MoreTerms a more) l p n valued takes all C c g held has room done =
+      let ts : Terms = MoreTerms a more in
+      let u : Ty = type_at program.adts 0 ts in
+      let from : ℕ = slot_at 0 l.values in
+      let mid : ℕ = l.free in
+      let i : Instr = Pick t k mid from in
+      let is : List Instr = i ∷ [] in
+      let n1 = length-append l.code is in
+      let some : 0 < length l.values = omega (arith, n) in
+      begins ts g held (C (Node t (tree.TakePart k) ts))
+      (all (λ xs. C (Node t (tree.TakePart k) xs)) (in_node C c t (tree.TakePart k)) g held (has_front g.code g.pc l.code is has)
+      (room_front g.slots lo mid (suc mid) held p (omega arith) room)
+      (λ j variables slots vs got held1 h hold bs fs eq.
+      let g1 = spot g j (g.pc + length l.code) variables slots in
+      let room1 = room_behind g.slots slots lo mid (suc mid) l.drops held got held1 p (omega arith) room h eq in
+      let long : mid < length slots = let q = room1.fits in omega arith in
+      let v0 : Value = slice_index_or vs 0 nothing in
+      let held_there : slot slots from ≡ Holds v0 = hold_at slots l.values vs 0 some hold in
+      let fit : Fits program.adts u v0 = subst (λ (T : Ty). Fits program.adts T v0) (types_at 0 ts)
+      (fit_at program.adts (types_in program.adts ts) vs 0 (let q = hold_long slots l.values vs hold in omega arith) fs) in
+      let whole = whole_of program.adts u k v0 takes.0 takes.1 fit in
+      let ws : Values = row (all_fitted program.adts (part_types program.adts u) whole.0) in
+      let there : slot slots from ≡ Holds (Parts ws) = held_there ∙ ap Holds whole.1 in
+      let same : ws ≡ parts_of (value_of (slot slots from)) = sym (ap (λ (x : Slot). parts_of (value_of x)) there) in
+      let z : Value = fitted program.adts t nothing in
+      let after_it : Values → Slots = λ xs. put (put slots from (Holds (Parts (put_part k z xs)))) mid (Holds (fitted program.adts t
+      (value_part k xs))) in
+      let slots2 = after_it (parts_of (value_of (slot slots from))) in
+      let v : Value = fitted program.adts t (value_part k (parts_of v0)) in
+      let at0 = valued_at lo mid l.drops l.values 0 some valued in
+      let holding = subst (λ (xs : Values). Holding g.slots (after_it xs) lo (suc mid) (drops_after (moves_out program.adts u k from mid)
+          l.drops) got)
+      same (pick_holding program.adts u t k g.slots slots lo mid from ws l.drops got p long h there at0.0 at0.1
+      (spare_outside lo mid mid l.drops (inr (omega arith)) h.within) (taken program.adts (part_types program.adts u) whole.0 k takes.1)
+      takes.2
+      (λ n. room1.clean mid (omega arith) (omega arith) n)) in
+      gives_always limit program C c g1 held1 [] (Node t (tree.TakePart k) (evaluated vs)) (Evaluated v) i
+      (suc (g.pc + length l.code)) slots2 (has_back g.code g.pc l.code is has).0 room1.names
+      (λ w q below r. refl)
+      (λ w. node_next limit program (memory_of w g1) t (tree.TakePart k) vs)
+      (pc_is limit program g j (g.pc + length (l.code ++ is)) (suc (g.pc + length l.code)) variables slots2 (held1 ++ [])
+      (C (Evaluated v)) (omega arith)
+      (done j variables slots2 v got (held1 ++ []) holding
+      (put_same (put slots from (Holds (Parts (put_part k z (parts_of (value_of (slot slots from))))))) mid
+      (Holds (fitted program.adts t (value_part k (parts_of (value_of (slot slots from))))))
+      (let q = put_long slots from (Holds (Parts (put_part k z (parts_of (value_of (slot slots from)))))) in omega (arith, q, long))
+      ∙ ap (λ (x : Slot). Holds (fitted program.adts t (value_part k (parts_of (value_of x))))) held_there)
+      (p, omega arith, inl (value_part k (parts_of v0), refl)) (append-nil held1 ∙ eq)))))
+
+  node_goes : (lo : ℕ) (t : Ty) (o : Work) (ts : Terms) (l : LoweredAll) → lo ≤ l.free → length l.values ≡ count ts
       → Suits program.adts t o ts
       → AllValued lo l.free l.drops l.values → AllDiffer l.values → ((b : Bool) → AllBy b lo ts l) → GoesBy lo (Node t o ts)
-      (node program.adts u t o l)
-  node_goes lo u t (Operate o) ts l p n (inl s) vd df all =
+      (node program.adts (type_at program.adts 0 ts) t o l)
+  node_goes lo t (Operate o) ts l p n (inl s) vd df all =
       subst (λ (b : Bool). GoesBy lo (Node t (Operate o) ts) (if b then gathers program.adts t o l else gives program.adts t (Operate o)
       l)) (sym s)
       (by_own lo (suc l.free) l.free t t (Operate o) ts l _ _ p (omega arith) refl
       (own_gives limit program lo l.free t (Operate o) l.values (types_in program.adts ts) s p) (all true))
-  node_goes lo u t (Operate o) ts l p n (inr s) vd df all =
+  node_goes lo t (Operate o) ts l p n (inr s) vd df all =
       subst (λ (b : Bool). GoesBy lo (Node t (Operate o) ts) (if b then gathers program.adts t o l else gives program.adts t (Operate o)
       l)) (sym s.0)
       (gathers_goes lo t o ts l p vd df s.1 (all true))
-  node_goes lo u t (tree.Assign []) NoTerms l p n s vd df all = absurd (omega arith)
-  node_goes lo u t (tree.Assign []) (MoreTerms x ts) l p n s vd df all = by_nothing lo t x ts l p (omega arith) (all false)
-  node_goes lo u t (tree.Assign (a ∷ aims)) ts l p n s vd df all =
+  node_goes lo t (tree.Assign []) NoTerms l p n s vd df all = absurd (omega arith)
+  node_goes lo t (tree.Assign []) (MoreTerms x ts) l p n s vd df all = by_nothing lo t x ts l p (omega arith) (all false)
+  node_goes lo t (tree.Assign (a ∷ aims)) ts l p n s vd df all =
       same_drops lo _ _ l.drops _ l.free
       (by_own lo l.free (slot_at (operands_for (a ∷ aims)) l.values) _ t (tree.Assign (a ∷ aims)) ts l _ [] p (omega arith)
       (types_at (operands_for (a ∷ aims)) ts)
       (own_writes limit program lo l.free t a aims l.values (types_in program.adts ts) (omega (arith, n, s))) (all true))
-  node_goes lo u t (tree.TakePart k) ts l p n s vd df all = absurd s
-  node_goes lo u t tree.Copy ts l p n s vd df all =
+  node_goes lo t (tree.TakePart k) ts l p n s vd df all = picks_goes lo t k ts l p n vd s (all true)
+  node_goes lo t tree.Copy ts l p n s vd df all =
       same_drops lo _ _ l.drops _ l.free
       (by_own lo l.free (slot_at 2 l.values) _ t tree.Copy ts l _ [] p (omega arith) (types_at 2 ts)
       (own_copy limit program lo l.free t l.values (types_in program.adts ts) (omega (arith, n, s))) (all true))
-  node_goes lo u t tree.Link ts l p n s vd df all =
+  node_goes lo t tree.Link ts l p n s vd df all =
       by_own lo (suc (l.free + (length l.values - 1))) (l.free + (length l.values - 1)) t t tree.Link ts l _ _ p (omega arith) refl
       (own_link limit program lo l.free t l.values (types_in program.adts ts) s p) (all true)
-  node_goes lo u t (tree.Call f) ts l p n s vd df all =
+  node_goes lo t (tree.Call f) ts l p n s vd df all =
       by_own lo (suc l.free) l.free t t (tree.Call f) ts l _ _ p (omega arith) refl
       (own_call limit program lo l.free t f l.values (types_in program.adts ts) p) (all true)
-  node_goes lo u t (tree.Print ps) ts l p n s vd df all =
+  node_goes lo t (tree.Print ps) ts l p n s vd df all =
       same_drops lo _ _ l.drops _ (suc l.free)
       (by_own lo (suc l.free) l.free t t (tree.Print ps) ts l _ [] p (omega arith) refl
       (own_print limit program lo l.free t ps l.values (types_in program.adts ts) s p) (all true))
-  node_goes lo u t tree.NewChannel ts l p n s vd df all =
+  node_goes lo t tree.NewChannel ts l p n s vd df all =
       by_own lo (suc l.free) l.free t t tree.NewChannel ts l _ _ p (omega arith) refl
       (own_channel limit program lo l.free t l.values (types_in program.adts ts) s p) (all true)
-  node_goes lo u t (tree.Literal c) ts l p n s vd df all =
+  node_goes lo t (tree.Literal c) ts l p n s vd df all =
       by_own lo (suc l.free) l.free t t (tree.Literal c) ts l _ _ p (omega arith) refl
       (own_gives limit program lo l.free t (tree.Literal c) l.values (types_in program.adts ts) tt p) (all true)
-  node_goes lo u t tree.Nil ts l p n s vd df all =
+  node_goes lo t tree.Nil ts l p n s vd df all =
       by_own lo (suc l.free) l.free t t tree.Nil ts l _ _ p (omega arith) refl
       (own_gives limit program lo l.free t tree.Nil l.values (types_in program.adts ts) tt p) (all true)
-  node_goes lo u t (tree.Read w) ts l p n s vd df all =
+  node_goes lo t (tree.Read w) ts l p n s vd df all =
       by_own lo (suc l.free) l.free t t (tree.Read w) ts l _ _ p (omega arith) refl
       (own_gives limit program lo l.free t (tree.Read w) l.values (types_in program.adts ts) tt p) (all true)
-  node_goes lo u t (tree.Sprint ps) ts l p n s vd df all =
+  node_goes lo t (tree.Sprint ps) ts l p n s vd df all =
       by_own lo (suc l.free) l.free t t (tree.Sprint ps) ts l _ _ p (omega arith) refl
       (own_gives limit program lo l.free t (tree.Sprint ps) l.values (types_in program.adts ts) tt p) (all true)
 
@@ -729,7 +791,7 @@ module _ (limit : ℕ) (program : Program) where
       → (AllHandled program.adts ts → (b : Bool) → AllBy b lo ts (lower_all program.adts lo ts)) → GoesBy lo (Node t o ts)
       (lower program.adts lo (Node t o ts))
   node_either lo t o ts (inl x) all =
-      node_goes lo (type_at program.adts 0 ts) t o ts (lower_all program.adts lo ts) (terms_up program.adts lo ts)
+      node_goes lo t o ts (lower_all program.adts lo ts) (terms_up program.adts lo ts)
       (values_counted program.adts lo ts) x.0 (values_stand program.adts ts x.1 lo)
       (values_differ program.adts ts x.1 lo)
       (all x.1)

@@ -12,7 +12,7 @@ use Rattle.limbo_meaning.specs.Evaluation.{may_hold, work_refers, operands_for}
 use Rattle.core_code.specs.Code.{Drop}
 use Rattle.core_code.specs.Code.{Instr, Take}
 use Rattle.core_code.specs.Terms.{Lowered, LoweredAll, drops_from, drops_if, count_of, gives, gathers, cell_drops, slot_at, type_at}
-use Rattle.core_code.specs.Terms.{node, lower}
+use Rattle.core_code.specs.Terms.{node, lower, moves_out}
 use Rattle.core_code.specs.Terms.{lower_all, given_slot}
 use Rattle.std.specs.Prelude.{max}
 use Rattle.core_code.specs.Terms.{lower_items, lower_rest, items_end, rest_end, named}
@@ -75,7 +75,7 @@ abbrev pub AllValued : (lo hi : ℕ) → List Instr → List ℕ → Type 0
 AllValued lo hi ds [] = Unit {0}
 AllValued lo hi ds (s ∷ ss) = (Between lo hi s × AllSpare s ds) × AllValued lo hi ds ss
 
-valued_at : (lo hi : ℕ) (ds : List Instr) (ss : List ℕ) (k : ℕ) → k < length ss → AllValued lo hi ds ss
+pub valued_at : (lo hi : ℕ) (ds : List Instr) (ss : List ℕ) (k : ℕ) → k < length ss → AllValued lo hi ds ss
     → Between lo hi (slot_at k ss) × AllSpare (slot_at k ss) ds
 valued_at lo hi ds [] k l h = absurd (omega arith)
 valued_at lo hi ds (s ∷ ss) zero l h = h.0
@@ -122,7 +122,11 @@ module _ (defs : List Def) where
       })
   node_valued lo u t (tree.Assign aims) ts l p w e v s =
       let x = valued_at lo l.free l.drops l.values (operands_for aims) (omega (arith, e, s)) v in record { between = x.0; spares = x.1 }
-  node_valued lo u t (tree.TakePart k) ts l p w e v s = absurd s
+  node_valued lo u t (tree.TakePart k) ts l p w e v s = record {
+    between = (p, omega arith);
+    spares = spare_after_one l.free (moves_out defs u k (slot_at 0 l.values) l.free) l.drops
+        (spare_outside lo l.free l.free l.drops (inr (omega arith)) w);
+  }
   node_valued lo u t tree.Copy ts l p w e v s =
       let x = valued_at lo l.free l.drops l.values 2 (omega (arith, e, s)) v in record { between = x.0; spares = x.1 }
   node_valued lo u t tree.Link ts l p w e v s =

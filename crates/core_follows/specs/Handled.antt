@@ -1,8 +1,9 @@
 -- Trees of which nothing is evaluated yet.
-use Rattle.std.specs.Prelude.{◌≡◌, ℕ, ℤ, suc, ◌<◌, ◌⊎◌, true, false, List, [], ◌∷◌, Option, Some, None}
+use Rattle.std.specs.Prelude.{◌≡◌, ℕ, ℤ, suc, ◌<◌, ◌⊎◌, true, false, List, [], ◌∷◌, Option, Some, None, length, slice_index_or}
 use Rattle.limbo_types.specs.Types as ty
 use Rattle.limbo_types.specs.Types.{Ty}
 use Rattle.limbo_layout.specs.Adts.{Def, listed}
+use Rattle.limbo_layout.specs.Layout.{Room, Laid}
 use Rattle.limbo_typed.specs.declared.operation.Operation.{Operation}
 use Rattle.limbo_typed.specs.declared.operation.Operation.TheVariants as operation
 use Rattle.limbo_meaning.specs.Values.{Value, Num, nothing, references, fitted}
@@ -11,7 +12,7 @@ use Rattle.limbo_meaning.specs.Trees.{Update, Fill, Terms, NoTerms}
 use Rattle.limbo_meaning.specs.Trees.{MoreTerms, Items, NoItems, MoreItems}
 use Rattle.limbo_meaning.specs.Trees.{Stm, Over, Eval, If, While, Enter, Break, Continue, Return, Leave, Loop, Looping, Block, Done}
 use Rattle.limbo_meaning.specs.Trees.{Then, Turn, Again}
-use Rattle.core_code.specs.Terms.{type_of}
+use Rattle.core_code.specs.Terms.{type_of, type_at, part_types}
 use Rattle.limbo_meaning.specs.Evaluation.{passes_on, operands_for}
 
 abbrev pub count : Terms → ℕ
@@ -66,12 +67,21 @@ module _ (defs : List Def) where
   Makes (ty.Tuple us) operation.Tuple ts = AllStandFor defs ts (listed us)
   Makes t o ts = ⊥
 
-  -- An assignment has its value behind the operands of its places, and a copy three operands. Values of adts and parts of tuples and adts
-  -- aren't handled yet.
+  abbrev pub HasLayout : Ty → Type 0
+  HasLayout (ty.Tuple us) = Unit {0}
+  HasLayout (ty.Adt n) = (r : Room) × Laid defs (ty.Adt n) r
+  HasLayout t = ⊥
+
+  -- A part that is taken is there, and stands for one of the type that the node says.
+  abbrev pub Takes : (whole : Ty) → ℕ → Ty → Type 0
+  Takes u k t =
+      HasLayout u × (k < length (part_types defs u)) × StandsFor defs (slice_index_or (part_types defs u) k ty.Nothing) t
+
+  -- An assignment has its value behind the operands of its places, and a copy three operands. Values of adts aren't handled yet.
   abbrev pub Suits : Ty → Work → Terms → Type 0
   Suits t (Operate o) ts = (passes_on o ≡ false) ⊎ ((passes_on o ≡ true) × Makes t o (types_in ts))
   Suits t (Assign aims) ts = operands_for aims < count ts
-  Suits t (TakePart k) ts = ⊥
+  Suits t (TakePart k) ts = Takes (type_at defs 0 ts) k t
   Suits t Copy ts = 2 < count ts
   Suits t Link ts = IsList t
   Suits t NewChannel ts = IsChannel t
