@@ -194,7 +194,6 @@ under_none lo mid (i ∷ ds) t = (under_one i t.0, under_none lo mid ds t.1)
     under_one (Drop r j) t = λ e. absurd (let y = t.1 in omega (arith, y, e))
     under_one _ t = tt
 
-
 pub gather_holding : (defs : List Def) (P : List Ty) (u : Value) (one slots : Slots) (lo mid : ℕ) (ns ss : List ℕ) (vs : List Value)
     (ds : List Instr) (got : List (Option ℕ)) → lo ≤ mid → mid < length slots → Holding one slots lo mid ds got → AllHold slots ss vs
     → AllBetween lo mid ss → AllDiffer ss → SpareEach ss ds → AllSpare mid ds → Segments defs P u 0 ns ss vs

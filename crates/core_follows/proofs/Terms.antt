@@ -290,7 +290,7 @@ module _ (limit : ℕ) (program : Program) where
       let v : Value = fitted program.adts t (value_part k (parts_of v0)) in
       let at0 = valued_at lo mid l.drops l.values 0 some valued in
       let holding = subst (λ (xs : Values). Holding g.slots (after_it xs) lo (suc mid) (drops_after (moves_out program.adts u k from mid)
-          l.drops) got)
+      l.drops) got)
       same (pick_holding program.adts u t k g.slots slots lo mid from ws l.drops got p long h there at0.0 at0.1
       (spare_outside lo mid mid l.drops (inr (omega arith)) h.within) (taken program.adts (part_types program.adts u) whole.0 k takes.1)
       takes.2
