@@ -13,6 +13,18 @@ use Rattle.core_code.specs.Slots.{Slot, Holds, Slots, empty, slot, put, value_of
 use Rattle.core_code.specs.Code.{Instr, Drop}
 use Rattle.core_code.specs.Naming.{reference, DiffersFrom, AllDiffer, HoldValues}
 use Rattle.core_code.specs.Terms.{Moved, drop_after, drops_after, drops_after_all, moves_into, count_of, count_all, numbers_from}
+use Rattle.core_code.specs.Terms.{part_types, part_numbers, parts_there, adt_numbers}
+use Rattle.core_code.specs.Whole.{with_parts}
+use Rattle.limbo_layout.specs.Adts.{Field, Variant, types_of, variant_types, tag, parts}
+use Rattle.limbo_meaning.specs.Operations.{adt_parts}
+use Rattle.limbo_meaning.specs.Values.{nothing, Num}
+use Rattle.limbo_typed.specs.declared.operation.Operation.TheVariants as operation
+use Rattle.std.specs.Prelude.{slice_get, replicate}
+use Rattle.std.proofs.Common.{Some, pos, drop, append-nil}
+use Rattle.core_code.proofs.Names.{zero_fitted}
+use Rattle.core_follows.proofs.Slots.{among_join}
+use Rattle.core_follows.proofs.Given.{fitted_none}
+use Rattle.core_follows.specs.Handled.{TakesFields, HasLayout}
 use Rattle.core_code.proofs.Names.{names_put, names_emptied, emptied_other, long_emptied, listed_row, row_references}
 use Rattle.core_code.proofs.Whole.{values_are_whole}
 use Rattle.core_follows.specs.Drops.{Between, Beside, AllTouch, Touches, AllSpare, Dropping, Holding}
@@ -289,19 +301,40 @@ gather_holding defs P u one slots lo mid ns ss vs ds got p l h hold bs differ sp
     hold_there slots (s ∷ ss) (v ∷ vs) b h =
         (b.0, subst (λ (y : Slot). y ≡ Holds (value_of y)) (sym h.0) refl, hold_there slots ss vs b.1 h.1)
 
--- ---- tuples
+-- ---- what the parts of a value are made of
+
+-- From a number on: a part that names nothing, or one that moved, which has the references that it had.
+pub data Made : List Def → ℕ → List Ty → List Value → List ℕ → List Value → Type 0 where
+  ends : {defs : List Def} {p : ℕ} {P : List Ty} → Made defs p P [] [] []
+  fills : {defs : List Def} {p : ℕ} {P : List Ty} {full : List Value} {ns : List ℕ} {vs : List Value} (t : Ty) (v : Value)
+      → ((n : ℕ) → among n (references v) ≡ 0) → Made defs (suc p) P full ns vs → Made defs p (t ∷ P) (v ∷ full) ns vs
+  moves : {defs : List Def} {p : ℕ} {P : List Ty} {full : List Value} {ns : List ℕ} {vs : List Value} (t : Ty) (v : Value)
+      → references (fitted defs t v) ≡ references v → Made defs (suc p) P full ns vs → Made defs p (t ∷ P) (v ∷ full) (p ∷ ns) (v ∷ vs)
 
 module _ (defs : List Def) where
-  pub fitted_all : (Ts P : List Ty) (vs : List Value) → AllStandFor defs Ts P → AllFit defs Ts vs
-      → references_in (all_fitted defs P vs) ≡ references_in vs
-  fitted_all [] [] [] a f = refl
-  fitted_all [] [] (v ∷ vs) a f = absurd f
-  fitted_all [] (t ∷ P) vs a f = absurd a
-  fitted_all (T ∷ Ts) [] vs a f = absurd a
-  fitted_all (T ∷ Ts) (t ∷ P) [] a f = absurd f
-  fitted_all (T ∷ Ts) (t ∷ P) (v ∷ vs) a f =
-      ap (λ (rs : List (Option ℕ)). rs ++ references_in (all_fitted defs P vs)) (a.0 v f.0)
-      ∙ ap (λ (rs : List (Option ℕ)). references v ++ rs) (fitted_all Ts P vs a.1 f.1)
+  none_fitted : (n : ℕ) (P : List Ty) → among n (references_in (all_fitted defs P [])) ≡ 0
+  none_fitted n [] = refl
+  none_fitted n (t ∷ P) =
+      let a = none_fitted n P in
+      let b = zero_fitted n defs t in
+      let c = among_join n (references (fitted defs t nothing)) (references_in (all_fitted defs P [])) in
+      omega arith
+
+  -- parts name what moved
+  pub made_same : (p : ℕ) (P : List Ty) (full : List Value) (ns : List ℕ) (vs : List Value) (n : ℕ) → Made defs p P full ns vs
+      → among n (references_in (all_fitted defs P full)) ≡ among n (references_in vs)
+  made_same p P full ns vs n ends = none_fitted n P
+  made_same p P full ns vs n (fills {P = Q} {full = rest} t v z m) =
+      let a = made_same (suc p) Q rest ns vs n m in
+      let b = fitted_none n defs t v (z n) in
+      let c = among_join n (references (fitted defs t v)) (references_in (all_fitted defs Q rest)) in
+      omega arith
+  made_same p P full ns vs n (moves {P = Q} {full = rest} {ns = ms} {vs = us} t v e m) =
+      let a = made_same (suc p) Q rest ms us n m in
+      let b = ap (among n) e in
+      let c = among_join n (references (fitted defs t v)) (references_in (all_fitted defs Q rest)) in
+      let d = among_join n (references v) (references_in us) in
+      omega arith
 
   take_front : (pre P : List Ty) → take (length pre) (pre ++ P) ≡ pre
   take_front [] P = refl
@@ -315,48 +348,185 @@ module _ (defs : List Def) where
   count_more [] t = omega arith
   count_more (u ∷ pre) t = let a = count_more pre t in omega arith
 
-  pub tuple_segments : (u : Value) (Ts P pre : List Ty) (vs : List Value) (ss : List ℕ) (front : List (Option ℕ)) (b : ℕ)
-      → references u ≡ front ++ references_in vs → length front ≡ count_all defs pre → AllStandFor defs Ts P → AllFit defs Ts vs
-      → length ss ≡ length vs → b ≤ length front
-      → Segments defs (pre ++ P) u b (numbers_from defs (length pre) (length ss)) ss vs
-  tuple_segments u [] [] pre [] [] front b e c a f l m = tt
-  tuple_segments u [] [] pre [] (s ∷ ss) front b e c a f l m = absurd (omega arith)
-  tuple_segments u [] [] pre (v ∷ vs) ss front b e c a f l m = absurd f
-  tuple_segments u [] (t ∷ P) pre vs ss front b e c a f l m = absurd a
-  tuple_segments u (T ∷ Ts) [] pre vs ss front b e c a f l m = absurd a
-  tuple_segments u (T ∷ Ts) (t ∷ P) pre [] ss front b e c a f l m = absurd f
-  tuple_segments u (T ∷ Ts) (t ∷ P) pre (v ∷ vs) [] front b e c a f l m = absurd (omega arith)
-  tuple_segments u (T ∷ Ts) (t ∷ P) pre (v ∷ vs) (s ∷ ss) front b e c a f l m =
-      let R = references v in
-      let eA : count_all defs (take (length pre) (pre ++ (t ∷ P))) ≡ length front = ap (count_all defs) (take_front pre (t ∷ P)) ∙ sym c in
-      let eC : count_of defs (slice_index_or (pre ++ (t ∷ P)) (length pre) ty.Int) ≡ count_of defs t = ap (count_of defs)
-      (index_front pre P t) in
-      let long : length R ≡ count_of defs t = ap length (sym (a.0 v f.0)) ∙ counted defs t v in
-      let e2 : references u ≡ (front ++ R) ++ references_in vs = e ∙ sym (append_assoc front R (references_in vs)) in
+  -- the references of what moved are where those of its part are
+  pub made_segments : (u : Value) (p : ℕ) (P : List Ty) (full : List Value) (ns : List ℕ) (vs : List Value) (ss : List ℕ) (pre : List Ty)
+      (front : List (Option ℕ)) (b : ℕ) → Made defs p P full ns vs → length pre ≡ p
+      → references u ≡ front ++ references_in (all_fitted defs P full) → length front ≡ count_all defs pre → length ss ≡ length vs
+      → b ≤ length front → Segments defs (pre ++ P) u b ns ss vs
+  made_segments u p P full ns vs [] pre front b ends q e c l m = tt
+  made_segments u p P full ns vs (s ∷ ss) pre front b ends q e c l m = absurd (omega arith)
+  made_segments u p P full ns vs ss pre front b (fills {P = Q} {full = rest} t v z x) q e c l m =
+      let R = references (fitted defs t v) in
+      let e2 : references u ≡ (front ++ R) ++ references_in (all_fitted defs Q rest) =
+      e ∙ sym (append_assoc front R (references_in (all_fitted defs Q rest))) in
       let n1 = length-append front R in
       let n2 = count_more pre t in
       let n3 = length-append pre (t ∷ []) in
-      let more = tuple_segments u Ts P (pre ++ (t ∷ [])) vs ss (front ++ R)
-      (count_all defs (take (length pre) (pre ++ (t ∷ P))) + count_of defs (slice_index_or (pre ++ (t ∷ P)) (length pre) ty.Int)) e2
-      (omega arith) a.1 f.1 (omega arith) (omega arith) in
-      let z : length (pre ++ (t ∷ [])) ≡ suc (length pre) = omega arith in (
+      let n4 = counted defs t v in
+      subst (λ (W : List Ty). Segments defs W u b ns ss vs) (append_assoc pre (t ∷ []) Q)
+      (made_segments u (suc p) Q rest ns vs ss (pre ++ (t ∷ [])) (front ++ R) b x (omega arith) e2 (omega arith) l (omega arith))
+  made_segments u p P full ns vs [] pre front b (moves {P = Q} {full = rest} {ns = ms} {vs = us} t v f x) q e c l m = absurd (omega arith)
+  made_segments u p P full ns vs (s ∷ ss) pre front b (moves {P = Q} {full = rest} {ns = ms} {vs = us} t v f x) q e c l m =
+      let R = references (fitted defs t v) in
+      let eA : count_all defs (take (length pre) (pre ++ (t ∷ Q))) ≡ length front = ap (count_all defs) (take_front pre (t ∷ Q)) ∙ sym c in
+      let eC : count_of defs (slice_index_or (pre ++ (t ∷ Q)) (length pre) ty.Int) ≡ count_of defs t = ap (count_of defs)
+      (index_front pre Q t) in
+      let long : length R ≡ count_of defs t = counted defs t v in
+      let same : length R ≡ length (references v) = ap length f in
+      let e2 : references u ≡ (front ++ R) ++ references_in (all_fitted defs Q rest) =
+      e ∙ sym (append_assoc front R (references_in (all_fitted defs Q rest))) in
+      let n1 = length-append front R in
+      let n2 = count_more pre t in
+      let n3 = length-append pre (t ∷ []) in
+      let b2 : ℕ = count_all defs (take (length pre) (pre ++ (t ∷ Q))) + count_of defs (slice_index_or (pre ++ (t ∷ Q)) (length pre)
+      ty.Int) in
+      let more = made_segments u (suc p) Q rest ms us ss (pre ++ (t ∷ [])) (front ++ R) b2 x (omega arith) e2 (omega arith) (omega arith)
+      (omega arith) in
+      subst (λ (j : ℕ). Segments defs (pre ++ (t ∷ Q)) u b (j ∷ ms) (s ∷ ss) (v ∷ us)) q (
         omega arith,
-        (λ k q.
+        (λ k r.
             ap (λ (j : ℕ). reference (j + k) (Holds u)) eA ∙ ap (λ (rs : List (Option ℕ)). slice_index_or rs (length front + k) None) e
-            ∙ nth_back front (R ++ references_in vs) k ∙ nth_front R (references_in vs) k (omega arith)),
-        long ∙ sym eC,
-        subst (λ (j : ℕ). Segments defs (pre ++ (t ∷ P)) u
-            (count_all defs (take (length pre) (pre ++ (t ∷ P))) + count_of defs (slice_index_or (pre ++ (t ∷ P)) (length pre) ty.Int))
-            (numbers_from defs j (length ss)) ss vs) z
-            (subst (λ (Q : List Ty). Segments defs Q u
-            (count_all defs (take (length pre) (pre ++ (t ∷ P))) + count_of defs (slice_index_or (pre ++ (t ∷ P)) (length pre) ty.Int))
-            (numbers_from defs (length (pre ++ (t ∷ []))) (length ss)) ss vs) (append_assoc pre (t ∷ []) P) more),
+            ∙ nth_back front (R ++ references_in (all_fitted defs Q rest)) k
+            ∙ nth_front R (references_in (all_fitted defs Q rest)) k (omega arith)
+            ∙ ap (λ (rs : List (Option ℕ)). slice_index_or rs k None) f),
+        (omega arith),
+        subst (λ (W : List Ty). Segments defs W u b2 ms ss us) (append_assoc pre (t ∷ []) Q) more,
       )
 
-  -- the references of a tuple are those of its parts
-  pub tuple_references : (us : Tys) (Ts : List Ty) (vs : List Value) → AllStandFor defs Ts (listed us) → AllFit defs Ts vs
-      → references (fitted defs (ty.Tuple us) (Parts (row vs))) ≡ references_in vs
-  tuple_references us Ts vs a f =
-      ap references (values_are_whole.tuples defs us (Parts (row vs)))
-      ∙ ap (λ (xs : List Value). values.all_references (row (all_fitted defs (listed us) xs))) (listed_row vs)
-      ∙ row_references (all_fitted defs (listed us) vs) ∙ fitted_all Ts (listed us) vs a f
+  -- ---- the parts of tuples and of adts' values
+
+  abbrev AllRefer : List Ty → List Value → Type 0
+  AllRefer [] [] = Unit {0}
+  AllRefer [] (v ∷ vs) = ⊥
+  AllRefer (t ∷ P) [] = ⊥
+  AllRefer (t ∷ P) (v ∷ vs) = (references (fitted defs t v) ≡ references v) × AllRefer P vs
+
+  stand_refer : (Ts P : List Ty) (vs : List Value) → AllStandFor defs Ts P → AllFit defs Ts vs → AllRefer P vs
+  stand_refer [] [] [] a f = tt
+  stand_refer [] [] (v ∷ vs) a f = absurd f
+  stand_refer [] (t ∷ P) vs a f = absurd a
+  stand_refer (T ∷ Ts) [] vs a f = absurd a
+  stand_refer (T ∷ Ts) (t ∷ P) [] a f = absurd f
+  stand_refer (T ∷ Ts) (t ∷ P) (v ∷ vs) a f = (a.0 v f.0, stand_refer Ts P vs a.1 f.1)
+
+  made_row : (p : ℕ) (P Q : List Ty) (vs : List Value) → AllRefer P vs → Made defs p (P ++ Q) vs (numbers_from defs p (length vs)) vs
+  made_row p [] Q [] h = ends
+  made_row p [] Q (v ∷ vs) h = absurd h
+  made_row p (t ∷ P) Q [] h = absurd h
+  made_row p (t ∷ P) Q (v ∷ vs) h = moves t v h.0 (made_row (suc p) P Q vs h.1)
+
+  moved_on : (p : ℕ) (P Q : List Ty) (us full : List Value) (ns : List ℕ) (ws : List Value) → AllRefer P us
+      → Made defs (p + length P) Q full ns ws → Made defs p (P ++ Q) (us ++ full) (numbers_from defs p (length P) ++ ns) (us ++ ws)
+  moved_on p [] Q [] full ns ws h m = let e : p + 0 ≡ p = omega arith in subst (λ (j : ℕ). Made defs j Q full ns ws) e m
+  moved_on p [] Q (v ∷ us) full ns ws h m = absurd h
+  moved_on p (t ∷ P) Q [] full ns ws h m = absurd h
+  moved_on p (t ∷ P) Q (v ∷ us) full ns ws h m =
+      let e : p + suc (length P) ≡ suc p + length P = omega arith in
+      moves t v h.0 (moved_on (suc p) P Q us full ns ws h.1 (subst (λ (j : ℕ). Made defs j Q full ns ws) e m))
+
+  filled_on : (p : ℕ) (P Q : List Ty) (full : List Value) (ns : List ℕ) (ws : List Value) → Made defs (p + length P) Q full ns ws
+      → Made defs p (P ++ Q) (replicate (length P) nothing ++ full) ns ws
+  filled_on p [] Q full ns ws m = let e : p + 0 ≡ p = omega arith in subst (λ (j : ℕ). Made defs j Q full ns ws) e m
+  filled_on p (t ∷ P) Q full ns ws m =
+      let e : p + suc (length P) ≡ suc p + length P = omega arith in
+      fills t nothing (λ n. refl) (filled_on (suc p) P Q full ns ws (subst (λ (j : ℕ). Made defs j Q full ns ws) e m))
+
+  split : (F W : List Ty) (vs : List Value) → AllRefer (F ++ W) vs
+      → AllRefer F (take (length F) vs) × AllRefer W (drop (length F) vs)
+  split [] W vs h = (tt, h)
+  split (t ∷ F) W [] h = absurd h
+  split (t ∷ F) W (v ∷ vs) h = let x = split F W vs h.1 in ((h.0, x.0), x.1)
+
+  join_back : (c : ℕ) (vs : List Value) → take c vs ++ drop c vs ≡ vs
+  join_back zero vs = refl
+  join_back (suc c) [] = refl
+  join_back (suc c) (v ∷ vs) = ap (λ (us : List Value). v ∷ us) (join_back c vs)
+
+  long_drop : (c : ℕ) (vs : List Value) → length (drop c vs) ≡ length vs - c
+  long_drop zero vs = omega arith
+  long_drop (suc c) [] = omega arith
+  long_drop (suc c) (v ∷ vs) = let a = long_drop c vs in omega arith
+
+  types_long : (fs : List Field) → length (types_of fs) ≡ length fs
+  types_long [] = refl
+  types_long (f ∷ fs) = ap suc (types_long fs)
+
+  picks_split : (ps : List Variant) (k : ℕ) (w : Variant) → slice_get ps k ≡ Some w
+      → variant_types ps ≡ variant_types (take k ps) ++ (types_of w.fields ++ variant_types (drop (suc k) ps))
+  picks_split [] zero w e = absurd cc
+  picks_split [] (suc k) w e = absurd cc
+  picks_split (p ∷ ps) zero w e =
+      let f : p ≡ w = cc in
+      ap (λ (x : Variant). types_of x.fields ++ variant_types ps) f
+  picks_split (p ∷ ps) (suc k) w e =
+      ap (λ (ts : List Ty). types_of p.fields ++ ts) (picks_split ps k w e)
+      ∙ sym (append_assoc (types_of p.fields) (variant_types (take k ps)) (types_of w.fields ++ variant_types (drop (suc k) ps)))
+
+  tag_there : (ps : List Variant) (k : ℕ) (w : Variant) → slice_get ps k ≡ Some w → tag ps ≡ ty.Int ∷ []
+  tag_there [] zero w e = absurd cc
+  tag_there [] (suc k) w e = absurd cc
+  tag_there (p ∷ ps) k w e = refl
+
+  pub made_tuple : (us : Tys) (Ts : List Ty) (vs : List Value) → AllStandFor defs Ts (listed us) → AllFit defs Ts vs
+      → Made defs 0 (listed us) vs (numbers_from defs 0 (length vs)) vs
+  made_tuple us Ts vs a f =
+      subst (λ (P : List Ty). Made defs 0 P vs (numbers_from defs 0 (length vs)) vs) (append-nil (listed us))
+      (made_row 0 (listed us) [] vs (stand_refer Ts (listed us) vs a f))
+
+  made_fields : (d : Def) (variant : Option ℕ) (Ts : List Ty) (vs : List Value) → TakesFields defs d variant Ts → AllFit defs Ts vs
+      → Made defs 0 (parts d) (adt_parts (Some d) variant vs) (adt_numbers defs (Some d) variant (length vs)) vs
+  made_fields d None Ts vs a f =
+      subst (λ (ps : List Variant). Made defs 0 (tag ps ++ (types_of d.fields ++ variant_types ps)) vs (numbers_from defs 0 (length vs)) vs)
+      (sym a.0) (made_row 0 (types_of d.fields) [] vs (stand_refer Ts (types_of d.fields) vs a.1 f))
+  made_fields d (Some k) Ts vs a f =
+      let w = a.0 in
+      let F = types_of d.fields in
+      let W = types_of w.fields in
+      let V = variant_types (take k d.picks) in
+      let V2 = variant_types (drop (suc k) d.picks) in
+      let c : ℕ = length F in
+      let z : ℕ = length V in
+      let both = split F W vs (stand_refer Ts (F ++ W) vs a.2 f) in
+      let last = made_row (1 + c + z) W V2 (drop c vs) both.1 in
+      let others = filled_on (1 + c) V (W ++ V2) (drop c vs) (numbers_from defs (1 + c + z) (length (drop c vs))) (drop c vs) last in
+      let common = moved_on 1 F (V ++ (W ++ V2)) (take c vs) (replicate z nothing ++ drop c vs)
+      (numbers_from defs (1 + c + z) (length (drop c vs))) (drop c vs) both.0 others in
+      let here : Made defs 0 (ty.Int ∷ (F ++ (V ++ (W ++ V2)))) (Num (pos k) ∷ (take c vs ++ (replicate z nothing ++ drop c vs)))
+      (numbers_from defs 1 c ++ numbers_from defs (1 + c + z) (length (drop c vs))) (take c vs ++ drop c vs) =
+      fills ty.Int (Num (pos k)) (λ n. refl) common in
+      let e1 : ty.Int ∷ (F ++ (V ++ (W ++ V2))) ≡ parts d =
+      sym (ap (λ (ts : List Ty). ts ++ (F ++ variant_types d.picks)) (tag_there d.picks k w a.1)
+      ∙ ap (λ (ts : List Ty). ty.Int ∷ (F ++ ts)) (picks_split d.picks k w a.1)) in
+      subst (λ (c : ℕ). Made defs 0 (parts d) (Num (pos k) ∷ (take c vs ++ (replicate z nothing ++ drop c vs)))
+      (numbers_from defs 1 c ++ numbers_from defs (1 + c + z) (length vs - c)) vs) (types_long d.fields)
+      (subst (λ (P : List Ty). Made defs 0 P (Num (pos k) ∷ (take c vs ++ (replicate z nothing ++ drop c vs)))
+      (numbers_from defs 1 c ++ numbers_from defs (1 + c + z) (length vs - c)) vs) e1
+      (subst (λ (j : ℕ). Made defs 0 (ty.Int ∷ (F ++ (V ++ (W ++ V2)))) (Num (pos k) ∷ (take c vs ++ (replicate z nothing ++ drop c vs)))
+      (numbers_from defs 1 c ++ numbers_from defs (1 + c + z) j) vs) (long_drop c vs)
+      (subst (λ (xs : List Value). Made defs 0 (ty.Int ∷ (F ++ (V ++ (W ++ V2))))
+      (Num (pos k) ∷ (take c vs ++ (replicate z nothing ++ drop c vs)))
+      (numbers_from defs 1 c ++ numbers_from defs (1 + c + z) (length (drop c vs))) xs) (join_back c vs) here)))
+
+  pub made_adt : (n : ℕ) (d : Def) (variant : Option ℕ) (Ts : List Ty) (vs : List Value) → slice_get defs n ≡ Some d
+      → TakesFields defs d variant Ts → AllFit defs Ts vs
+      → Made defs 0 (part_types defs (ty.Adt n)) (adt_parts (slice_get defs n) variant vs)
+      (part_numbers defs (operation.Adt n variant) (length vs)) vs
+  made_adt n d variant Ts vs e a f =
+      subst (λ (o : Option Def). Made defs 0 (parts_there defs o) (adt_parts o variant vs) (adt_numbers defs o variant (length vs)) vs)
+      (sym e)
+      (made_fields d variant Ts vs a f)
+
+  -- A value of a type that has a layout has its parts.
+  pub whole_is : (t : Ty) → HasLayout defs t → (v : Value) → fitted defs t v ≡ with_parts defs (part_types defs t) v
+  whole_is (ty.Tuple us) h v = values_are_whole.tuples defs us v
+  whole_is (ty.Adt n) h v =
+      values_are_whole.adts defs n h.0 h.2.0 v h.2.1 h.1
+      ∙ sym (ap (λ (o : Option Def). with_parts defs (parts_there defs o) v) h.1)
+  whole_is _ h v = absurd h
+
+  pub made_references : (t : Ty) (full : List Value) → HasLayout defs t
+      → references (fitted defs t (Parts (row full))) ≡ references_in (all_fitted defs (part_types defs t) full)
+  made_references t full h =
+      ap references (whole_is t h (Parts (row full)))
+      ∙ ap (λ (xs : List Value). values.all_references (row (all_fitted defs (part_types defs t) xs))) (listed_row full)
+      ∙ row_references (all_fitted defs (part_types defs t) full)

@@ -1,7 +1,7 @@
 -- Parts that are taken out of a value: they move into a slot of their own.
 use Rattle.std.proofs.Common.{◌≡◌, ℕ, zero, suc, ◌+◌, ◌-◌, ◌<◌, ◌≤◌, List, [], ◌∷◌, ◌++◌, length, Option}
-use Rattle.std.proofs.Common.{None, Some, refl, sym, ap, ◌∙◌, arith, append_assoc, length-append, inl, inr, ◌⊎◌, take}
-use Rattle.std.specs.Prelude.{slice_index_or, slice_get}
+use Rattle.std.proofs.Common.{None, refl, sym, ap, subst, ◌∙◌, arith, append_assoc, length-append, inl, inr, ◌⊎◌, take}
+use Rattle.std.specs.Prelude.{slice_index_or}
 use Rattle.limbo_types.specs.Types as ty
 use Rattle.limbo_types.specs.Types.{Ty}
 use Rattle.limbo_layout.specs.Adts.{Def}
@@ -11,15 +11,14 @@ use Rattle.limbo_meaning.specs.Places.{value_part, put_part}
 use Rattle.core_code.specs.Slots.{Slot, Holds, Slots, slot, put, slot_names}
 use Rattle.core_code.specs.Code.{Instr}
 use Rattle.core_code.specs.Naming.{reference}
-use Rattle.core_code.specs.Terms.{Moved, drops_after, moves_out, part_types, parts_there, count_of, count_all}
+use Rattle.core_code.specs.Terms.{Moved, drops_after, moves_out, part_types, count_of, count_all}
 use Rattle.core_code.proofs.Names.{names_put, part_goes, zero_fitted}
-use Rattle.core_code.proofs.Whole.{values_are_whole}
 use Rattle.core_follows.specs.Drops.{Between, Beside, AllSpare, Holding}
 use Rattle.core_follows.specs.Handled.{Fits, StandsFor, HasLayout}
 use Rattle.core_follows.proofs.Slots.{put_same, put_other, put_long, total, total_same, total_split, slots_split}
 use Rattle.core_follows.proofs.Static.{after_touch, touch_wide}
 use Rattle.core_follows.proofs.Moves.{Goes_over, move_dropping}
-use Rattle.core_follows.proofs.Gathers.{nth_front, nth_back, under_none}
+use Rattle.core_follows.proofs.Gathers.{nth_front, nth_back, under_none, whole_is}
 use Rattle.core_follows.proofs.Given.{counted}
 
 -- Where the references of a part are among those of its whole, and that others in its place change none of the others.
@@ -82,20 +81,8 @@ taken defs (t ∷ P) (y ∷ ys) (suc k) l =
 -- A value of a type that has a layout has its parts.
 pub whole_of : (defs : List Def) (u : Ty) (k : ℕ) (v : Value) → HasLayout defs u → k < length (part_types defs u) → Fits defs u v
     → (ys : List Value) × (v ≡ Parts (row (all_fitted defs (part_types defs u) ys)))
-whole_of defs (ty.Tuple us) k v h l (inl f) =
-    (listed (parts_of f.0), f.1 ∙ values_are_whole.tuples defs us f.0)
-whole_of defs (ty.Adt n) k v h l (inl f) = by (slice_get defs n) refl
-  where
-    by : (o : Option Def) → slice_get defs n ≡ o → (ys : List Value) × (v ≡ Parts (row (all_fitted defs (part_types defs (ty.Adt n)) ys)))
-    by None e = absurd (let a = ap (λ (o : Option Def). length (parts_there defs o)) e in omega (arith, a, l))
-    by (Some d) e = (
-      listed (parts_of f.0),
-      f.1 ∙ values_are_whole.adts defs n d h.0 f.0 h.1 e
-          ∙ sym (ap (λ (o : Option Def). Parts (row (all_fitted defs (parts_there defs o) (listed (parts_of f.0))))) e),
-    )
-whole_of defs (ty.Tuple us) k v h l (inr f) = absurd (let e : ty.Tuple us ≡ ty.Int = f.0 in cc)
-whole_of defs (ty.Adt n) k v h l (inr f) = absurd (let e : ty.Adt n ≡ ty.Int = f.0 in cc)
-whole_of defs _ k v h l f = absurd h
+whole_of defs u k v h l (inl f) = (listed (parts_of f.0), f.1 ∙ whole_is defs u h f.0)
+whole_of defs u k v h l (inr f) = absurd (subst (HasLayout defs) f.0 h)
 
 -- Beside what is put in its place nothing of a row changes.
 nth_apart : (front xs ys behind : List (Option ℕ)) (k : ℕ) → length xs ≡ length ys → (k < length front) ⊎ (length front + length ys ≤ k)

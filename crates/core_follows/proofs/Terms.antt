@@ -52,9 +52,12 @@ use Rattle.limbo_meaning.specs.Values.{nothing}
 use Rattle.std.specs.Prelude.{slice_index_or}
 use Rattle.std.specs.Prelude.{zero}
 use Rattle.core_follows.proofs.Valued.{AllValued, values_stand, values_differ, spare_outside}
-use Rattle.core_follows.proofs.Gathers.{SpareEach, gather_holding, tuple_references, tuple_segments}
+use Rattle.core_follows.proofs.Gathers.{SpareEach, Segments, Made, gather_holding, made_references, made_same, made_segments}
+use Rattle.core_follows.proofs.Gathers.{made_tuple, made_adt}
+use Rattle.limbo_meaning.specs.Operations.{adt_parts}
+use Rattle.core_code.specs.Terms.{part_numbers}
+use Rattle.core_follows.specs.Handled.{HasLayout}
 use Rattle.core_code.specs.Naming.{AllDiffer}
-use Rattle.core_code.specs.Terms.{numbers_from}
 use Rattle.core_code.specs.Code.{Gather, Pick}
 use Rattle.core_follows.proofs.Picks.{taken, whole_of, pick_holding}
 use Rattle.core_follows.proofs.Nodes.{hold_at}
@@ -67,7 +70,6 @@ use Rattle.core_follows.specs.Handled.{Takes}
 use Rattle.core_code.specs.Slots.{emptied}
 use Rattle.core_code.proofs.Names.{long_emptied}
 use Rattle.limbo_meaning.specs.Values.{Parts, row, among}
-use Rattle.limbo_layout.specs.Adts.{listed}
 use Rattle.limbo_typed.specs.declared.operation.Operation.TheVariants as operation
 
 -- ---- nothing waits in a tree of which nothing is evaluated
@@ -214,45 +216,71 @@ module _ (limit : ℕ) (program : Program) where
   spare_each lo hi ds [] h = tt
   spare_each lo hi ds (s ∷ ss) h = (h.0.1, spare_each lo hi ds ss h.1)
 
-  -- the parts of a tuple move into it
-  gathers_goes : (lo : ℕ) (t : Ty) (o : Operation) (ts : Terms) (l : LoweredAll) → lo ≤ l.free → AllValued lo l.free l.drops l.values
-      → AllDiffer l.values → Makes program.adts t o (types_in program.adts ts) → AllBy true lo ts l
+  -- what parts are made of moves into them
+  abbrev made_of : Operation → List Value → List Value
+  made_of (operation.Adt n v) vs = adt_parts (slice_get program.adts n) v vs
+  made_of o vs = vs
+
+  parts_go : (lo : ℕ) (t : Ty) (o : Operation) (ts : Terms) (l : LoweredAll) → lo ≤ l.free → AllValued lo l.free l.drops l.values
+      → AllDiffer l.values → HasLayout program.adts t
+      → ((vs : List Value) → AllFit program.adts (types_in program.adts ts) vs
+      → Made program.adts 0 (part_types program.adts t) (made_of o vs) (part_numbers program.adts o (length vs)) vs)
+      → ((m : Memory) (vs : List Value) → performed program.adts m t (Operate o) vs
+      ≡ Stepped m [] (Evaluated (fitted program.adts t (Parts (row (made_of o vs)))))) → AllBy true lo ts l
       → GoesBy lo (Node t (Operate o) ts) (gathers program.adts t o l)
-  gathers_goes lo (ty.Tuple us) operation.Tuple ts l p valued differ s all C c g held has room k =
-      let t : Ty = ty.Tuple us in
+  parts_go lo t o ts l p valued differ layout made performs all C c g held has room k =
       let mid : ℕ = l.free in
-      let is : List Instr = Gather t (Operate operation.Tuple) mid l.values ∷ [] in
+      let i : Instr = Gather t (Operate o) mid l.values in
+      let is : List Instr = i ∷ [] in
       let n1 = length-append l.code is in
-      begins ts g held (C (Node t (Operate operation.Tuple) ts))
-      (all (λ xs. C (Node t (Operate operation.Tuple) xs)) (in_node C c t (Operate operation.Tuple)) g held
+      begins ts g held (C (Node t (Operate o) ts))
+      (all (λ xs. C (Node t (Operate o) xs)) (in_node C c t (Operate o)) g held
       (has_front g.code g.pc l.code is has)
       (room_front g.slots lo mid (suc mid) held p (omega arith) room)
       (λ j variables slots vs got held1 h hold bs fs eq.
       let g1 = spot g j (g.pc + length l.code) variables slots in
       let room1 = room_behind g.slots slots lo mid (suc mid) l.drops held got held1 p (omega arith) room h eq in
-      let u : Value = fitted program.adts t (Parts (row vs)) in
+      let P : List Ty = part_types program.adts t in
+      let full : List Value = made_of o vs in
+      let u : Value = fitted program.adts t (Parts (row full)) in
       let slots2 = put (emptied slots l.values) mid (Holds u) in
       let long : mid < length slots = let q = room1.fits in omega arith in
-      let refs = tuple_references program.adts us (types_in program.adts ts) vs s fs in
-      let segments = tuple_segments program.adts u (types_in program.adts ts) (listed us) [] vs l.values [] 0 refs refl s fs
-      (sym (hold_long slots l.values vs hold)) (omega arith) in
-      let whole = gather_holding program.adts (listed us) u g.slots slots lo mid (numbers_from program.adts 0 (length l.values)) l.values
+      let refs = made_references program.adts t full layout in
+      let longs : length vs ≡ length l.values = hold_long slots l.values vs hold in
+      let ns : List ℕ = part_numbers program.adts o (length vs) in
+      let m = made vs fs in
+      let segments = subst (λ (n : ℕ). Segments program.adts P u 0 (part_numbers program.adts o n) l.values vs) longs
+      (made_segments program.adts u 0 P full ns vs l.values [] [] 0 m refl refs refl (sym longs) (omega arith)) in
+      let whole = gather_holding program.adts P u g.slots slots lo mid (part_numbers program.adts o (length l.values)) l.values
       vs l.drops got
       p long h hold bs differ (spare_each lo mid l.drops l.values valued) (spare_outside lo mid mid l.drops (inr (omega arith)) h.within)
       segments
-      (λ n. ap (among n) refs) (λ n. room1.clean mid (omega arith) (omega arith) n) in
-      gives_always limit program C c g1 held1 [] (Node t (Operate operation.Tuple) (evaluated vs)) (Evaluated u)
-      (Gather t (Operate operation.Tuple) mid l.values)
+      (λ n. ap (among n) refs ∙ made_same program.adts 0 P full ns vs n m) (λ n. room1.clean mid (omega arith) (omega arith) n) in
+      gives_always limit program C c g1 held1 [] (Node t (Operate o) (evaluated vs)) (Evaluated u) i
       (suc (g.pc + length l.code)) slots2 (has_back g.code g.pc l.code is has).0 room1.names
       (λ w q below r. ap (λ (xs : List Value). machine.gives limit (code_of program) w (coded q g1 below r) mid (emptied slots l.values)
-      (performed program.adts (memory_of w g1) t (Operate operation.Tuple) xs)) (hold_values slots l.values vs hold))
-      (λ w. node_next limit program (memory_of w g1) t (Operate operation.Tuple) vs)
+      (performed program.adts (memory_of w g1) t (Operate o) xs)) (hold_values slots l.values vs hold)
+      ∙ ap (λ (y : Progress Value Term). machine.gives limit (code_of program) w (coded q g1 below r) mid (emptied slots l.values) y)
+      (performs (memory_of w g1) vs))
+      (λ w. node_next limit program (memory_of w g1) t (Operate o) vs ∙ performs (memory_of w g1) vs)
       (pc_is limit program g j (g.pc + length (l.code ++ is)) (suc (g.pc + length l.code)) variables slots2 (held1 ++ [])
       (C (Evaluated u)) (omega arith)
       (k j variables slots2 u got (held1 ++ []) whole
       (put_same (emptied slots l.values) mid (Holds u) (let q = long_emptied slots l.values in omega arith))
-      (p, omega arith, inl (Parts (row vs), refl)) (append-nil held1 ∙ eq)))))
-  gathers_goes lo _ _ ts l p valued differ s all C c g held has room k = absurd s
+      (p, omega arith, inl (Parts (row full), refl)) (append-nil held1 ∙ eq)))))
+
+  gathers_goes : (lo : ℕ) (t : Ty) (o : Operation) (ts : Terms) (l : LoweredAll) → lo ≤ l.free → AllValued lo l.free l.drops l.values
+      → AllDiffer l.values → Makes program.adts t o (types_in program.adts ts) → AllBy true lo ts l
+      → GoesBy lo (Node t (Operate o) ts) (gathers program.adts t o l)
+  gathers_goes lo (ty.Tuple us) operation.Tuple ts l p valued differ s all =
+      parts_go lo (ty.Tuple us) operation.Tuple ts l p valued differ tt
+      (λ vs fs. made_tuple program.adts us (types_in program.adts ts) vs s fs) (λ m vs. refl) all
+  gathers_goes lo (ty.Adt k) (operation.Adt n v) ts l p valued differ s all =
+      subst (λ (n : ℕ). GoesBy lo (Node (ty.Adt k) (Operate (operation.Adt n v)) ts) (gathers program.adts (ty.Adt k) (operation.Adt n v)
+      l)) s.0
+      (parts_go lo (ty.Adt k) (operation.Adt k v) ts l p valued differ (s.1.0, s.1.1, s.1.2)
+      (λ vs fs. made_adt program.adts k s.1.0 v (types_in program.adts ts) vs s.1.1 s.1.3 fs) (λ m vs. refl) all)
+  gathers_goes lo _ _ ts l p valued differ s all = absurd s
 
   -- a part moves out of a value
   picks_goes : (lo : ℕ) (t : Ty) (k : ℕ) (ts : Terms) (l : LoweredAll) → lo ≤ l.free → length l.values ≡ count ts

@@ -1,8 +1,9 @@
 -- Trees of which nothing is evaluated yet.
-use Rattle.std.specs.Prelude.{◌≡◌, ℕ, ℤ, suc, ◌<◌, ◌⊎◌, true, false, List, [], ◌∷◌, Option, Some, None, length, slice_index_or}
+use Rattle.std.specs.Prelude.{◌++◌, slice_get, ◌≡◌, ℕ, ℤ, suc, ◌<◌, ◌⊎◌, true, false, List, [], ◌∷◌, Option, Some, None, length}
+use Rattle.std.specs.Prelude.{slice_index_or}
 use Rattle.limbo_types.specs.Types as ty
 use Rattle.limbo_types.specs.Types.{Ty}
-use Rattle.limbo_layout.specs.Adts.{Def, listed}
+use Rattle.limbo_layout.specs.Adts.{Def, Variant, listed, types_of}
 use Rattle.limbo_layout.specs.Layout.{Room, Laid}
 use Rattle.limbo_typed.specs.declared.operation.Operation.{Operation}
 use Rattle.limbo_typed.specs.declared.operation.Operation.TheVariants as operation
@@ -62,22 +63,31 @@ module _ (defs : List Def) where
   types_in NoTerms = []
   types_in (MoreTerms t ts) = type_of defs t ∷ types_in ts
 
-  -- A tuple's parts stand for those that its type says.
-  abbrev pub Makes : Ty → Operation → List Ty → Type 0
-  Makes (ty.Tuple us) operation.Tuple ts = AllStandFor defs ts (listed us)
-  Makes t o ts = ⊥
-
+  -- Types whose values have their parts: tuples, and adts that have a layout.
   abbrev pub HasLayout : Ty → Type 0
   HasLayout (ty.Tuple us) = Unit {0}
-  HasLayout (ty.Adt n) = (r : Room) × Laid defs (ty.Adt n) r
+  HasLayout (ty.Adt n) = (d : Def) × (slice_get defs n ≡ Some d) × ((r : Room) × Laid defs (ty.Adt n) r)
   HasLayout t = ⊥
+
+  -- The fields of an adt's value: the common ones, and then those of its variant, where it is a pick adt.
+  abbrev pub TakesFields : Def → (variant : Option ℕ) → List Ty → Type 0
+  TakesFields d None ts = (d.picks ≡ []) × AllStandFor defs ts (types_of d.fields)
+  TakesFields d (Some v) ts =
+      (w : Variant) × (slice_get d.picks v ≡ Some w) × AllStandFor defs ts (types_of d.fields ++ types_of w.fields)
+
+  -- What tuples and adts' values are made of stands for what their type says.
+  abbrev pub Makes : Ty → Operation → List Ty → Type 0
+  Makes (ty.Tuple us) operation.Tuple ts = AllStandFor defs ts (listed us)
+  Makes (ty.Adt k) (operation.Adt n v) ts =
+      (k ≡ n) × ((d : Def) × (slice_get defs k ≡ Some d) × ((r : Room) × Laid defs (ty.Adt k) r) × TakesFields d v ts)
+  Makes t o ts = ⊥
 
   -- A part that is taken is there, and stands for one of the type that the node says.
   abbrev pub Takes : (whole : Ty) → ℕ → Ty → Type 0
   Takes u k t =
       HasLayout u × (k < length (part_types defs u)) × StandsFor defs (slice_index_or (part_types defs u) k ty.Nothing) t
 
-  -- An assignment has its value behind the operands of its places, and a copy three operands. Values of adts aren't handled yet.
+  -- An assignment has its value behind the operands of its places, and a copy three operands.
   abbrev pub Suits : Ty → Work → Terms → Type 0
   Suits t (Operate o) ts = (passes_on o ≡ false) ⊎ ((passes_on o ≡ true) × Makes t o (types_in ts))
   Suits t (Assign aims) ts = operands_for aims < count ts

@@ -5,9 +5,9 @@
 //! the law speaks of), `Does` (what the code does from a place on where nothing of a statement is begun), `Stands` (when a frame of the
 //! code stands for one of the program, in the midst of whatever), `Follows` (the law).
 //!
-//! In `proofs/`, `Slots`, `Drops`, `Holding` and `Static` have what slots name and drops touch, and `Moves`, `Gathers`, `Picks` what they name
-//! after parts have moved into a tuple or out of a value; `Contexts`, `Nodes`, `Given`, `Works`, `Terms`, `Filling` and `Expressions` are expressions,
-//! `Dropped` the drops of a statement, `Valued`, `Blocks` and `Statements` statements, and `Follows` processes.
+//! In `proofs/`, `Slots`, `Drops`, `Holding` and `Static` have what slots name and drops touch, and `Moves`, `Gathers`, `Picks` what they
+//! name after parts have moved into a value or out of it; `Contexts`, `Nodes`, `Given`, `Works`, `Terms`, `Filling` and `Expressions` are
+//! expressions, `Dropped` the drops of a statement, `Valued`, `Blocks` and `Statements` statements, and `Follows` processes.
 #![tactic(auto)]
 
 mod laws;
