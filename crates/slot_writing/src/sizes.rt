@@ -47,7 +47,7 @@ fn expr_leaves(e: &TExpr, budget: u32) -> Option<u32>
 
 // What is left behind what a node is made of.
 #[cycle(sizes)]
-#[tactic(auto, using(limbo_typed::proofs::View::the_exprs, crate::proofs::Others::no_size))]
+#[tactic(auto, using(limbo_typed::proofs::View::the_exprs))]
 fn node_leaves(node: &TNode, budget: u32) -> Option<u32>
     ensures { MatchOption result (budget < sizes.inner_size (view_node node.now)) (λ rest. rest + sizes.inner_size (view_node node.now)
         ≡ budget) }
@@ -119,7 +119,6 @@ fn declared_fits(variables: &[u32], value: &Option<Box<TExpr>>, budget: u32) -> 
 
 // Whether each statement in a statement fits in so many bytes.
 #[cycle(frames)]
-#[tactic(auto, using(limbo_typed::proofs::View::the_stmts, crate::proofs::Others::no_stmt_size))]
 fn stmt_fits(s: &TStmt, budget: u32) -> bool
     ensures { IsTrue result ↔ (sizes.stmt_size (view_stmt s.now) ≤ budget) }
 {

@@ -467,7 +467,6 @@ fn emit_for(
 
 // Writes a statement.
 #[cycle(statements)]
-#[tactic(auto, using(limbo_typed::proofs::View::the_stmts, crate::proofs::Others::no_stmt_code))]
 fn emit_stmt(
     alloc: Global,
     code: &mut Vec<Inst>,

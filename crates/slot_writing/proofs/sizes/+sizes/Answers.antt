@@ -3,6 +3,7 @@ use Rattle.std.proofs.lemmas.Grind.{common_steps}
 use Rattle.limbo_typed.specs.View.{view_expr, view_exprs, view_node}
 use Rattle.limbo_typed.proofs.View.{view_node-Lazy, view_node-Update, view_node-Print, view_node-Load}
 use Rattle.typed_lower.specs.Sizes.{expr_size, exprs_size, inner_size}
+use Rattle.slot_writing.proofs.Others.{no_size}
 use Rattle.slot_writing.proofs.sizes.+sizes.Goals as goal
 
 pub node_leaves-returns-in_ok-rest-in-Lazy : goal.node_leaves-returns-in_ok-rest-in-Lazy
@@ -30,3 +31,9 @@ node_leaves-returns-in-Load t c =
     let size = ap inner_size (ap view_node c.in-Load.is ∙ view_node-Load c.in-Load.interface c.in-Load.path) in
     let path = ap (λ x. expr_size (view_expr x)) c.deref-in-Load.ensures in
     grind (arith, common_steps)
+
+pub node_leaves-returns-in_default : goal.node_leaves-returns-in_default
+node_leaves-returns-in_default t c =
+    let d = c.in_default in
+    let none = no_size c.args.node.now d.not-Apply d.not-Lazy d.not-Assign d.not-Update d.not-Step d.not-Call d.not-Print d.not-Load in
+    omega (arith, none)

@@ -3,7 +3,8 @@ use Rattle.std.proofs.lemmas.List.{at_drop_more}
 use Rattle.limbo_typed.specs.declared.stmt.TStmt as code_stmt
 use Rattle.limbo_typed.specs.Typed as typed
 use Rattle.limbo_typed.specs.View.{view_expr, view_boxed, view_stmt, view_stmts}
-use Rattle.limbo_typed.proofs.View.{view_stmt-For}
+use Rattle.limbo_typed.proofs.View.{view_stmt-Block, view_stmt-Declare, view_stmt-Eval, view_stmt-If, view_stmt-While, view_stmt-Do}
+use Rattle.limbo_typed.proofs.View.{view_stmt-For, view_stmt-Break, view_stmt-Continue, view_stmt-Return}
 use Rattle.slot_code.specs.Code.{Back, Inst}
 use Rattle.typed_lower.specs.Statements.{stmt_code, stmts_code, optional, condition, inside}
 use Rattle.slot_writing.specs.Loops.{arounds_at, types_of, looped, AreBehind, round}
@@ -335,3 +336,57 @@ emit_stmts-loop-i-preserved t c =
           ∙ ap (λ xs. stmts_code ts (arounds_at (length w0) ls) xs ++ written w0) (sym at);
       within = omega (arith, lt);
     }
+
+pub emit_stmt-emit_stmts-requires : goal.emit_stmt-emit_stmts-requires
+emit_stmt-emit_stmts-requires t c = grind (arith, view_stmt-Block)
+
+pub emit_stmt-emit_declared-requires : goal.emit_stmt-emit_declared-requires
+emit_stmt-emit_declared-requires t c = grind (arith, view_stmt-Declare)
+
+pub emit_stmt-emit_done-requires : goal.emit_stmt-emit_done-requires
+emit_stmt-emit_done-requires t c = grind (arith, view_stmt-Eval)
+
+pub emit_stmt-emit_if-requires : goal.emit_stmt-emit_if-requires
+emit_stmt-emit_if-requires t c = grind (arith, view_stmt-If)
+
+pub emit_stmt-emit_while-requires : goal.emit_stmt-emit_while-requires
+emit_stmt-emit_while-requires t c = grind (arith, view_stmt-While)
+
+pub emit_stmt-emit_do-requires : goal.emit_stmt-emit_do-requires
+emit_stmt-emit_do-requires t c = grind (arith, view_stmt-Do)
+
+pub emit_stmt-emit_for-requires : goal.emit_stmt-emit_for-requires
+emit_stmt-emit_for-requires t c = grind (arith, view_stmt-For)
+
+pub emit_stmt-emit_optional-requires : goal.emit_stmt-emit_optional-requires
+emit_stmt-emit_optional-requires t c = grind (arith, view_stmt-For)
+
+pub emit_stmt-emit_returned-requires : goal.emit_stmt-emit_returned-requires
+emit_stmt-emit_returned-requires t c = grind (arith, view_stmt-Return)
+
+pub emit_stmt-returns-in-Block : goal.emit_stmt-returns-in-Block
+emit_stmt-returns-in-Block t c = grind (arith, view_stmt-Block)
+
+pub emit_stmt-returns-in-Declare : goal.emit_stmt-returns-in-Declare
+emit_stmt-returns-in-Declare t c = grind (arith, view_stmt-Declare)
+
+pub emit_stmt-returns-in-Eval : goal.emit_stmt-returns-in-Eval
+emit_stmt-returns-in-Eval t c = grind (arith, view_stmt-Eval)
+
+pub emit_stmt-returns-in-If : goal.emit_stmt-returns-in-If
+emit_stmt-returns-in-If t c = grind (arith, view_stmt-If)
+
+pub emit_stmt-returns-in-While : goal.emit_stmt-returns-in-While
+emit_stmt-returns-in-While t c = grind (arith, view_stmt-While)
+
+pub emit_stmt-returns-in-Do : goal.emit_stmt-returns-in-Do
+emit_stmt-returns-in-Do t c = grind (arith, view_stmt-Do)
+
+pub emit_stmt-returns-in-Break : goal.emit_stmt-returns-in-Break
+emit_stmt-returns-in-Break t c = grind (arith, view_stmt-Break)
+
+pub emit_stmt-returns-in-Continue : goal.emit_stmt-returns-in-Continue
+emit_stmt-returns-in-Continue t c = grind (arith, view_stmt-Continue)
+
+pub emit_stmt-returns-in-Return : goal.emit_stmt-returns-in-Return
+emit_stmt-returns-in-Return t c = grind (arith, view_stmt-Return)
