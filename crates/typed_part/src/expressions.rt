@@ -54,7 +54,6 @@ fn is_applied(inside: Inside, t: &Ty, operation: Operation, args: &[TExpr]) -> b
 }
 
 // `&&` and `||`
-#[tactic(auto, using(crate::proofs::Types::expr_type))]
 #[cycle(expressions)]
 fn is_lazy(inside: Inside, t: &Ty, left: &TExpr, right: &TExpr) -> bool
     ensures { result ≡ (part.is_expr (view_inside inside.entry) (typed.view_expr left.now)
@@ -65,7 +64,6 @@ fn is_lazy(inside: Inside, t: &Ty, left: &TExpr, right: &TExpr) -> bool
     is_expr(inside, left) && is_expr(inside, right) && are_ints(&left.ty, &right.ty, t)
 }
 
-#[tactic(auto, using(crate::proofs::Types::expr_type))]
 #[cycle(expressions)]
 fn is_assigned(inside: Inside, t: &Ty, pattern: &Pattern, value: &TExpr) -> bool
     ensures { result ≡ (part.is_expr (view_inside inside.entry) (typed.view_expr value.now)
@@ -75,7 +73,6 @@ fn is_assigned(inside: Inside, t: &Ty, pattern: &Pattern, value: &TExpr) -> bool
 }
 
 // An assignment with an operator.
-#[tactic(auto, using(crate::proofs::Types::expr_type, crate::proofs::Types::place_type))]
 #[cycle(expressions)]
 fn is_update(inside: Inside, t: &Ty, operation: Operation, place: &Place, value: &TExpr) -> bool
     ensures { result ≡ (part.is_place (view_inside inside.entry) (typed.view_place place.now)
@@ -123,7 +120,6 @@ fn are_exprs(inside: Inside, es: &[TExpr]) -> bool
     true
 }
 
-#[tactic(auto, using(limbo_typed::proofs::View::the_exprs, crate::proofs::Others::no_node))]
 #[cycle(expressions)]
 fn is_node(inside: Inside, t: &Ty, node: &TNode) -> bool
     ensures { result ≡ part.is_node (view_inside inside.entry) (view_ty t.now) (typed.view_node node.now) }
@@ -161,7 +157,6 @@ fn is_node(inside: Inside, t: &Ty, node: &TNode) -> bool
 }
 
 /// Whether an expression is one of numbers.
-#[tactic(auto, using(limbo_typed::proofs::View::the_exprs))]
 #[cycle(expressions)]
 pub(crate) fn is_expr(inside: Inside, e: &TExpr) -> bool
     ensures { result ≡ part.is_expr (view_inside inside.entry) (typed.view_expr e.now) }

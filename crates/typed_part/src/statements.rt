@@ -158,7 +158,6 @@ fn is_for(
         && is_body(inside, loops, body)
 }
 
-#[tactic(auto, using(limbo_typed::proofs::View::the_stmts, crate::proofs::Others::no_stmt))]
 #[cycle(statements)]
 fn is_stmt(inside: Inside, loops: Loops, s: &TStmt) -> bool
     ensures { result ≡ part.is_stmt (view_inside inside.entry) (depth loops.entry) (typed.view_stmt s.now) }
