@@ -71,7 +71,6 @@ fn handlers<'a>(
 }
 
 // A block that handles no exceptions.
-#[tactic(auto, using(limbo_typed::proofs::View::the_stmts))]
 #[cycle(statements)]
 fn plain<'a>(
     alloc: Global,
@@ -91,7 +90,6 @@ fn plain<'a>(
 }
 
 // What handles the exceptions of statements which are these typed ones.
-#[tactic(auto, using(limbo_typed::proofs::View::the_stmts))]
 #[cycle(statements)]
 fn handled<'a>(
     alloc: Global,
@@ -123,7 +121,6 @@ fn handled<'a>(
 ///
 /// # Errors
 /// Those of its statements, and of what handles their exceptions.
-#[tactic(auto, using(limbo_tree::proofs::Stmts::the_blocks))]
 #[cycle(statements)]
 pub fn block<'a>(
     alloc: Global,

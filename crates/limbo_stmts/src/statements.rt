@@ -27,7 +27,6 @@ use std::alloc::Global;
 ///
 /// # Errors
 /// 60 to 64 by the rules of `case`, `alt` and `pick`, of answers and of labels; those of the statement's parts.
-#[tactic(auto, using(limbo_tree::proofs::Stmts::the_stmt_views, limbo_typed::proofs::View::the_stmts))]
 #[cycle(statements)]
 pub fn state<'a>(
     alloc: Global,

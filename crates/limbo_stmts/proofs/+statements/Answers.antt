@@ -17,7 +17,11 @@ use Rattle.limbo_tree.specs.declared.stmt.CaseArm as code_case
 use Rattle.limbo_tree.specs.declared.stmt.AltArm as code_alt
 use Rattle.limbo_tree.specs.declared.stmt.PickArm as code_pick
 use Rattle.limbo_tree.specs.declared.stmt.HandlerArm as code_handler
-use Rattle.limbo_tree.proofs.Stmts.{view_stmt-Block}
+use Rattle.std.proofs.Common.{arith}
+use Rattle.limbo_tree.proofs.Stmts.{view_stmt-Empty, view_stmt-Block, view_stmt-Declare, view_stmt-Eval, view_stmt-If, view_stmt-IfElse}
+use Rattle.limbo_tree.proofs.Stmts.{view_stmt-While, view_stmt-Do, view_stmt-For, view_stmt-Case, view_stmt-Alt, view_stmt-Pick}
+use Rattle.limbo_tree.proofs.Stmts.{view_stmt-Break, view_stmt-Continue, view_stmt-Return, view_stmt-Exit, view_stmt-Spawn, view_stmt-Raise}
+use Rattle.limbo_typed.proofs.View as made_views
 use Rattle.limbo_types.specs.Types.{Ty}
 use Rattle.limbo_typed.specs.declared.stmt.TStmt as code_typed
 use Rattle.limbo_typed.specs.declared.stmt.CaseArm as made_case
@@ -779,3 +783,114 @@ statements::state_all-returns-clause-states t c =
     (view_point c.loop-s.point)) (sym (view_stmts_is c.args.ss.now))
     (stated_end (view_around c.args.around.now) (view_point c.args.point.now) (view_point c.loop-s.point) c.args.ss.now c.loop-s.s-index
     c.loop-s.zs.items c.loop-s-test.false c.loop-s.invariant)
+
+pub statements::state-returns-in-Empty-clause-states : goal.statements::state-returns-in-Empty-clause-states
+statements::state-returns-in-Empty-clause-states t c = grind (arith, view_stmt-Empty, made_views.view_stmt-Empty)
+
+pub statements::state-returns-in-Empty-clause-refused : goal.statements::state-returns-in-Empty-clause-refused
+statements::state-returns-in-Empty-clause-refused t c = grind (arith, view_stmt-Empty)
+
+pub statements::state-returns-in-Block-clause-states : goal.statements::state-returns-in-Block-clause-states
+statements::state-returns-in-Block-clause-states t c = grind (arith, view_stmt-Block)
+
+pub statements::state-returns-in-Declare-clause-states : goal.statements::state-returns-in-Declare-clause-states
+statements::state-returns-in-Declare-clause-states t c = grind (arith, view_stmt-Declare)
+
+pub statements::state-returns-in-Declare-clause-refused : goal.statements::state-returns-in-Declare-clause-refused
+statements::state-returns-in-Declare-clause-refused t c = grind (arith, view_stmt-Declare)
+
+pub statements::state-returns-in-Eval-clause-states : goal.statements::state-returns-in-Eval-clause-states
+statements::state-returns-in-Eval-clause-states t c = grind (arith, view_stmt-Eval)
+
+pub statements::state-returns-in-Eval-clause-refused : goal.statements::state-returns-in-Eval-clause-refused
+statements::state-returns-in-Eval-clause-refused t c = grind (arith, view_stmt-Eval)
+
+pub statements::state-returns-in-While-clause-states : goal.statements::state-returns-in-While-clause-states
+statements::state-returns-in-While-clause-states t c = grind (arith, view_stmt-While)
+
+pub statements::state-returns-in-While-clause-refused : goal.statements::state-returns-in-While-clause-refused
+statements::state-returns-in-While-clause-refused t c = grind (arith, view_stmt-While)
+
+pub statements::state-returns-in-Do-clause-states : goal.statements::state-returns-in-Do-clause-states
+statements::state-returns-in-Do-clause-states t c = grind (arith, view_stmt-Do)
+
+pub statements::state-returns-in-Do-clause-refused : goal.statements::state-returns-in-Do-clause-refused
+statements::state-returns-in-Do-clause-refused t c = grind (arith, view_stmt-Do)
+
+pub statements::state-returns-in-For-clause-states : goal.statements::state-returns-in-For-clause-states
+statements::state-returns-in-For-clause-states t c = grind (arith, view_stmt-For)
+
+pub statements::state-returns-in-For-clause-refused : goal.statements::state-returns-in-For-clause-refused
+statements::state-returns-in-For-clause-refused t c = grind (arith, view_stmt-For)
+
+pub statements::state-returns-in-Case-clause-states : goal.statements::state-returns-in-Case-clause-states
+statements::state-returns-in-Case-clause-states t c = grind (arith, view_stmt-Case)
+
+pub statements::state-returns-in-Case-clause-refused : goal.statements::state-returns-in-Case-clause-refused
+statements::state-returns-in-Case-clause-refused t c = grind (arith, view_stmt-Case)
+
+pub statements::state-returns-in-Alt-clause-states : goal.statements::state-returns-in-Alt-clause-states
+statements::state-returns-in-Alt-clause-states t c = grind (arith, view_stmt-Alt)
+
+pub statements::state-returns-in-Alt-clause-refused : goal.statements::state-returns-in-Alt-clause-refused
+statements::state-returns-in-Alt-clause-refused t c = grind (arith, view_stmt-Alt)
+
+pub statements::state-returns-in-Pick-clause-states : goal.statements::state-returns-in-Pick-clause-states
+statements::state-returns-in-Pick-clause-states t c = grind (arith, view_stmt-Pick)
+
+pub statements::state-returns-in-Pick-clause-refused : goal.statements::state-returns-in-Pick-clause-refused
+statements::state-returns-in-Pick-clause-refused t c = grind (arith, view_stmt-Pick)
+
+pub statements::state-returns-in-Break-clause-states : goal.statements::state-returns-in-Break-clause-states
+statements::state-returns-in-Break-clause-states t c = grind (arith, view_stmt-Break)
+
+pub statements::state-returns-in-Break-clause-refused : goal.statements::state-returns-in-Break-clause-refused
+statements::state-returns-in-Break-clause-refused t c = grind (arith, view_stmt-Break)
+
+pub statements::state-returns-in-Continue-clause-states : goal.statements::state-returns-in-Continue-clause-states
+statements::state-returns-in-Continue-clause-states t c = grind (arith, view_stmt-Continue)
+
+pub statements::state-returns-in-Continue-clause-refused : goal.statements::state-returns-in-Continue-clause-refused
+statements::state-returns-in-Continue-clause-refused t c = grind (arith, view_stmt-Continue)
+
+pub statements::state-returns-in-Return-clause-states : goal.statements::state-returns-in-Return-clause-states
+statements::state-returns-in-Return-clause-states t c = grind (arith, view_stmt-Return)
+
+pub statements::state-returns-in-Return-clause-refused : goal.statements::state-returns-in-Return-clause-refused
+statements::state-returns-in-Return-clause-refused t c = grind (arith, view_stmt-Return)
+
+pub statements::state-returns-in-Exit-clause-states : goal.statements::state-returns-in-Exit-clause-states
+statements::state-returns-in-Exit-clause-states t c = grind (arith, view_stmt-Exit, made_views.view_stmt-Exit)
+
+pub statements::state-returns-in-Exit-clause-refused : goal.statements::state-returns-in-Exit-clause-refused
+statements::state-returns-in-Exit-clause-refused t c = grind (arith, view_stmt-Exit)
+
+pub statements::state-returns-in-Spawn-clause-states : goal.statements::state-returns-in-Spawn-clause-states
+statements::state-returns-in-Spawn-clause-states t c = grind (arith, view_stmt-Spawn)
+
+pub statements::state-returns-in-Spawn-clause-refused : goal.statements::state-returns-in-Spawn-clause-refused
+statements::state-returns-in-Spawn-clause-refused t c = grind (arith, view_stmt-Spawn)
+
+pub statements::state-returns-in-Raise-clause-states : goal.statements::state-returns-in-Raise-clause-states
+statements::state-returns-in-Raise-clause-states t c = grind (arith, view_stmt-Raise)
+
+pub statements::state-returns-in-Raise-clause-refused : goal.statements::state-returns-in-Raise-clause-refused
+statements::state-returns-in-Raise-clause-refused t c = grind (arith, view_stmt-Raise)
+
+pub statements::state-returns-in-None-clause-states : goal.statements::state-returns-in-None-clause-states
+statements::state-returns-in-None-clause-states t c = grind (arith, view_stmt-If)
+
+pub statements::state-returns-in-None-clause-refused : goal.statements::state-returns-in-None-clause-refused
+statements::state-returns-in-None-clause-refused t c = grind (arith, view_stmt-If)
+
+pub statements::state-returns-in-Some-clause-states : goal.statements::state-returns-in-Some-clause-states
+statements::state-returns-in-Some-clause-states t c = grind (arith, view_stmt-IfElse)
+
+pub statements::state-returns-in-Some-clause-refused : goal.statements::state-returns-in-Some-clause-refused
+statements::state-returns-in-Some-clause-refused t c = grind (arith, view_stmt-IfElse)
+
+pub blocks::plain-returns-in-Ok-clause-states : goal.blocks::plain-returns-in-Ok-clause-states
+blocks::plain-returns-in-Ok-clause-states t c = grind (arith, made_views.view_stmt-Block)
+
+pub blocks::handled-returns-in-Ok-handlers-clause-states : goal.blocks::handled-returns-in-Ok-handlers-clause-states
+blocks::handled-returns-in-Ok-handlers-clause-states t c = grind (arith, made_views.view_stmt-Handle)
