@@ -171,7 +171,6 @@ fn indexed(alloc: Global, context: &Context, body: &mut Body, e: &Expr) -> Resul
 }
 
 // One more item of an array.
-#[tactic(auto, using(limbo_tree::proofs::Exprs::the_init_views))]
 #[cycle(exprs)]
 fn fill_one(
     alloc: Global,

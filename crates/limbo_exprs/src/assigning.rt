@@ -53,7 +53,6 @@ fn place_pattern(alloc: Global, x: Box<TExpr>, at: Span) -> Result<Box<Pattern>,
 ///
 /// # Errors
 /// Those of its parts, and 51 where one is no place.
-#[tactic(auto, using(limbo_tree::proofs::Exprs::the_views, limbo_typed::proofs::View::the_exprs))]
 #[cycle(exprs)]
 pub fn pattern(
     alloc: Global,
@@ -77,7 +76,6 @@ pub fn pattern(
 }
 
 // A left side in parentheses.
-#[tactic(auto, using(limbo_typed::proofs::View::the_exprs))]
 #[cycle(exprs)]
 fn grouped_pattern(
     alloc: Global,
@@ -195,7 +193,6 @@ fn copied_into(
 }
 
 // `left = right`, where the left side is a pattern.
-#[tactic(auto, using(limbo_typed::proofs::View::the_exprs))]
 #[cycle(exprs)]
 fn stored(
     alloc: Global,

@@ -197,7 +197,6 @@ fn sliced(
 ///
 /// # Errors
 /// Those of its parts, and the refusal of its form.
-#[tactic(auto, using(limbo_tree::proofs::Exprs::the_views))]
 #[cycle(exprs)]
 pub(crate) fn form(
     alloc: Global,

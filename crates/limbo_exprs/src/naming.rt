@@ -149,7 +149,6 @@ fn part_in(
 ///
 /// # Errors
 /// Those of its parts, and 50 where there is no such member or part.
-#[tactic(auto, using(limbo_tree::proofs::Exprs::the_views))]
 #[cycle(exprs)]
 pub fn denote(
     alloc: Global,

@@ -91,7 +91,6 @@ pub fn values(
 ///
 /// # Errors
 /// Those of the part.
-#[tactic(auto, using(limbo_typed::proofs::View::the_exprs))]
 #[cycle(exprs)]
 pub fn maybe(
     alloc: Global,

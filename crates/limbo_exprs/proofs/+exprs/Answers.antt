@@ -1,3 +1,4 @@
+use Rattle.std.proofs.Common.{arith}
 use Rattle.std.proofs.Common.{rules, ◌≡◌, ◌≢◌, ◌+◌, ◌+ℤ◌, to_z, of_z, w64, ◌++◌, ◌∷◌, [], pos, map, List, Some, refl}
 use Rattle.std.proofs.Common.{sym, ap, subst, ◌∙◌}
 use Rattle.std.specs.Prelude.{IfOk, IfErr}
@@ -11,7 +12,9 @@ use Rattle.limbo_tree.specs.declared.operators.AssignOp.TheVariants as assign
 use Rattle.limbo_tree.specs.Exprs as tree
 use Rattle.limbo_tree.specs.View as source
 use Rattle.limbo_tree.proofs.Exprs.{view_expr-Number, view_expr-Chars, view_expr-Nil, view_expr-Name, view_expr-Arrow, view_expr-Dot}
-use Rattle.limbo_tree.proofs.Exprs.{view_expr-Call}
+use Rattle.limbo_tree.proofs.Exprs.{view_expr-Assign, view_expr-Load, view_expr-Binary, view_expr-Unary, view_expr-Bytes, view_expr-Filled}
+use Rattle.limbo_tree.proofs.Exprs.{view_expr-Sized, view_expr-Channel, view_expr-Listed, view_expr-Call, view_expr-Index, view_expr-Slice}
+use Rattle.limbo_tree.proofs.Exprs.{view_expr-Postfix, view_expr-Group}
 use Rattle.limbo_tree.proofs.Exprs.{view_init-Next, view_init-At, view_init-Rest}
 use Rattle.limbo_typed.specs.declared.expr.TExpr as code_typed
 use Rattle.limbo_typed.specs.declared.expr.Pattern as code_pattern
@@ -1078,3 +1081,99 @@ targets::named_target-returns-in-Err-its_value-clause-refused t c =
     no_named_place (view_context c.args.context.now) (view_body c.args.body.now) c.in-Err-its_value.fault.cause (source.view_expr
     c.args.e.now) (view_thing c.in-Ok.thing.value) (view_body c.denote.new.body) c.requires.named c.in-Ok.ensures.typed
     c.in-Err-its_value.ensures.refused
+
+pub forms::form-returns-in-Group-clause-typed : goal.forms::form-returns-in-Group-clause-typed
+forms::form-returns-in-Group-clause-typed t c = grind (arith, view_expr-Group)
+
+pub forms::form-returns-in-Group-clause-refused : goal.forms::form-returns-in-Group-clause-refused
+forms::form-returns-in-Group-clause-refused t c = grind (arith, view_expr-Group)
+
+pub forms::form-returns-in-Listed-clause-typed : goal.forms::form-returns-in-Listed-clause-typed
+forms::form-returns-in-Listed-clause-typed t c = grind (arith, view_expr-Listed)
+
+pub forms::form-returns-in-Listed-clause-refused : goal.forms::form-returns-in-Listed-clause-refused
+forms::form-returns-in-Listed-clause-refused t c = grind (arith, view_expr-Listed)
+
+pub forms::form-returns-in-Unary-clause-typed : goal.forms::form-returns-in-Unary-clause-typed
+forms::form-returns-in-Unary-clause-typed t c = grind (arith, view_expr-Unary)
+
+pub forms::form-returns-in-Unary-clause-refused : goal.forms::form-returns-in-Unary-clause-refused
+forms::form-returns-in-Unary-clause-refused t c = grind (arith, view_expr-Unary)
+
+pub forms::form-returns-in-Postfix-clause-typed : goal.forms::form-returns-in-Postfix-clause-typed
+forms::form-returns-in-Postfix-clause-typed t c = grind (arith, view_expr-Postfix)
+
+pub forms::form-returns-in-Postfix-clause-refused : goal.forms::form-returns-in-Postfix-clause-refused
+forms::form-returns-in-Postfix-clause-refused t c = grind (arith, view_expr-Postfix)
+
+pub forms::form-returns-in-Bytes-clause-typed : goal.forms::form-returns-in-Bytes-clause-typed
+forms::form-returns-in-Bytes-clause-typed t c = grind (arith, view_expr-Bytes)
+
+pub forms::form-returns-in-Bytes-clause-refused : goal.forms::form-returns-in-Bytes-clause-refused
+forms::form-returns-in-Bytes-clause-refused t c = grind (arith, view_expr-Bytes)
+
+pub forms::form-returns-in-Binary-clause-typed : goal.forms::form-returns-in-Binary-clause-typed
+forms::form-returns-in-Binary-clause-typed t c = grind (arith, view_expr-Binary)
+
+pub forms::form-returns-in-Binary-clause-refused : goal.forms::form-returns-in-Binary-clause-refused
+forms::form-returns-in-Binary-clause-refused t c = grind (arith, view_expr-Binary)
+
+pub forms::form-returns-in-Index-clause-typed : goal.forms::form-returns-in-Index-clause-typed
+forms::form-returns-in-Index-clause-typed t c = grind (arith, view_expr-Index)
+
+pub forms::form-returns-in-Index-clause-refused : goal.forms::form-returns-in-Index-clause-refused
+forms::form-returns-in-Index-clause-refused t c = grind (arith, view_expr-Index)
+
+pub forms::form-returns-in-Slice-clause-typed : goal.forms::form-returns-in-Slice-clause-typed
+forms::form-returns-in-Slice-clause-typed t c = grind (arith, view_expr-Slice)
+
+pub forms::form-returns-in-Slice-clause-refused : goal.forms::form-returns-in-Slice-clause-refused
+forms::form-returns-in-Slice-clause-refused t c = grind (arith, view_expr-Slice)
+
+pub forms::form-returns-in-Sized-clause-typed : goal.forms::form-returns-in-Sized-clause-typed
+forms::form-returns-in-Sized-clause-typed t c = grind (arith, view_expr-Sized)
+
+pub forms::form-returns-in-Sized-clause-refused : goal.forms::form-returns-in-Sized-clause-refused
+forms::form-returns-in-Sized-clause-refused t c = grind (arith, view_expr-Sized)
+
+pub forms::form-returns-in-Channel-clause-typed : goal.forms::form-returns-in-Channel-clause-typed
+forms::form-returns-in-Channel-clause-typed t c = grind (arith, view_expr-Channel)
+
+pub forms::form-returns-in-Channel-clause-refused : goal.forms::form-returns-in-Channel-clause-refused
+forms::form-returns-in-Channel-clause-refused t c = grind (arith, view_expr-Channel)
+
+pub forms::form-returns-in-Filled-clause-typed : goal.forms::form-returns-in-Filled-clause-typed
+forms::form-returns-in-Filled-clause-typed t c = grind (arith, view_expr-Filled)
+
+pub forms::form-returns-in-Filled-clause-refused : goal.forms::form-returns-in-Filled-clause-refused
+forms::form-returns-in-Filled-clause-refused t c = grind (arith, view_expr-Filled)
+
+pub forms::form-returns-in-Load-clause-typed : goal.forms::form-returns-in-Load-clause-typed
+forms::form-returns-in-Load-clause-typed t c = grind (arith, view_expr-Load)
+
+pub forms::form-returns-in-Load-clause-refused : goal.forms::form-returns-in-Load-clause-refused
+forms::form-returns-in-Load-clause-refused t c = grind (arith, view_expr-Load)
+
+pub forms::form-returns-in-Assign-clause-typed : goal.forms::form-returns-in-Assign-clause-typed
+forms::form-returns-in-Assign-clause-typed t c = grind (arith, view_expr-Assign)
+
+pub forms::form-returns-in-Assign-clause-refused : goal.forms::form-returns-in-Assign-clause-refused
+forms::form-returns-in-Assign-clause-refused t c = grind (arith, view_expr-Assign)
+
+pub naming::denote-returns-in-Arrow-clause-typed : goal.naming::denote-returns-in-Arrow-clause-typed
+naming::denote-returns-in-Arrow-clause-typed t c = grind (arith, view_expr-Arrow)
+
+pub naming::denote-returns-in-Arrow-clause-refused : goal.naming::denote-returns-in-Arrow-clause-refused
+naming::denote-returns-in-Arrow-clause-refused t c = grind (arith, view_expr-Arrow)
+
+pub naming::denote-returns-in-Dot-clause-typed : goal.naming::denote-returns-in-Dot-clause-typed
+naming::denote-returns-in-Dot-clause-typed t c = grind (arith, view_expr-Dot)
+
+pub naming::denote-returns-in-Dot-clause-refused : goal.naming::denote-returns-in-Dot-clause-refused
+naming::denote-returns-in-Dot-clause-refused t c = grind (arith, view_expr-Dot)
+
+pub assigning::pattern-returns-in-Group-clause-typed : goal.assigning::pattern-returns-in-Group-clause-typed
+assigning::pattern-returns-in-Group-clause-typed t c = grind (arith, view_expr-Group)
+
+pub assigning::pattern-returns-in-Group-clause-refused : goal.assigning::pattern-returns-in-Group-clause-refused
+assigning::pattern-returns-in-Group-clause-refused t c = grind (arith, view_expr-Group)
