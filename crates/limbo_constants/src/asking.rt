@@ -9,7 +9,6 @@ use limbo_tree::Expr;
 use std::alloc::{AllocError, Global};
 
 // The parts behind those so far.
-#[tactic(auto, using(limbo_tree::proofs::Exprs::the_views, crate::proofs::Others::behind))]
 #[cycle(asking)]
 fn ask<'a>(parts: Vec<&'a Expr>, e: &'a Expr) -> Result<Vec<&'a Expr>, AllocError>
     ensures { IfOk result (λ all. view_parts all.items ≡ view_parts parts.entry.items ++ asking.asked (view_expr e.now)) }

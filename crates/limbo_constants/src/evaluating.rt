@@ -50,7 +50,6 @@ fn leaf<'a, K: Known>(known: &'a K, e: &'a Expr) -> Option<Found<'a>>
 }
 
 // What an expression comes to. A string is copied nowhere but where two are joined.
-#[tactic(auto, using(limbo_tree::proofs::Exprs::the_views))]
 #[cycle(finding)]
 fn find<'a, K: Known>(
     alloc: Global,
