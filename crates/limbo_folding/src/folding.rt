@@ -23,7 +23,6 @@ fn literal(ty: &Ty, n: i64) -> Option<Outcome>
 }
 
 // What an expression comes to, if it is constant.
-#[tactic(auto, using(limbo_typed::proofs::View::the_exprs))]
 #[cycle(finding)]
 fn find(alloc: Global, e: &TExpr) -> Result<Option<Outcome>, AllocError>
     ensures { IfOk result (λ o. o ≡ folding.outcome (view_expr e.now)) }

@@ -1,6 +1,7 @@
 use Rattle.std.proofs.Common.{Option, sym, ap, ◌∙◌, arith}
 use Rattle.std.proofs.lemmas.Result.{IfOk-weaker}
 use Rattle.limbo_typed.specs.View.{view_expr}
+use Rattle.limbo_typed.proofs.View.{view_expr-out, view_node-Number, view_node-Chars, view_node-Apply, view_node-Lazy}
 use Rattle.limbo_folding.specs.declared.outcome.Outcome.{Outcome}
 use Rattle.limbo_folding.specs.Folding as folding
 use Rattle.limbo_folding.proofs.Forms.{not_constant, one_operand, two_operands, other_operands}
@@ -26,3 +27,15 @@ find_applied-returns-in_ok-right-in-2 t c =
 
 pub find_applied-returns-in_default : goal.find_applied-returns-in_default
 find_applied-returns-in_default t c = other_operands c.args.operation c.args.args.now (λ h. omega arith) (λ h. omega arith)
+
+pub find-returns-in-Number : goal.find-returns-in-Number
+find-returns-in-Number t c = grind (arith, view_expr-out, view_node-Number)
+
+pub find-returns-in_ok-text-in-Chars : goal.find-returns-in_ok-text-in-Chars
+find-returns-in_ok-text-in-Chars t c = grind (arith, view_expr-out, view_node-Chars)
+
+pub find-returns-in-Apply : goal.find-returns-in-Apply
+find-returns-in-Apply t c = grind (arith, view_expr-out, view_node-Apply)
+
+pub find-returns-in_ok-right-in-Lazy : goal.find-returns-in_ok-right-in-Lazy
+find-returns-in_ok-right-in-Lazy t c = grind (arith, view_expr-out, view_node-Lazy)
