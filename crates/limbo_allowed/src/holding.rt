@@ -30,7 +30,6 @@ pub(crate) fn is_users(system: Option<u32>, t: &Ty) -> bool
 }
 
 // Whether a type is a user's module type, or one stands in it.
-#[tactic(auto, using(limbo_types::proofs::View::the_types, crate::proofs::Forms::has_module_itself))]
 #[cycle(modules)]
 fn has_module(system: Option<u32>, t: &Ty) -> bool
     ensures { result ≡ choosing.has_module system (view_ty t.now) }
@@ -71,7 +70,6 @@ pub(crate) fn holds_module(system: Option<u32>, t: &Ty) -> bool
 }
 
 /// Whether a type is the adt of this number, or holds it as a value.
-#[tactic(auto, using(limbo_types::proofs::View::the_types, crate::proofs::Forms::holds_no_fd))]
 #[cycle(files)]
 pub(crate) fn holds_fd(fd: Option<u32>, t: &Ty) -> bool
     ensures { result ≡ choosing.holds_fd fd (view_ty t.now) }
@@ -109,7 +107,6 @@ fn has_variant(defs: &[AdtDef], adt: u32, variant: u32) -> bool
 }
 
 /// Whether each number in a type names an adt, a variant of it, or one of so many modules.
-#[tactic(auto, using(limbo_types::proofs::View::the_types, crate::proofs::Forms::names_nothing))]
 #[cycle(naming)]
 pub(crate) fn names(defs: &[AdtDef], modules: usize, t: &Ty) -> bool
     ensures { result ≡ choosing.is_named (view_defs defs.now) modules (view_ty t.now) }
