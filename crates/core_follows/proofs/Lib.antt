@@ -17,3 +17,4 @@ pub mod Picks
 pub mod Statements
 pub mod Follows
 pub mod Filling
+pub mod Fitting
