@@ -1,3 +1,4 @@
 pub mod Made
 pub mod Bare
 pub mod Ranges
+pub mod Holding

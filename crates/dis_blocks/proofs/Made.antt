@@ -5,14 +5,15 @@ use Rattle.std.proofs.lemmas.Bool.{cases_eq}
 use Rattle.std.proofs.lemmas.List.{map-append, length-map}
 use Rattle.heap_model.specs.Heap as heap_list
 use Rattle.ref_heap.specs.declared.kind.Kind.{Kind}
+use Rattle.ref_heap.specs.declared.kind.Kind.TheVariants as kind
 use Rattle.ref_heap.specs.declared.kind.HeapFault.{HeapFault}
 use Rattle.ref_heap.specs.declared.word.Word as code_word
 use Rattle.ref_heap.specs.declared.word.Word.TheVariants as word
 use Rattle.ref_heap.specs.declared.word.Ref.{Ref}
 use Rattle.ref_heap.specs.declared.word.Place as code_place
 use Rattle.ref_heap.specs.declared.word.Place.TheVariants as code_place_of
-use Rattle.ref_heap.specs.Words.{Cell, Content, plain, refer, in_block, in_frame, cell_of, is_reference, naming}
-use Rattle.ref_heap.specs.Store.{Block, Store, IsHeap, AreHeld, at, outside, one, fresh, with_new}
+use Rattle.ref_heap.specs.Words.{Cell, Content, wide, plain, refer, in_block, in_frame, cell_of, is_reference, naming}
+use Rattle.ref_heap.specs.Store.{Block, Store, IsHeap, IsLive, AreHeld, at, outside, one, one_more, fresh, with_block, with_new}
 use Rattle.ref_heap.specs.Drops.{Drops}
 use Rattle.ref_heap.specs.Slots.{Changed}
 use Rattle.ref_heap.proofs.Put.{at_with_block}
@@ -34,6 +35,7 @@ use Rattle.dis_places.specs.declared.fault.Halt.{Halt}
 use Rattle.dis_places.specs.declared.fault.Halt.TheVariants as halt
 use Rattle.dis_stores.specs.Storing.{named, rested, IsNoMemory}
 use Rattle.dis_stores.proofs.Cuts.{view_cut, store_found}
+use Rattle.dis_stores.proofs.Settling.{hold_same, same_proper}
 use Rattle.dis_blocks.specs.Making.{SettlesFor, made}
 
 pub new_proper : (h : Store) (k : Kind) (c : Content) → AreProper h → is_proper k c ≡ true → AreProper (with_new h (fresh k c))
@@ -154,3 +156,46 @@ never_refused m h1 p s k c old r e there stands new h other =
     ∙ read_still (view_world m) p s (block_by m.tables k c) (view_word old) there in
     let f = store_found x1 p s (Refer r) (view_word old) read1 (fits_refer (cell_of old) r stands) in
     never e _ f.0 f.1 h other
+
+-- ---- the same of any heap with one block more
+
+pub more_made : (m : Memory) (h1 : Store) (b : blocks.Block) (p : view.Process) (s : Spot) (old : code_word.Word) →
+    view_heap m.tables h1 ≡ view_heap m.tables m.heap ++ Some b ∷ [] → places.read (view_world m) p s ≡ Found (view_word old) → is_reference (cell_of old) ≡ true →
+    made (view_world m) p s b ≡ rested (places.store (blocks.with_heap (view_world m) (view_heap m.tables h1)) p s (Refer (Some m.heap.made)))
+more_made m h1 b p s (word.Refer r) e there stands =
+    ap (λ a. a >>= reference >>= λ old. rested (places.store (blocks.with_block (view_world m) b) p s (Refer (Some (blocks.next_serial (view_world m)))))) there
+    ∙ ap (λ n. rested (places.store (blocks.with_block (view_world m) b) p s (Refer (Some n)))) (view_length m.tables m.heap)
+    ∙ ap (λ hs. rested (places.store (blocks.with_heap (view_world m) hs) p s (Refer (Some m.heap.made)))) (sym e)
+more_made m h1 b p s (word.Plain v) e there stands = absurd cc
+more_made m h1 b p s (word.Address place at) e there stands = absurd (no_address place at stands)
+  where
+    no_address : (q : code_place.Place) (at : ℕ) → is_reference (cell_of (word.Address q at)) ≡ true → ⊥
+    no_address (code_place_of.Block r) at e = absurd cc
+    no_address (code_place_of.Frame n) at e = absurd cc
+
+pub more_refused : (m : Memory) (h1 : Store) (b : blocks.Block) (p : view.Process) (s : Spot) (old : code_word.Word) (r : Option ℕ) (e : Halt) →
+    view_heap m.tables h1 ≡ view_heap m.tables m.heap ++ Some b ∷ [] → places.read (view_world m) p s ≡ Found (view_word old) → is_reference (cell_of old) ≡ true →
+    Halts e (rested (places.store (blocks.with_heap (view_world m) (view_heap m.tables h1)) p s (Refer r))) → (IsNoMemory e → ⊥) → ⊥
+more_refused m h1 b p s old r e new there stands h other =
+    let x1 = blocks.with_heap (view_world m) (view_heap m.tables h1) in
+    let read1 : places.read x1 p s ≡ Found (view_word old) =
+    ap (λ hs. places.read (blocks.with_heap (view_world m) hs) p s) new ∙ read_still (view_world m) p s b (view_word old) there in
+    let f = store_found x1 p s (Refer r) (view_word old) read1 (fits_refer (cell_of old) r stands) in
+    never e _ f.0 f.1 h other
+
+-- ---- part of an array
+
+module _ (h : Store) (a : ℕ) (l : IsLive h a) (from long : ℕ) where
+  pub view_part : (t : Tables) (h1 : Store) → h1 ≡ with_new (with_block h a (one_more l.block)) (fresh (kind.Slice from long) (wide (refer (Some a) ∷ []))) →
+      view_heap t h1 ≡ view_heap t h ++ Some (blocks.Part a from long) ∷ []
+  view_part t h1 e =
+      ap (view_heap t) e ∙ view_new t (with_block h a (one_more l.block)) (kind.Slice from long) (wide (refer (Some a) ∷ []))
+      ∙ ap (λ s. map (option_map (view_shape t)) s ++ Some (blocks.Part a from long) ∷ []) (hold_same h (with_block h a (one_more l.block)) a l refl).shapes
+
+  pub part_is_proper : (h1 : Store) (r : Result Ref HeapFault) →
+      OnOk r (h1 ≡ with_new (with_block h a (one_more l.block)) (fresh (kind.Slice from long) (wide (refer (Some a) ∷ [])))) → OnErr r (h1 ≡ h) → AreProper h → AreProper h1
+  part_is_proper h1 (Ok b) e f p =
+      subst AreProper (sym e)
+      (new_proper (with_block h a (one_more l.block)) (kind.Slice from long) (wide (refer (Some a) ∷ []))
+      (same_proper h (with_block h a (one_more l.block)) (hold_same h (with_block h a (one_more l.block)) a l refl) p) refl)
+  part_is_proper h1 (Err fault) e f p = subst AreProper (sym f) p

@@ -31,3 +31,10 @@ pub record SettlesFor (given : ℕ → ℕ) (m : Memory) (p : code_process.Proce
 abbrev pub Makes : (given : ℕ → ℕ) → Memory → code_process.Process → Result (Unit {0}) Halt → Access places.Memory → Memory → code_process.Process → Type 0
 Makes given m p (Ok u) access m' p' = (x : World) × (access ≡ Found (places.memory x (settled (view_process p')))) × SettlesFor given m p x m' p'
 Makes given m p (Err h) access m' p' = Halts h access
+
+-- Memory and process are as they were, but for how often blocks are held and let go on the way.
+pub record Untouched (m : Memory) (p : code_process.Process) (m' : Memory) (p' : code_process.Process) : Type 0 where
+  pub world : view_world m' ≡ view_world m
+  pub held : (n : ℕ) → outside m'.heap n ≡ outside m.heap n
+  pub tables : m'.tables ≡ m.tables
+  pub process : p' ≡ p

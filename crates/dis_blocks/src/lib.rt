@@ -6,9 +6,13 @@
 #![tactic(auto)]
 
 mod arrays;
+mod cells;
 mod kinds;
 mod making;
+mod parts;
 
 pub use arrays::store_array;
+pub use cells::store_cell;
 pub use kinds::{store_record, store_text};
 pub use making::store_new;
+pub use parts::{store_channel, store_part};

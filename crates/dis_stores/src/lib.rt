@@ -10,4 +10,4 @@ mod puts;
 mod stores;
 
 pub use puts::put;
-pub use stores::{store_plain, store_reference};
+pub use stores::{hold, store_plain, store_reference};

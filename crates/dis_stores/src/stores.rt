@@ -42,8 +42,11 @@ pub fn store_plain(
     }
 }
 
-// One more reference to a block, if it is one.
-fn hold(heap: &mut Heap, new: Option<Ref>) -> Result<(), Halt>
+/// One more reference to a block, if it is one.
+///
+/// # Errors
+/// Want of memory: no block has as many references as there may be. Then the heap is as before.
+pub fn hold(heap: &mut Heap, new: Option<Ref>) -> Result<(), Halt>
     requires { IfSome new (λ r. IsLive heap.old r.serial) }
     ensures same { OnOk result (SameShapes heap.old heap.new) }
     ensures outside { OnOk result ((n : ℕ) → outside heap.new n ≡ outside heap.old n + named (word.Refer new) n) }
