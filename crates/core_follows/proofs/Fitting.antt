@@ -1,4 +1,4 @@
--- What the typed tree says of types is enough for the law.
+-- Types that stand for others, by the typed tree's rules, refer to the same.
 use Rattle.std.proofs.Common.{◌≡◌, ℕ, zero, suc, ◌<◌, true, List, [], ◌∷◌, ◌++◌, length, Option, Some, None}
 use Rattle.std.proofs.Common.{refl, sym, ap, subst, ◌∙◌, arith, inl, inr}
 use Rattle.std.specs.Prelude.{slice_get, slice_index_or}
@@ -15,7 +15,6 @@ use Rattle.limbo_meaning.specs.Values.{by_def, adt_formed, fitted}
 use Rattle.limbo_meaning.specs.Evaluation.{passes_on}
 use Rattle.core_code.specs.Terms.{part_types, parts_there}
 use Rattle.core_follows.specs.Handled.{Fits, StandsFor, AllStandFor, TakesFields, Makes, HasLayout, Takes}
-use Rattle.core_follows.specs.Typed.{TypesFit}
 
 -- ---- a value of a type is one of it again
 
@@ -87,7 +86,7 @@ fields_stand : (defs : List Def) (d : Def) (variant : Option ℕ) (ts : List Ty)
 fields_stand defs d None ts h = (h.0, all_stand_for defs ts (types_of d.fields) h.1)
 fields_stand defs d (Some v) ts h = (h.0, h.1, all_stand_for defs ts (types_of d.fields ++ types_of h.0.fields) h.2)
 
-makes_so : (defs : List Def) (o : Operation) (ts : List Ty) (t : Ty) → passes_on o ≡ true → HasLayout defs t → Gives defs o ts t
+pub makes_so : (defs : List Def) (o : Operation) (ts : List Ty) (t : Ty) → passes_on o ≡ true → HasLayout defs t → Gives defs o ts t
     → Makes defs t o ts
 makes_so defs operation.Tuple ts t p h g =
     subst (λ (s : Ty). Makes defs s operation.Tuple ts) (sym g.1) (all_stand_for defs ts (listed g.0) g.2)
@@ -114,11 +113,8 @@ part_taken defs whole n t h e =
       stands_for defs (slice_index_or (part_types defs whole) n ty.Nothing) t (inl x.1),
     )
 
-takes_so : (defs : List Def) (whole : Ty) (n : ℕ) (t : Ty) → HasLayout defs whole → HasPart defs whole n t → Takes defs whole n t
+pub takes_so : (defs : List Def) (whole : Ty) (n : ℕ) (t : Ty) → HasLayout defs whole → HasPart defs whole n t → Takes defs whole n t
 takes_so defs (ty.Tuple us) n t h p = part_taken defs (ty.Tuple us) n t h p
 takes_so defs (ty.Adt k) n t h p =
     part_taken defs (ty.Adt k) n t h (ap (λ (o : Option Def). slice_get (parts_there defs o) n) p.1 ∙ p.2)
 takes_so defs _ n t h p = absurd p
-
-pub types_fit : TypesFit
-types_fit = record { stands = stands_for; makes = makes_so; takes = takes_so }

@@ -18,3 +18,4 @@ pub mod Statements
 pub mod Follows
 pub mod Filling
 pub mod Fitting
+pub mod Modules

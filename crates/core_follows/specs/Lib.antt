@@ -3,4 +3,4 @@ pub mod Handled
 pub mod Does
 pub mod Stands
 pub mod Follows
-pub mod Typed
+pub mod Modules

@@ -2,16 +2,15 @@
 //! of `limbo_meaning`. No code stands here, only definitions and two laws.
 //!
 //! `specs/` in the order of reading: `Drops` (what the drops at a statement's end let go, read off the slots), `Handled` (the trees that
-//! the law speaks of), `Typed` (that the typed tree's rules are enough for its types), `Does` (what the code does from a place on where
-//! nothing of a statement is begun), `Stands` (when a frame of the code stands for one of the program, in the midst of whatever), `Follows`
-//! (the law).
+//! the law speaks of), `Does` (what the code does from a place on where nothing of a statement is begun), `Stands` (when a frame of the
+//! code stands for one of the program, in the midst of whatever), `Follows` (the law), `Modules` (that it holds of checked modules).
 //!
 //! In `proofs/`, `Slots`, `Drops`, `Holding` and `Static` have what slots name and drops touch, and `Moves`, `Gathers`, `Picks` what they
 //! name after parts have moved into a value or out of it; `Contexts`, `Nodes`, `Given`, `Works`, `Terms`, `Filling` and `Expressions` are
-//! expressions, `Dropped` the drops of a statement, `Valued`, `Blocks` and `Statements` statements, `Follows` processes, and `Fitting`
-//! types.
+//! expressions, `Dropped` the drops of a statement, `Valued`, `Blocks` and `Statements` statements, `Follows` processes, and `Fitting` and
+//! `Modules` the trees of checked modules.
 #![tactic(auto)]
 
 mod laws;
 
-pub use laws::{core_code_keeps, typed_types_fit};
+pub use laws::{checked_modules_keep, core_code_keeps};
