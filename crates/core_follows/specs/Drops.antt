@@ -79,8 +79,7 @@ mutual
         → Dropping slots (Take c from words n ∷ rest) held
 
   -- A chain has these turns: wherever a region of it comes back into the slots, the drops of a turn let go what that held. That there is
-  -- one
-  -- turn more, or none, is told in front of each.
+  -- one turn more, or none, is told in front of each.
   pub data Turns : (from words : ℕ) → List Instr → Regions → List (Option ℕ) → Type 0 where
     last : {from words : ℕ} {es : List Instr} → Turns from words es NoRegion (None ∷ [])
     more : {from words : ℕ} {es : List Instr} {g : Region} {rs : Regions} (held turned : List (Option ℕ)) → size g ≡ words

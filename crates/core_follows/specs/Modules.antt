@@ -7,9 +7,7 @@ use Rattle.limbo_typed.specs.Typed as typed
 use Rattle.limbo_typed.specs.Sound.{IsSound}
 use Rattle.limbo_meaning.specs.Evaluation.{passes_on}
 use Rattle.limbo_meaning.specs.Trees.{Assign, Term, Evaluated, Missing, Node, Lazy, Update, Fill, Terms, NoTerms, MoreTerms, Items, NoItems}
-use Rattle.limbo_meaning.specs.Trees.{MoreItems, Stm, Eval, If, While, Enter, Return, Loop, Looping}
-use Rattle.limbo_meaning.specs.Trees.{Block}
-use Rattle.limbo_meaning.specs.Trees.{Then}
+use Rattle.limbo_meaning.specs.Trees.{MoreItems, Stm, Eval, If, While, Enter, Return, Loop, Looping, Block, Then}
 use Rattle.limbo_meaning.specs.Program.{Routine, Program, program_of}
 use Rattle.core_follows.specs.Follows.{Keeps}
 
