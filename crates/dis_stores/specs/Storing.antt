@@ -1,9 +1,9 @@
 -- What is stored, and what is held and let go by it.
-use Rattle.std.specs.Prelude.{◌≡◌, ℕ, ℤ, ◌+◌, [], ◌∷◌, Result, Ok, Err}
+use Rattle.std.specs.Prelude.{◌≡◌, ℕ, ℤ, ◌+◌, Bool, true, false, [], ◌∷◌, Result, Ok, Err}
 use Rattle.std.specs.Option.{option_map}
 use Rattle.heap_model.specs.Heap.{stays}
 use Rattle.ref_heap.specs.declared.word.Word as code_word
-use Rattle.ref_heap.specs.Words.{cell_of, naming}
+use Rattle.ref_heap.specs.Words.{Cell, plain, refer, in_block, in_frame, cell_of, naming}
 use Rattle.ref_heap.specs.Store.{Store, at, outside}
 use Rattle.heap_cuts.specs.Shapes.{shape_of, shapes}
 use Rattle.dis_meaning.specs.Words.{Word, Access, Found, ◌>>=◌, word_at, stored}
@@ -46,6 +46,13 @@ block_stored x n at w = data_at x n >>= (λ words. stored words at w) >>= with_d
 abbrev pub IsNoMemory : Halt → Type 0
 IsNoMemory halt.NoMemory = Unit {0}
 IsNoMemory _ = ⊥
+
+-- Of all words an address alone may need more room than the one that it replaces.
+abbrev pub is_address : Cell → Bool
+is_address (plain v) = false
+is_address (refer r) = false
+is_address (in_block s v) = true
+is_address (in_frame s v) = true
 
 -- How often a word names each block.
 abbrev pub named : code_word.Word → ℕ → ℕ

@@ -1,14 +1,14 @@
 //! Words of blocks that take the place of others.
 
-ghost use Rattle.std.specs.Prelude.{◌≡◌, Some, true, IfOk, IfErr, IsOk, OnErr};
-ghost use Rattle.ref_heap.specs.Words.{cell_of, is_reference};
+ghost use Rattle.std.specs.Prelude.{◌≡◌, Some, false, IfOk, IfErr, IsOk, OnErr};
+ghost use Rattle.ref_heap.specs.Words.{cell_of};
 ghost use Rattle.ref_heap.specs.Store.{AreHeld, Block, IsLive, at};
 ghost use Rattle.dis_meaning.specs.Words as words;
 ghost use Rattle.dis_places.specs.declared.fault.Halt.TheVariants as halt;
 ghost use Rattle.dis_places.specs.Blocks.{words_of};
 ghost use Rattle.dis_places.specs.Words.{view_word, Halts};
 ghost use Rattle.dis_stores.specs.Exchanging.{Exchanged, TakesNow};
-ghost use Rattle.dis_stores.specs.Storing.{named, IsNoMemory};
+ghost use Rattle.dis_stores.specs.Storing.{is_address, named, IsNoMemory};
 
 use crate::puts::fits;
 use dis_places::{Fault, Halt, Ref, Word};
@@ -19,7 +19,7 @@ fn make_room(heap: &mut Heap, block: Ref, new: Word) -> Result<(), Halt>
     requires { IsLive heap.old block.serial }
     ensures takes { IfOk result (λ _. TakesNow heap.old heap.new block.serial (cell_of new)) }
     ensures fault { IfErr result (λ h. h ≡ halt.NoMemory) }
-    ensures sure { is_reference (cell_of new) ≡ true → IsOk result }
+    ensures sure { is_address (cell_of new) ≡ false → IsOk result }
     ensures kept { OnErr result (heap.new ≡ heap.old) }
 {
     heap.stands();
@@ -41,7 +41,7 @@ pub(crate) fn exchange(heap: &mut Heap, block: Ref, k: usize, new: Word) -> Resu
     ensures exchanged { IfOk result (λ was. Exchanged heap.old heap.new block.serial k new was) }
     ensures fault { (b : Block) → at heap.old block.serial ≡ Some b
         → IfErr result (λ h. Halts h (words.replaced (words_of b.content) k (view_word new))) }
-    ensures sure { is_reference (cell_of new) ≡ true → IfErr result (λ h. IsNoMemory h → ⊥) }
+    ensures sure { is_address (cell_of new) ≡ false → IfErr result (λ h. IsNoMemory h → ⊥) }
     ensures kept { OnErr result (heap.new ≡ heap.old) }
 {
     heap.stands();

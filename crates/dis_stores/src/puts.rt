@@ -1,7 +1,7 @@
 //! Words that take the place of others.
 
-ghost use Rattle.std.specs.Prelude.{◌≡◌, ℕ, ◌+◌, Some, true, slice_get, IfOk, IfErr, OnErr};
-ghost use Rattle.ref_heap.specs.Words.{cell_of, is_reference};
+ghost use Rattle.std.specs.Prelude.{◌≡◌, ℕ, ◌+◌, Some, false, slice_get, IfOk, IfErr, OnErr};
+ghost use Rattle.ref_heap.specs.Words.{cell_of};
 ghost use Rattle.ref_heap.specs.Store.{AreHeld, at as block_at, outside};
 ghost use Rattle.dis_meaning.specs.Words as words;
 ghost use Rattle.dis_meaning.specs.Counts.{in_words};
@@ -14,7 +14,7 @@ ghost use Rattle.dis_memory.specs.Places.{data_at, read, store};
 ghost use Rattle.dis_places.specs.Regions.{block_words};
 ghost use Rattle.dis_places.specs.View.{view_place, view_process, view_spot, view_world};
 ghost use Rattle.dis_places.specs.Words.{view_word, view_words, Gives, GivesFault};
-ghost use Rattle.dis_stores.specs.Storing.{settled, rested, named, Exchanges, IsNoMemory, frame_stored, frame_read, block_stored, block_read};
+ghost use Rattle.dis_stores.specs.Storing.{is_address, settled, rested, named, Exchanges, IsNoMemory, frame_stored, frame_read, block_stored, block_read};
 
 use crate::exchanges::exchange;
 use dis_places::{
@@ -97,7 +97,7 @@ fn put_reached(memory: &mut Memory, block: Ref, at: i64, new: Word) -> Result<Wo
     ensures exchanges { IfOk result (λ old. (n : ℕ) → outside memory.new.heap n + named new n
         ≡ outside memory.old.heap n + named old n) }
     ensures tables { memory.new.tables ≡ memory.old.tables }
-    ensures sure { is_reference (cell_of new) ≡ true → IfErr result (λ h. IsNoMemory h → ⊥) }
+    ensures sure { is_address (cell_of new) ≡ false → IfErr result (λ h. IsNoMemory h → ⊥) }
     ensures kept { OnErr result (memory.new ≡ memory.old) }
 {
     memory.heap.stands();
@@ -116,7 +116,7 @@ fn put_in_block(memory: &mut Memory, block: Ref, at: i64, new: Word) -> Result<W
     ensures exchanges { IfOk result (λ old. (n : ℕ) → outside memory.new.heap n + named new n
         ≡ outside memory.old.heap n + named old n) }
     ensures tables { memory.new.tables ≡ memory.old.tables }
-    ensures sure { is_reference (cell_of new) ≡ true → IfErr result (λ h. IsNoMemory h → ⊥) }
+    ensures sure { is_address (cell_of new) ≡ false → IfErr result (λ h. IsNoMemory h → ⊥) }
     ensures kept { OnErr result (memory.new ≡ memory.old) }
 {
     match data_of(&memory.heap, block) {
@@ -133,7 +133,7 @@ fn put_own(process: &mut Process, at: i64, new: Word) -> Result<Word, Halt>
     ensures named { IfOk result (λ old. (n : ℕ) → names (view_process process.new) n + named old n
         ≡ names (view_process process.old) n + named new n) }
     ensures place { process.new.frame.pc ≡ process.old.frame.pc }
-    ensures sure { is_reference (cell_of new) ≡ true → IfErr result (λ h. IsNoMemory h → ⊥) }
+    ensures sure { is_address (cell_of new) ≡ false → IfErr result (λ h. IsNoMemory h → ⊥) }
     ensures kept { OnErr result (process.new ≡ process.old) }
 {
     match put_at(&mut process.frame.words, at, new) {
@@ -151,7 +151,7 @@ fn put_far(process: &mut Process, serial: u64, at: i64, new: Word) -> Result<Wor
     ensures named { IfOk result (λ old. (n : ℕ) → names (view_process process.new) n + named old n
         ≡ names (view_process process.old) n + named new n) }
     ensures place { process.new.frame.pc ≡ process.old.frame.pc }
-    ensures sure { is_reference (cell_of new) ≡ true → IfErr result (λ h. IsNoMemory h → ⊥) }
+    ensures sure { is_address (cell_of new) ≡ false → IfErr result (λ h. IsNoMemory h → ⊥) }
     ensures kept { OnErr result (process.new ≡ process.old) }
 {
     match put_in_frame(process, serial, at, new) {
@@ -176,7 +176,7 @@ fn put_in_place(
     ensures exchanges { IfOk result (Exchanges memory.old process.old memory.new process.new new) }
     ensures tables { memory.new.tables ≡ memory.old.tables }
     ensures place { process.new.frame.pc ≡ process.old.frame.pc }
-    ensures sure { is_reference (cell_of new) ≡ true → IfErr result (λ h. IsNoMemory h → ⊥) }
+    ensures sure { is_address (cell_of new) ≡ false → IfErr result (λ h. IsNoMemory h → ⊥) }
     ensures kept { OnErr result ((memory.new ≡ memory.old) × (process.new ≡ process.old)) }
 {
     match place {
@@ -194,7 +194,7 @@ fn put_in_data(memory: &mut Memory, process: &Process, at: i64, new: Word) -> Re
         ≡ words.Found (view_word old)) }
     ensures exchanges { IfOk result (Exchanges memory.old process.now memory.new process.now new) }
     ensures tables { memory.new.tables ≡ memory.old.tables }
-    ensures sure { is_reference (cell_of new) ≡ true → IfErr result (λ h. IsNoMemory h → ⊥) }
+    ensures sure { is_address (cell_of new) ≡ false → IfErr result (λ h. IsNoMemory h → ⊥) }
     ensures kept { OnErr result (memory.new ≡ memory.old) }
 {
     put_in_block(memory, process.frame.instance, at, new)
@@ -214,7 +214,7 @@ pub fn put(memory: &mut Memory, process: &mut Process, spot: Spot, new: Word) ->
     ensures exchanges { IfOk result (Exchanges memory.old process.old memory.new process.new new) }
     ensures tables { memory.new.tables ≡ memory.old.tables }
     ensures place { process.new.frame.pc ≡ process.old.frame.pc }
-    ensures sure { is_reference (cell_of new) ≡ true → IfErr result (λ h. IsNoMemory h → ⊥) }
+    ensures sure { is_address (cell_of new) ≡ false → IfErr result (λ h. IsNoMemory h → ⊥) }
     ensures kept { OnErr result ((memory.new ≡ memory.old) × (process.new ≡ process.old)) }
 {
     match spot {

@@ -1,0 +1,4 @@
+pub mod Again
+pub mod Bigs
+pub mod Alike
+pub mod Onward
