@@ -2,3 +2,5 @@ pub mod Again
 pub mod Bigs
 pub mod Alike
 pub mod Onward
+pub mod Live
+pub mod Sources

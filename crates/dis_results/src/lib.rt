@@ -3,11 +3,20 @@
 //! A number is stored over one of its kind (`store_number`): an int is a word, a byte one of the four of its word, a big two words. A
 //! destination is looked at before anything is raised, and then the result is stored and the process comes to its next instruction
 //! (`give_number`, `give_plain`, `give_reference`). dis_places has what operands name, dis_stores how words are stored.
+//!
+//! Instructions that only read and give stand here too, each under its name: `data` has those that move a word, `lengths` those that
+//! count.
 #![tactic(auto)]
 
+mod data;
 mod giving;
+mod lengths;
 mod numbers;
+mod operands;
 mod words;
 
+pub use data::{lea, movp, movw};
 pub use giving::{advance, give_number, give_plain, give_reference};
+pub use lengths::{lena, lenc, lenl};
 pub use numbers::store_number;
+pub use operands::source_reference;

@@ -1,0 +1,67 @@
+//! Instructions that count (Dis Virtual Machine Specification, the instructions by name): lenc, lena, lenl.
+
+ghost use Rattle.std.specs.Prelude.{◌≡◌, ◌+◌, ◌<◌, ◌^◌, OnErr};
+ghost use Rattle.dis_file.specs.declared.object.Object.{Object};
+ghost use Rattle.dis_memory.specs.Arrays as arrays;
+ghost use Rattle.dis_memory.specs.Lists as lists;
+ghost use Rattle.dis_memory.specs.Strings as strings;
+ghost use Rattle.dis_places.specs.View.{view_process, view_world};
+ghost use Rattle.dis_results.specs.Going.{Goes};
+
+use crate::operands::{count_to, source_reference};
+use dis_isa::Inst;
+use dis_kinds::{elements_of, list_length, text_of};
+use dis_places::{Halt, Memory, Process};
+
+/// `lenc`: how many characters a string has.
+pub fn lenc(memory: &mut Memory, process: &mut Process, inst: Inst) -> Result<(), Halt>
+    requires place { process.old.frame.pc + 1 < 2 ^ 64 }
+    ensures goes { (o : Object) → Goes memory.old process.old result
+        (strings.lenc o (view_world memory.old) (view_process process.old) inst) memory.new process.new }
+    ensures kept { OnErr result ((memory.new ≡ memory.old) × (process.new ≡ process.old)) }
+{
+    let block = match source_reference(memory, process, inst.src) {
+        Ok(block) => block,
+        Err(halt) => return Err(halt),
+    };
+    let count = match text_of(memory, block) {
+        Ok(text) => text.len() as u64,
+        Err(fault) => return Err(Halt::Fault(fault)),
+    };
+    count_to(memory, process, inst.dst, count)
+}
+
+/// `lena`: how many elements an array has.
+pub fn lena(memory: &mut Memory, process: &mut Process, inst: Inst) -> Result<(), Halt>
+    requires place { process.old.frame.pc + 1 < 2 ^ 64 }
+    ensures goes { (o : Object) → Goes memory.old process.old result
+        (arrays.lena o (view_world memory.old) (view_process process.old) inst) memory.new process.new }
+    ensures kept { OnErr result ((memory.new ≡ memory.old) × (process.new ≡ process.old)) }
+{
+    let block = match source_reference(memory, process, inst.src) {
+        Ok(block) => block,
+        Err(halt) => return Err(halt),
+    };
+    match elements_of(memory, block) {
+        Ok(Some(elements)) => count_to(memory, process, inst.dst, u64::from(elements.long)),
+        Ok(None) => count_to(memory, process, inst.dst, 0),
+        Err(fault) => Err(Halt::Fault(fault)),
+    }
+}
+
+/// `lenl`: how many cells a list has.
+pub fn lenl(memory: &mut Memory, process: &mut Process, inst: Inst) -> Result<(), Halt>
+    requires place { process.old.frame.pc + 1 < 2 ^ 64 }
+    ensures goes { (o : Object) → Goes memory.old process.old result
+        (lists.lenl o (view_world memory.old) (view_process process.old) inst) memory.new process.new }
+    ensures kept { OnErr result ((memory.new ≡ memory.old) × (process.new ≡ process.old)) }
+{
+    let block = match source_reference(memory, process, inst.src) {
+        Ok(block) => block,
+        Err(halt) => return Err(halt),
+    };
+    match list_length(memory, block) {
+        Ok(count) => count_to(memory, process, inst.dst, count),
+        Err(fault) => Err(Halt::Fault(fault)),
+    }
+}
