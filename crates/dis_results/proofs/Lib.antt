@@ -4,3 +4,4 @@ pub mod Alike
 pub mod Onward
 pub mod Live
 pub mod Sources
+pub mod Cells

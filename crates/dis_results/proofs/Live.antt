@@ -27,7 +27,7 @@ use Rattle.dis_stores.proofs.Named.{cells_named}
 
 -- ---- words and frames count what they name
 
-refers_itself : (n : ℕ) → refers n (Refer (Some n)) ≡ 1
+pub refers_itself : (n : ℕ) → refers n (Refer (Some n)) ≡ 1
 refers_itself n = ap (λ b. if b then 1 else 0) (eq-eqb n n refl)
 
 pub word_counted : (n : ℕ) (ws : List Word) (k : ℕ) → slice_get ws k ≡ Some (Refer (Some n)) → 1 ≤ in_words n ws

@@ -9,6 +9,7 @@ ghost use Rattle.ref_heap.specs.Store.{AreHeld, IsLive};
 ghost use Rattle.dis_meaning.specs.Words as words;
 ghost use Rattle.dis_memory.specs.Naming.{names};
 ghost use Rattle.dis_memory.specs.Places as places;
+ghost use Rattle.dis_memory.specs.Process.{next};
 ghost use Rattle.dis_memory.specs.Results.{gives_number_at, gives_plain_at, gives_reference_at};
 ghost use Rattle.dis_places.specs.View.{view_process, view_spot, view_world};
 ghost use Rattle.dis_places.specs.Words.{view_word, GivesFault};
@@ -30,6 +31,28 @@ pub fn advance(process: &mut Process)
     // Few processes wait for a reply: of most nothing is let go.
     if process.printing.is_some() {
         process.printing = None;
+    }
+}
+
+/// Stores a number, and the process goes on.
+pub(crate) fn finish_number(
+    memory: &mut Memory,
+    process: &mut Process,
+    spot: Spot,
+    number: Number,
+) -> Result<(), Halt>
+    requires place { process.old.frame.pc + 1 < 2 ^ 64 }
+    ensures goes { Goes memory.old process.old result
+        (words.◌>>=◌ (places.store_number (kind_of number) (view_world memory.old) (view_process process.old) (view_spot spot) (value_of number))
+        (λ m. words.Found (next m))) memory.new process.new }
+    ensures kept { OnErr result ((memory.new ≡ memory.old) × (process.new ≡ process.old)) }
+{
+    match store_number(memory, process, spot, number) {
+        Ok(()) => {
+            advance(process);
+            Ok(())
+        }
+        Err(halt) => Err(halt),
     }
 }
 
@@ -55,16 +78,9 @@ pub fn give_number(
         Ok(_) => {}
         Err(fault) => return Err(Halt::Fault(fault)),
     }
-    let number = match outcome {
-        Ok(number) => number,
-        Err(raise) => return Err(Halt::Raises(raise)),
-    };
-    match store_number(memory, process, spot, number) {
-        Ok(()) => {
-            advance(process);
-            Ok(())
-        }
-        Err(halt) => Err(halt),
+    match outcome {
+        Ok(number) => finish_number(memory, process, spot, number),
+        Err(raise) => Err(Halt::Raises(raise)),
     }
 }
 
@@ -113,14 +129,43 @@ pub fn give_plain(
     }
 }
 
-// A reference stands there.
-fn has_reference(memory: &Memory, process: &Process, spot: Spot) -> Result<Option<Ref>, Fault>
+/// A reference stands there.
+pub(crate) fn has_reference(
+    memory: &Memory,
+    process: &Process,
+    spot: Spot,
+) -> Result<Option<Ref>, Fault>
     ensures { GivesFault (option_map (λ (r : CodeRef). r.serial)) result
         (places.reference_at (view_world memory.now) (view_process process.now) (view_spot spot)) }
 {
     match read(memory, process, spot) {
         Ok(word) => reference(word),
         Err(fault) => Err(fault),
+    }
+}
+
+/// Stores a reference to a block that is there, or nil, and the process goes on.
+pub(crate) fn finish_reference(
+    memory: &mut Memory,
+    process: &mut Process,
+    spot: Spot,
+    block: Option<Ref>,
+) -> Result<(), Halt>
+    requires place { process.old.frame.pc + 1 < 2 ^ 64 }
+    requires live { IfSome block (λ r. IsLive memory.old.heap r.serial) }
+    requires held { AreHeld memory.old.heap (names (view_process process.old)) }
+    ensures goes { Goes memory.old process.old result
+        (words.◌>>=◌ (places.store (view_world memory.old) (view_process process.old) (view_spot spot)
+        (words.Refer (option_map (λ (r : CodeRef). r.serial) block)))
+        (λ m. words.Found (next m))) memory.new process.new }
+    ensures kept { OnErr result ((memory.new ≡ memory.old) × (process.new ≡ process.old)) }
+{
+    match store_reference(memory, process, spot, block) {
+        Ok(()) => {
+            advance(process);
+            Ok(())
+        }
+        Err(halt) => Err(halt),
     }
 }
 
@@ -147,15 +192,8 @@ pub fn give_reference(
         Ok(_) => {}
         Err(fault) => return Err(Halt::Fault(fault)),
     }
-    let block = match outcome {
-        Ok(block) => block,
-        Err(raise) => return Err(Halt::Raises(raise)),
-    };
-    match store_reference(memory, process, spot, block) {
-        Ok(()) => {
-            advance(process);
-            Ok(())
-        }
-        Err(halt) => Err(halt),
+    match outcome {
+        Ok(block) => finish_reference(memory, process, spot, block),
+        Err(raise) => Err(Halt::Raises(raise)),
     }
 }

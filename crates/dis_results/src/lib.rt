@@ -5,11 +5,12 @@
 //! (`give_number`, `give_plain`, `give_reference`). dis_places has what operands name, dis_stores how words are stored.
 //!
 //! Instructions that only read and give stand here too, each under its name: `data` has those that move a word, `lengths` those that
-//! count.
+//! count, `heads` those on the first cell of a list.
 #![tactic(auto)]
 
 mod data;
 mod giving;
+mod heads;
 mod lengths;
 mod numbers;
 mod operands;
@@ -17,6 +18,7 @@ mod words;
 
 pub use data::{lea, movp, movw};
 pub use giving::{advance, give_number, give_plain, give_reference};
+pub use heads::{head_number, headp, tail};
 pub use lengths::{lena, lenc, lenl};
 pub use numbers::store_number;
 pub use operands::source_reference;
