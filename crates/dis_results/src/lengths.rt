@@ -8,7 +8,7 @@ ghost use Rattle.dis_memory.specs.Strings as strings;
 ghost use Rattle.dis_places.specs.View.{view_process, view_world};
 ghost use Rattle.dis_results.specs.Going.{Goes};
 
-use crate::operands::{count_to, source_reference};
+use crate::operands::{natural_to, source_reference};
 use dis_isa::Inst;
 use dis_kinds::{elements_of, list_length, text_of};
 use dis_places::{Halt, Memory, Process};
@@ -28,7 +28,7 @@ pub fn lenc(memory: &mut Memory, process: &mut Process, inst: Inst) -> Result<()
         Ok(text) => text.len() as u64,
         Err(fault) => return Err(Halt::Fault(fault)),
     };
-    count_to(memory, process, inst.dst, count)
+    natural_to(memory, process, inst.dst, count)
 }
 
 /// `lena`: how many elements an array has.
@@ -43,8 +43,8 @@ pub fn lena(memory: &mut Memory, process: &mut Process, inst: Inst) -> Result<()
         Err(halt) => return Err(halt),
     };
     match elements_of(memory, block) {
-        Ok(Some(elements)) => count_to(memory, process, inst.dst, u64::from(elements.long)),
-        Ok(None) => count_to(memory, process, inst.dst, 0),
+        Ok(Some(elements)) => natural_to(memory, process, inst.dst, u64::from(elements.long)),
+        Ok(None) => natural_to(memory, process, inst.dst, 0),
         Err(fault) => Err(Halt::Fault(fault)),
     }
 }
@@ -61,7 +61,7 @@ pub fn lenl(memory: &mut Memory, process: &mut Process, inst: Inst) -> Result<()
         Err(halt) => return Err(halt),
     };
     match list_length(memory, block) {
-        Ok(count) => count_to(memory, process, inst.dst, count),
+        Ok(count) => natural_to(memory, process, inst.dst, count),
         Err(fault) => Err(Halt::Fault(fault)),
     }
 }

@@ -5,9 +5,10 @@
 //! (`give_number`, `give_plain`, `give_reference`). dis_places has what operands name, dis_stores how words are stored.
 //!
 //! Instructions that only read and give stand here too, each under its name: `data` has those that move a word, `lengths` those that
-//! count, `heads` those on the first cell of a list.
+//! count, `heads` those on the first cell of a list, `characters` the one on a string.
 #![tactic(auto)]
 
+mod characters;
 mod data;
 mod giving;
 mod heads;
@@ -16,6 +17,7 @@ mod numbers;
 mod operands;
 mod words;
 
+pub use characters::indc;
 pub use data::{lea, movp, movw};
 pub use giving::{advance, give_number, give_plain, give_reference};
 pub use heads::{head_number, headp, tail};

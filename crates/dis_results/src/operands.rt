@@ -62,8 +62,9 @@ pub(crate) fn number_to(
     }
 }
 
-/// Gives a number of things to a destination. No memory has as many things as an int can't count.
-pub(crate) fn count_to(
+/// Gives a number that isn't below 0 to a destination, as an int. No memory has so many things, and no character so great a code, that it
+/// would be none.
+pub(crate) fn natural_to(
     memory: &mut Memory,
     process: &mut Process,
     destination: Operand,
