@@ -5,3 +5,4 @@ pub mod Onward
 pub mod Live
 pub mod Sources
 pub mod Cells
+pub mod Indexed

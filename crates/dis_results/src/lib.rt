@@ -5,13 +5,15 @@
 //! (`give_number`, `give_plain`, `give_reference`). dis_places has what operands name, dis_stores how words are stored.
 //!
 //! Instructions that only read and give stand here too, each under its name: `data` has those that move a word, `lengths` those that
-//! count, `heads` those on the first cell of a list, `characters` the one on a string.
+//! count, `heads` those on the first cell of a list, `characters` the one on a string,
+//! `indexes` those that give the address of an element.
 #![tactic(auto)]
 
 mod characters;
 mod data;
 mod giving;
 mod heads;
+mod indexes;
 mod lengths;
 mod numbers;
 mod operands;
@@ -21,6 +23,7 @@ pub use characters::indc;
 pub use data::{lea, movp, movw};
 pub use giving::{advance, give_number, give_plain, give_reference};
 pub use heads::{head_number, headp, tail};
+pub use indexes::{index_of_size, indx};
 pub use lengths::{lena, lenc, lenl};
 pub use numbers::store_number;
 pub use operands::source_reference;
