@@ -43,7 +43,8 @@ pub(crate) fn finish_number(
 ) -> Result<(), Halt>
     requires place { process.old.frame.pc + 1 < 2 ^ 64 }
     ensures goes { Goes memory.old process.old result
-        (words.◌>>=◌ (places.store_number (kind_of number) (view_world memory.old) (view_process process.old) (view_spot spot) (value_of number))
+        (words.◌>>=◌
+        (places.store_number (kind_of number) (view_world memory.old) (view_process process.old) (view_spot spot) (value_of number))
         (λ m. words.Found (next m))) memory.new process.new }
     ensures kept { OnErr result ((memory.new ≡ memory.old) × (process.new ≡ process.old)) }
 {

@@ -1,5 +1,5 @@
-//! Instructions that give the address of an element (Dis Virtual Machine Specification, the instructions by name): indx, indw, indf,
-//! indb, indl.
+//! Instructions that give the address of an element (Dis Virtual Machine Specification, the instructions by name): indx, indb, indw,
+//! indl.
 
 ghost use Rattle.std.specs.Prelude.{◌≡◌, ◌+◌, ◌*◌, ◌<◌, ◌^◌, false, pos, IfErr, IfOk, OnErr};
 ghost use Rattle.std.specs.Option.{option_map};
@@ -58,7 +58,8 @@ fn size_of(memory: &Memory, elements: Elements) -> u32
 
 // The address of an element of so many bytes. No memory has bytes whose number has more than 32 bits.
 fn address_of(elements: Elements, size: u32, k: usize) -> Result<Word, Halt>
-    ensures address { IfOk result (λ w. view_word w ≡ words.Address (words.InBlock elements.array.serial) (pos ((elements.start + k) * size))) }
+    ensures address { IfOk result (λ w. view_word w
+        ≡ words.Address (words.InBlock elements.array.serial) (pos ((elements.start + k) * size))) }
     ensures plain { IfOk result (λ w. is_reference (cell_of w) ≡ false) }
     ensures fault { IfErr result (λ h. h ≡ halt.NoMemory) }
 {
@@ -176,7 +177,7 @@ fn of_size(memory: &Memory, elements: Option<Elements>, size: u32) -> Result<(),
     }
 }
 
-/// `indb`, `indw`, `indf`, `indl`: the address of an element of so many bytes, by its index.
+/// `indb`, `indw` and `indl`: the address of an element of so many bytes, by its index.
 pub fn index_of_size(
     memory: &mut Memory,
     process: &mut Process,
