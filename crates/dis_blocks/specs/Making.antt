@@ -11,7 +11,7 @@ use Rattle.dis_memory.specs.Places as places
 use Rattle.dis_memory.specs.Places.{reference_at, store}
 use Rattle.dis_places.specs.declared.fault.Halt.{Halt}
 use Rattle.dis_places.specs.declared.memory.Memory.{Memory}
-use Rattle.dis_places.specs.declared.process.Process as code_process
+use Rattle.dis_places.specs.declared.process.Process as code
 use Rattle.dis_places.specs.View.{view_process, view_world}
 use Rattle.dis_places.specs.Words.{Halts}
 use Rattle.dis_stores.specs.Storing.{rested, settled}
@@ -21,19 +21,20 @@ abbrev pub made : World → Process → Spot → Block → Access places.Memory
 made x p s b = reference_at x p s >>= λ old. rested (store (with_block x b) p s (Refer (Some (next_serial x))))
 
 -- Memory and process stand as after a change to this world and this process, where references were given away for what was made.
-pub record SettlesFor (given : ℕ → ℕ) (m : Memory) (p : code_process.Process) (x : World) (m' : Memory) (p' : code_process.Process) : Type 0 where
+pub record SettlesFor (given : ℕ → ℕ) (m : Memory) (p : code.Process) (x : World) (m' : Memory) (p' : code.Process) : Type 0 where
   pub held : (n : ℕ) → outside m'.heap n + names (view_process p) n + given n ≡ outside m.heap n + names (view_process p') n
   pub heap : (view_world m').heap ≡ stays inside (outside m'.heap) x.heap
   pub outer : (view_world m').outside ≡ x.outside
   pub tables : m'.tables ≡ m.tables
 
 -- What the definition finds is done, or there is its fault.
-abbrev pub Makes : (given : ℕ → ℕ) → Memory → code_process.Process → Result (Unit {0}) Halt → Access places.Memory → Memory → code_process.Process → Type 0
-Makes given m p (Ok u) access m' p' = (x : World) × (access ≡ Found (places.memory x (settled (view_process p')))) × SettlesFor given m p x m' p'
+abbrev pub Makes : (given : ℕ → ℕ) → Memory → code.Process → Result (Unit {0}) Halt → Access places.Memory → Memory → code.Process → Type 0
+Makes given m p (Ok u) access m' p' =
+    (x : World) × (access ≡ Found (places.memory x (settled (view_process p')))) × SettlesFor given m p x m' p'
 Makes given m p (Err h) access m' p' = Halts h access
 
 -- Memory and process are as they were, but for how often blocks are held and let go on the way.
-pub record Untouched (m : Memory) (p : code_process.Process) (m' : Memory) (p' : code_process.Process) : Type 0 where
+pub record Untouched (m : Memory) (p : code.Process) (m' : Memory) (p' : code.Process) : Type 0 where
   pub world : view_world m' ≡ view_world m
   pub held : (n : ℕ) → outside m'.heap n ≡ outside m.heap n
   pub tables : m'.tables ≡ m.tables

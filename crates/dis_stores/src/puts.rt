@@ -14,7 +14,8 @@ ghost use Rattle.dis_memory.specs.Places.{data_at, read, store};
 ghost use Rattle.dis_places.specs.Regions.{block_words};
 ghost use Rattle.dis_places.specs.View.{view_place, view_process, view_spot, view_world};
 ghost use Rattle.dis_places.specs.Words.{view_word, view_words, Gives, GivesFault};
-ghost use Rattle.dis_stores.specs.Storing.{is_address, settled, rested, named, Exchanges, IsNoMemory, frame_stored, frame_read, block_stored, block_read};
+ghost use Rattle.dis_stores.specs.Storing.{is_address, settled, rested, named, Exchanges, IsNoMemory};
+ghost use Rattle.dis_stores.specs.Storing.{frame_stored, frame_read, block_stored, block_read};
 
 use crate::exchanges::exchange;
 use dis_places::{
