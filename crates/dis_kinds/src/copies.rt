@@ -9,7 +9,7 @@ ghost use Rattle.dis_places.specs.Regions.{words_here};
 ghost use Rattle.dis_places.specs.Words.{view_word, view_words, Gives, GivesFault};
 
 use dis_file::TypeDesc;
-use dis_places::{Fault, Halt, Memory, Process, Region, Word, nth, nth_number, plain};
+use dis_places::{Fault, Halt, Memory, Process, Region, Word, byte_of, nth, nth_number, plain};
 use std::alloc::Global;
 
 // The word of this number, which is plain.
@@ -116,14 +116,6 @@ pub fn typed_words(
     Ok(found)
 }
 
-// One of the four bytes of a plain word, the most significant of which is the first.
-fn byte_in(z: i32, k: usize) -> u8
-    requires { k < 4 }
-    ensures { result ≡ slice_index (bytes_of z) k }
-{
-    z.cast_unsigned().to_be_bytes()[k]
-}
-
 // The byte of this number among those of a region.
 fn byte_at(memory: &Memory, process: &Process, region: Region, n: usize) -> Result<u8, Fault>
     ensures { GivesFault (λ b. b) result (words.◌>>=◌
@@ -131,7 +123,7 @@ fn byte_at(memory: &Memory, process: &Process, region: Region, n: usize) -> Resu
         meaning.byte_of) }
 {
     let word = nth_number(memory, process, region, n / 4)?;
-    Ok(byte_in(word, n % 4))
+    Ok(byte_of(word, n % 4))
 }
 
 /// So many bytes of a region, from one on.

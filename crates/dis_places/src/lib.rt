@@ -24,7 +24,7 @@ pub use fault::{Fault, Halt, Raise};
 pub use frame::{Frame, blank};
 pub use frames::{Slot, find, position};
 pub use memory::{Memory, Tables};
-pub use numbers::{nth_number, number_at};
+pub use numbers::{byte_of, joined, nth_number, number_at, number_in};
 pub use operands::{
     address, given_of, middle_of, middle_spot, middle_word, plain, read, read_number, reference,
     source_of, source_plain, source_word, spot_of,

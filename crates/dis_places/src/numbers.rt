@@ -15,8 +15,8 @@ use crate::spots::{Region, byte_number, nth, word_number};
 use limbo_values::{Kind, Number};
 use ref_heap::Word;
 
-// The number in a word, 0 where an address stands in it.
-fn number_in(word: Word) -> Result<i32, Fault>
+/// The number in a word, 0 where an address stands in it.
+pub fn number_in(word: Word) -> Result<i32, Fault>
     ensures { GivesFault (λ n. n) result (words.number_in (view_word word)) }
 {
     match word {
@@ -39,16 +39,16 @@ pub fn nth_number(
     number_in(word)
 }
 
-// One of the four bytes of a plain word, the most significant of which is the first.
-fn byte_of(z: i32, k: usize) -> u8
+/// One of the four bytes of a plain word, the most significant of which is the first.
+pub fn byte_of(z: i32, k: usize) -> u8
     requires { k < 4 }
     ensures { result ≡ slice_index (meaning.bytes_of z) k }
 {
     z.cast_unsigned().to_be_bytes()[k]
 }
 
-// A big of its two words.
-fn joined(high: i32, low: i32) -> i64
+/// A big of its two words.
+pub fn joined(high: i32, low: i32) -> i64
     ensures { result ≡ meaning.joined high low }
 {
     i64::from(high) * (1 << 32) + i64::from(low.cast_unsigned())

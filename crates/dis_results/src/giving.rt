@@ -35,7 +35,7 @@ pub fn advance(process: &mut Process)
 }
 
 /// Stores a number, and the process goes on.
-pub(crate) fn finish_number(
+pub fn finish_number(
     memory: &mut Memory,
     process: &mut Process,
     spot: Spot,
@@ -131,11 +131,7 @@ pub fn give_plain(
 }
 
 /// A reference stands there.
-pub(crate) fn has_reference(
-    memory: &Memory,
-    process: &Process,
-    spot: Spot,
-) -> Result<Option<Ref>, Fault>
+pub fn has_reference(memory: &Memory, process: &Process, spot: Spot) -> Result<Option<Ref>, Fault>
     ensures { GivesFault (option_map (λ (r : CodeRef). r.serial)) result
         (places.reference_at (view_world memory.now) (view_process process.now) (view_spot spot)) }
 {
@@ -146,7 +142,7 @@ pub(crate) fn has_reference(
 }
 
 /// Stores a reference to a block that is there, or nil, and the process goes on.
-pub(crate) fn finish_reference(
+pub fn finish_reference(
     memory: &mut Memory,
     process: &mut Process,
     spot: Spot,

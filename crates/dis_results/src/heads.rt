@@ -22,10 +22,12 @@ ghost use Rattle.dis_results.specs.Going.{Goes};
 
 use crate::giving::{finish_number, finish_reference, give_number, give_reference, has_reference};
 use crate::operands::source_reference;
-use crate::words::{byte_of, joined, number_in};
 use dis_isa::{Inst, Operand};
 use dis_kinds::{element_word, first_cell, rest_of};
-use dis_places::{Fault, Halt, Memory, Process, Raise, Ref, Spot, read_number, reference, spot_of};
+use dis_places::{
+    Fault, Halt, Memory, Process, Raise, Ref, Spot, byte_of, joined, number_in, read_number,
+    reference, spot_of,
+};
 use limbo_values::{Kind, Number};
 
 // The first cell of the list that a source refers to.

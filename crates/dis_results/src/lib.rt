@@ -21,9 +21,12 @@ mod words;
 
 pub use characters::indc;
 pub use data::{lea, movp, movw};
-pub use giving::{advance, give_number, give_plain, give_reference};
+pub use giving::{
+    advance, finish_number, finish_reference, give_number, give_plain, give_reference,
+    has_reference,
+};
 pub use heads::{head_number, headp, tail};
 pub use indexes::{index_of_size, indx};
 pub use lengths::{lena, lenc, lenl};
 pub use numbers::store_number;
-pub use operands::source_reference;
+pub use operands::{natural_to, number_to, reference_to, source_reference};

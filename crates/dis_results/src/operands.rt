@@ -42,7 +42,7 @@ pub fn source_reference(
 }
 
 /// Gives a number to a destination.
-pub(crate) fn number_to(
+pub fn number_to(
     memory: &mut Memory,
     process: &mut Process,
     kind: Kind,
@@ -64,7 +64,7 @@ pub(crate) fn number_to(
 
 /// Gives a number that isn't below 0 to a destination, as an int. No memory has so many things, and no character so great a code, that it
 /// would be none.
-pub(crate) fn natural_to(
+pub fn natural_to(
     memory: &mut Memory,
     process: &mut Process,
     destination: Operand,
@@ -83,7 +83,7 @@ pub(crate) fn natural_to(
 }
 
 /// Gives a reference to a destination.
-pub(crate) fn reference_to(
+pub fn reference_to(
     memory: &mut Memory,
     process: &mut Process,
     destination: Operand,

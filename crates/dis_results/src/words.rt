@@ -1,41 +1,14 @@
 //! Numbers as they lie in words (Dis Virtual Machine Specification, "Data representations").
 
-ghost use Rattle.std.specs.Prelude.{◌≡◌, ◌<◌, slice_index};
+ghost use Rattle.std.specs.Prelude.{◌≡◌, ◌<◌};
 ghost use Rattle.dis_meaning.specs.Numbers as meaning;
-ghost use Rattle.dis_meaning.specs.Words as words;
 ghost use Rattle.dis_places.specs.Regions.{words_here};
 ghost use Rattle.dis_places.specs.View.{view_spot};
-ghost use Rattle.dis_places.specs.Words.{view_word, GivesFault};
+ghost use Rattle.dis_places.specs.Words.{GivesFault};
 ghost use Rattle.dis_results.specs.Bytes.{moved, word_with_byte};
 
-use dis_places::{Fault, Memory, Process, Region, Spot, Word, byte_number, nth_number};
+use dis_places::{Fault, Memory, Process, Region, Spot, byte_number, nth_number};
 use limbo_values::int;
-
-/// The number in a word, 0 where an address stands in it.
-pub(crate) fn number_in(word: Word) -> Result<i32, Fault>
-    ensures { GivesFault (λ n. n) result (words.number_in (view_word word)) }
-{
-    match word {
-        Word::Plain(n) => Ok(n.cast_signed()),
-        Word::Address { place, at } => Ok(0),
-        Word::Refer(_) => Err(Fault::TypeCheck),
-    }
-}
-
-/// One of the four bytes of a plain word, the most significant of which is the first.
-pub(crate) fn byte_of(z: i32, k: usize) -> u8
-    requires { k < 4 }
-    ensures { result ≡ slice_index (meaning.bytes_of z) k }
-{
-    z.cast_unsigned().to_be_bytes()[k]
-}
-
-/// A big of its two words.
-pub(crate) fn joined(high: i32, low: i32) -> i64
-    ensures { result ≡ meaning.joined high low }
-{
-    i64::from(high) * (1 << 32) + i64::from(low.cast_unsigned())
-}
 
 // A plain word with one of its bytes replaced.
 fn with_byte(z: i32, k: usize, byte: u8) -> i32
