@@ -1,9 +1,10 @@
 -- Words of the program, as the definitions have them, and what a call gives that may meet a fault or raise an exception.
-use Rattle.std.specs.Prelude.{◌≡◌, ℕ, pos, List, map, Result, Ok, Err}
+use Rattle.std.specs.Prelude.{◌≡◌, ℕ, pos, List, map, codes, Result, Ok, Err}
 use Rattle.std.specs.Int.{w32, cast_signed}
 use Rattle.dis_meaning.specs.Words.{InBlock, InFrame, Word, Plain, Refer, Address}
 use Rattle.dis_meaning.specs.Words.{Access, Found, Wrong, Raises, type_check, bad_jump, dead_address}
 use Rattle.dis_memory.specs.Raising.{nil_text, negative_text, large_text}
+use Rattle.dis_memory.specs.Control.{not_loaded}
 use Rattle.limbo_values.specs.Operators.{text_of}
 use Rattle.ref_heap.specs.declared.word.Word as code_word
 use Rattle.ref_heap.specs.Words.{Cell, plain, refer, in_block, in_frame, cell_of}
@@ -42,6 +43,8 @@ abbrev pub raised_text : Raise → List ℕ
 raised_text raise.Nil = nil_text
 raised_text raise.Negative = negative_text
 raised_text raise.Large = large_text
+raised_text raise.NotLoaded = not_loaded
+raised_text raise.BadFormat = codes "bad format"
 raised_text (raise.Value raised) = text_of raised
 
 -- A call gives what is found, or the fault.

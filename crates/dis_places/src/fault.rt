@@ -37,6 +37,10 @@ pub enum Raise {
     Negative,
     /// An array of too many bytes.
     Large,
+    /// A function of a module that isn't loaded.
+    NotLoaded,
+    /// A format that doesn't fit its call's frame.
+    BadFormat,
     /// What an operation on values raises.
     Value(Raised),
 }
@@ -50,6 +54,8 @@ impl Raise {
             Raise::Nil => "dereference of nil",
             Raise::Negative => "negative array size",
             Raise::Large => "array too large",
+            Raise::NotLoaded => "module not loaded",
+            Raise::BadFormat => "bad format",
             Raise::Value(raised) => raised.text(),
         }
     }
