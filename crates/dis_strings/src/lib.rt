@@ -1,0 +1,16 @@
+//! Instructions of the Dis machine that make strings of others, with exact counts: addc, slicec, insc.
+//!
+//! A string that an instruction makes is a new block, to which the destination refers from then on (`give_text`): the destination is
+//! looked at before anything is raised. What strings operands refer to, `operands` has; what an operation makes of them, `texts`, apart
+//! from memory. The contracts cite dis_memory's `Strings`; dis_results has the instructions that make no block, and `Goes`, what each
+//! promises.
+#![tactic(auto)]
+
+mod giving;
+mod making;
+mod operands;
+mod texts;
+
+pub use giving::{finish_text, give_text, text_to};
+pub use making::{addc, insc, slicec};
+pub use operands::{given_int, middle_text, source_int, source_text, text_there};
