@@ -25,8 +25,8 @@ fn code_in(text: &[u32], at: i32) -> Result<u32, Raised>
     Ok(text[index])
 }
 
-// The int of a middle.
-fn given_int(memory: &Memory, process: &Process, middle: Middle) -> Result<i32, Fault>
+/// The int of a middle.
+pub fn given_int(memory: &Memory, process: &Process, middle: Middle) -> Result<i32, Fault>
     ensures { GivesFault (λ n. n) result
         (places.given_of kind.Int (view_world memory.now) (view_process process.now) middle) }
 {

@@ -30,8 +30,8 @@ use dis_places::{
 };
 use limbo_values::{Kind, Number};
 
-// The first cell of the list that a source refers to.
-fn source_cell(memory: &Memory, process: &Process, source: Operand) -> Result<Option<Ref>, Halt>
+/// The first cell of the list that a source refers to.
+pub fn source_cell(memory: &Memory, process: &Process, source: Operand) -> Result<Option<Ref>, Halt>
     ensures { Gives (option_map (view_linked memory.now)) result (words.◌>>=◌
         (places.source_reference (view_world memory.now) (view_process process.now) source) (first_cell (view_world memory.now))) }
 {

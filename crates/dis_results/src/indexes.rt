@@ -27,8 +27,8 @@ use dis_kinds::{Elements, elements_of};
 use dis_places::{Fault, Halt, Memory, Place, Process, Raise, Spot, Word, middle_spot, source_of};
 use limbo_values::{Kind, Number, index_in};
 
-// The elements that a source refers to.
-fn source_elements(
+/// The elements that a source refers to.
+pub fn source_elements(
     memory: &Memory,
     process: &Process,
     source: Operand,
@@ -46,8 +46,8 @@ fn source_elements(
     }
 }
 
-// How many bytes an element has.
-fn size_of(memory: &Memory, elements: Elements) -> u32
+/// How many bytes an element has.
+pub fn size_of(memory: &Memory, elements: Elements) -> u32
     ensures { result ≡ (view_elements memory.now elements).element.size }
 {
     match memory.tables.types.get(elements.element as usize) {
@@ -78,8 +78,8 @@ fn address_of(elements: Elements, size: u32, k: usize) -> Result<Word, Halt>
     }
 }
 
-// The int of a source.
-fn source_int(memory: &Memory, process: &Process, source: Operand) -> Result<i32, Halt>
+/// The int of a source.
+pub fn source_int(memory: &Memory, process: &Process, source: Operand) -> Result<i32, Halt>
     ensures { Gives (λ n. n) result
         (places.source_of kind.Int (view_world memory.now) (view_process process.now) source) }
 {

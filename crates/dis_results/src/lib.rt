@@ -19,14 +19,15 @@ mod numbers;
 mod operands;
 mod words;
 
-pub use characters::indc;
+pub use characters::{given_int, indc};
 pub use data::{lea, movp, movw};
 pub use giving::{
     advance, finish_number, finish_reference, give_number, give_plain, give_reference,
     has_reference,
 };
-pub use heads::{head_number, headp, tail};
-pub use indexes::{index_of_size, indx};
+pub use heads::{head_number, headp, source_cell, tail};
+pub use indexes::{index_of_size, indx, size_of, source_elements, source_int};
 pub use lengths::{lena, lenc, lenl};
 pub use numbers::store_number;
 pub use operands::{natural_to, number_to, reference_to, source_reference};
+pub use words::{high_part, low_part, with_byte};

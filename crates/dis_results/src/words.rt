@@ -10,8 +10,8 @@ ghost use Rattle.dis_results.specs.Bytes.{moved, word_with_byte};
 use dis_places::{Fault, Memory, Process, Region, Spot, byte_number, nth_number};
 use limbo_values::int;
 
-// A plain word with one of its bytes replaced.
-fn with_byte(z: i32, k: usize, byte: u8) -> i32
+/// A plain word with one of its bytes replaced.
+pub fn with_byte(z: i32, k: usize, byte: u8) -> i32
     requires { k < 4 }
     ensures { result ≡ meaning.with_byte z k byte }
 {
@@ -20,14 +20,15 @@ fn with_byte(z: i32, k: usize, byte: u8) -> i32
     u32::from_be_bytes(bytes).cast_signed()
 }
 
-/// The two words of a big.
-pub(crate) fn high_part(z: i64) -> i32
+/// The first of the two words of a big.
+pub fn high_part(z: i64) -> i32
     ensures { result ≡ meaning.high_part z }
 {
     z.div_euclid(1 << 32) as i32
 }
 
-pub(crate) fn low_part(z: i64) -> i32
+/// The second of them.
+pub fn low_part(z: i64) -> i32
     ensures { result ≡ meaning.low_part z }
 {
     int::wrap(z)

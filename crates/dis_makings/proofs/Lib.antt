@@ -1,0 +1,4 @@
+pub mod Gone
+pub mod Parts
+pub mod Numbered
+pub mod Sliced

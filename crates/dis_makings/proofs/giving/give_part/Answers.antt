@@ -1,0 +1,9 @@
+use Rattle.dis_memory.specs.Blocks as blocks
+use Rattle.dis_places.specs.View.{view_spot}
+use Rattle.dis_makings.proofs.Gone.{given}
+use Rattle.dis_makings.proofs.giving.give_part.Goals as goal
+
+pub returns-clause-goes : goal.returns-clause-goes
+returns-clause-goes c =
+    given c.args.memory.now c.store_part-outcome.new.memory c.args.process.now c.store_part-outcome.new.process c.go_on.new.process (view_spot c.args.spot)
+    (blocks.Part c.args.array.serial c.args.from c.args.long) c.store_part-outcome.result c.go_on.result c.go_on.ensures.same c.store_part-outcome.ensures.stores c.go_on.ensures.on
