@@ -1,0 +1,5 @@
+pub mod Tabled
+pub mod Letting
+pub mod Left
+pub mod Others
+pub mod Instances

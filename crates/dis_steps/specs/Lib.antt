@@ -1,0 +1,4 @@
+pub mod Codes
+pub mod Ending
+pub mod Forms
+pub mod Stepping
