@@ -27,7 +27,7 @@ first_counted n (refer r ∷ cs) e = let one = ap (λ r. refers n (Refer r)) e �
 first_counted n (in_block s v ∷ cs) e = absurd cc
 first_counted n (in_frame s v ∷ cs) e = absurd cc
 
-word_live : (m : Memory) (cell : Ref) (k n : ℕ) → IsHeap m.heap → slice_get (view_linked m cell).element k ≡ Some (Refer (Some n)) → IsLive m.heap n
+pub word_live : (m : Memory) (cell : Ref) (k n : ℕ) → IsHeap m.heap → slice_get (view_linked m cell).element k ≡ Some (Refer (Some n)) → IsLive m.heap n
 word_live m cell k n ok e = go (at m.heap cell.serial) refl e
   where
     go : (o : Option Block) → at m.heap cell.serial ≡ o → slice_get (behind_in o) k ≡ Some (Refer (Some n)) → IsLive m.heap n

@@ -105,7 +105,7 @@ module _ (m : Memory) (p : Process) (ok : IsHeap m.heap) (held : AreHeld m.heap 
           let same = sym (cells_named (cells b.content) n) ∙ ap (in_words n) (reached_words m.tables b.kind b.content ws a) in
           inside_live m.heap k n b ok is (omega (arith, same, named))
 
-  words_live : (s : Spot) (n : ℕ) (ws : List Word) → words_at (view_world m) (view_process p) s ≡ Found ws → 1 ≤ in_words n ws → IsLive m.heap n
+  pub words_live : (s : Spot) (n : ℕ) (ws : List Word) → words_at (view_world m) (view_process p) s ≡ Found ws → 1 ≤ in_words n ws → IsLive m.heap n
   words_live (Own at) n ws e named =
       let same : (view_process p).frame.words ≡ ws = cc in let h = ap (in_words n) same in
       held_live m.heap (names (view_process p)) n held (omega (arith, h, named))
