@@ -1,0 +1,4 @@
+pub mod Typed
+pub mod Chains
+pub mod Windows
+pub mod Moved
