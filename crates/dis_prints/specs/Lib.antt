@@ -1,0 +1,3 @@
+pub mod Discarded
+pub mod Plans
+pub mod Hearing
