@@ -9,6 +9,7 @@
 mod giving;
 mod making;
 mod operands;
+mod renewing;
 mod texts;
 
 pub use giving::{finish_text, give_text, text_to};

@@ -1,7 +1,9 @@
 //! The strings that operands refer to, and ints of operands.
 
 ghost use Rattle.std.specs.Prelude.{◌≡◌};
+ghost use Rattle.std.specs.Option.{option_map};
 ghost use Rattle.limbo_values.specs.declared.number.Kind.TheVariants as kind;
+ghost use Rattle.ref_heap.specs.declared.word.Ref.{Ref as CodeRef};
 ghost use Rattle.dis_meaning.specs.Words as words;
 ghost use Rattle.dis_memory.specs.Kinds.{text_at};
 ghost use Rattle.dis_memory.specs.Places as places;
@@ -10,7 +12,9 @@ ghost use Rattle.dis_places.specs.Words.{Gives, GivesFault};
 
 use dis_isa::{Middle, Operand};
 use dis_kinds::text_of;
-use dis_places::{Fault, Halt, Memory, Process, Spot, given_of, middle_word, reference, source_of};
+use dis_places::{
+    Fault, Halt, Memory, Process, Ref, Spot, given_of, middle_word, reference, source_of,
+};
 use dis_results::{has_reference, source_reference};
 use limbo_values::{Kind, Number};
 
@@ -59,6 +63,21 @@ pub fn source_text<'a>(
     }
 }
 
+/// The block that a middle refers to, or nothing.
+pub(crate) fn middle_reference(
+    memory: &Memory,
+    process: &Process,
+    middle: Middle,
+) -> Result<Option<Ref>, Fault>
+    ensures { GivesFault (option_map (λ (r : CodeRef). r.serial)) result
+        (places.middle_reference (view_world memory.now) (view_process process.now) middle) }
+{
+    match middle_word(memory, process, middle) {
+        Ok(word) => reference(word),
+        Err(fault) => Err(fault),
+    }
+}
+
 /// The characters of the string that a middle refers to.
 pub fn middle_text<'a>(
     memory: &'a Memory,
@@ -68,11 +87,7 @@ pub fn middle_text<'a>(
     ensures { GivesFault (λ text. text.now) result (words.◌>>=◌
         (places.middle_reference (view_world memory.now) (view_process process.now) middle) (text_at (view_world memory.now))) }
 {
-    let word = match middle_word(memory, process, middle) {
-        Ok(word) => word,
-        Err(fault) => return Err(fault),
-    };
-    match reference(word) {
+    match middle_reference(memory, process, middle) {
         Ok(block) => text_of(memory, block),
         Err(fault) => Err(fault),
     }

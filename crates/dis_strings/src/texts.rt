@@ -1,37 +1,26 @@
 //! What operations make of strings, apart from memory (Limbo Language Reference, strings).
 
-ghost use Rattle.std.specs.Prelude.{◌≡◌, ◌≤◌, IfOk, length};
-ghost use Rattle.limbo_values.specs.Texts.{joined, slice_in};
-ghost use Rattle.system_model.specs.Verbs as verbs;
+ghost use Rattle.std.specs.Prelude.{◌≡◌, ◌++◌, ◌≤◌, IfOk, length, suc, ℕ};
+ghost use Rattle.limbo_values.specs.Texts.{index_in, slice_in};
+ghost use Rattle.dis_meaning.specs.Words as words;
 ghost use Rattle.dis_memory.specs.Raising.{unless_raised};
-ghost use Rattle.dis_memory.specs.Strings.{inserted, with_character};
+ghost use Rattle.dis_memory.specs.Strings.{not_longer, with_character};
+ghost use Rattle.dis_results.specs.Going.{told};
 ghost use Rattle.dis_strings.specs.Telling.{told_text};
 
 use dis_places::Raise;
-use limbo_values::{Raised, bounds_in, index_in, joined_len};
+use limbo_values::{Raised, bounds_in, index_in};
 use std::alloc::{AllocError, Global};
-use sys_print::character;
-
 // How many characters a string has at most.
 const LONGEST: usize = 16_777_216;
 
-/// The characters of one string, and those of another behind them, or that these are too many.
-pub(crate) fn joined(
-    alloc: Global,
-    left: &[u32],
-    right: &[u32],
-) -> Result<Result<Vec<u32>, Raise>, AllocError>
-    ensures { IfOk result (λ outcome. told_text outcome ≡ unless_raised (joined left.now right.now)) }
+/// The characters of one string, and those of another behind them.
+pub(crate) fn joined(alloc: Global, left: &[u32], right: &[u32]) -> Result<Vec<u32>, AllocError>
+    ensures { IfOk result (λ text. text.items ≡ left.now ++ right.now) }
 {
-    match joined_len(left.len(), right.len()) {
-        Ok(count) => {
-            let mut text = Vec::with_capacity(alloc, count)?;
-            text.extend_from_slice(left)?;
-            text.extend_from_slice(right)?;
-            Ok(Ok(text))
-        }
-        Err(raised) => Ok(Err(Raise::Value(raised))),
-    }
+    let mut text = Vec::from_slice(alloc, left)?;
+    text.extend_from_slice(right)?;
+    Ok(text)
 }
 
 /// The characters of a string from one on, before another, or that there are none such.
@@ -52,8 +41,13 @@ pub(crate) fn sliced(
     }
 }
 
-// A string with another character at an index, or with one more at its end.
-fn with_character(alloc: Global, text: &[u32], at: usize, code: u32) -> Result<Vec<u32>, AllocError>
+/// A string with another character at an index, or with one more at its end.
+pub(crate) fn with_character(
+    alloc: Global,
+    text: &[u32],
+    at: usize,
+    code: u32,
+) -> Result<Vec<u32>, AllocError>
     requires { at ≤ length text.now }
     ensures { IfOk result (λ changed. changed.items ≡ with_character text.now at code) }
 {
@@ -66,24 +60,26 @@ fn with_character(alloc: Global, text: &[u32], at: usize, code: u32) -> Result<V
     Ok(changed)
 }
 
-/// A string with the character of a code at an index, or behind its last one; or that there is no such index, or that it is too long.
-pub(crate) fn inserted(
-    alloc: Global,
-    text: &[u32],
-    at: i32,
-    code: i32,
-) -> Result<Result<Vec<u32>, Raise>, AllocError>
-    ensures { IfOk result (λ outcome. told_text outcome ≡ inserted text.now at code) }
+/// The index in a string at which another character may come, or behind its last one; or that there is no such index, or that the string
+/// would be too long.
+pub(crate) fn place_in(text: &[u32], at: i32) -> Result<usize, Raise>
+    ensures told { (c : ℕ) → told (λ k. with_character text.now k c) result ≡ words.◌>>=◌ (unless_raised (index_in (suc (length text.now)) at))
+        (λ k. unless_raised (not_longer (with_character text.now k c))) }
+    ensures within { IfOk result (λ k. k ≤ length text.now) }
 {
     match index_in(text.len() + 1, at) {
         Ok(k) => {
-            let changed = with_character(alloc, text, k, character(code) as u32)?;
-            if changed.len() > LONGEST {
-                Ok(Err(Raise::Value(Raised::StringTooLong)))
+            let count = if k == text.len() {
+                text.len() + 1
             } else {
-                Ok(Ok(changed))
+                text.len()
+            };
+            if count > LONGEST {
+                Err(Raise::Value(Raised::StringTooLong))
+            } else {
+                Ok(k)
             }
         }
-        Err(raised) => Ok(Err(Raise::Value(raised))),
+        Err(raised) => Err(Raise::Value(raised)),
     }
 }
