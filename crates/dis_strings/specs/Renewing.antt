@@ -63,7 +63,8 @@ pub record IsEdited (old new : Store) (k : ℕ) (s t : List ℕ) : Type 0 where
 pub record IsAnew (old new : Store) (k k' : ℕ) (s t : List ℕ) : Type 0 where
   pub before : HasText old k s
   pub serial : k' ≡ old.made
-  pub is : new ≡ with_new (without_block (with_block old k (with_content before.block (compact t))) k) (with_content before.block (compact t))
+  pub is : new ≡ with_new (without_block (with_block old k (with_content before.block (compact t))) k)
+      (with_content before.block (compact t))
   pub outside : (n : ℕ) → outside new n + one k n ≡ outside old n + one k' n
 
 -- A word of a frame has the only reference to a string, of which an edit makes these characters.
