@@ -13,7 +13,6 @@ use Rattle.ref_heap.specs.Words as cells
 use Rattle.ref_heap.specs.Words.{Cell, plain, refer, in_block, cell_of, is_reference, naming}
 use Rattle.ref_heap.specs.Store.{Store, AreHeld, IsLive, Block, at, count, count_in}
 use Rattle.dis_meaning.specs.Counts.{in_words}
-use Rattle.dis_meaning.specs.Given.{AreGiven}
 use Rattle.dis_meaning.proofs.Given.{Finds, finds_on, on_any}
 use Rattle.dis_meaning.specs.Words.{InBlock, InFrame, Word, Address, Access, Found, Wrong, Raises, ◌>>=◌, fits, word_at, stored}
 use Rattle.dis_meaning.specs.Process.{Frame, Process, with_words, with_frames}
@@ -39,7 +38,7 @@ use Rattle.dis_blocks.proofs.Bare.{as_cells}
 use Rattle.dis_results.specs.Going.{moved_on}
 use Rattle.dis_blocks.specs.Making.{Untouched}
 use Rattle.dis_calls.specs.Coming.{LeftAlone, StandsStill}
-use Rattle.dis_calls.specs.Given.{HasGiven}
+use Rattle.dis_serials.specs.Given.{AreGiven, HasGiven}
 use Rattle.dis_calls.specs.Made.{blank_frame, with_made, without_last}
 use Rattle.dis_calls.proofs.Calling.{count_pushed, frames_both}
 

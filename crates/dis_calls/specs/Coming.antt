@@ -29,7 +29,8 @@ effect_of (does.Broken text) y q = Ends y (Broken text)
 
 -- The instruction does what it came to, and memory stands as after the definition's step and its cut; or there is the definition's
 -- fault, or what it raises.
-abbrev pub Comes : Memory → code_process.Process → Result code_does.Does Halt → Access meaning.Does → Memory → code_process.Process → Type 0
+abbrev pub Comes : Memory → code_process.Process → Result code_does.Does Halt → Access meaning.Does → Memory → code_process.Process
+    → Type 0
 Comes m p (Ok d) access m' p' = (x : World) × (access ≡ Found (effect_of d x (view_process p'))) × Settles m p x m' p'
 Comes m p (Err h) access m' p' = Halts h access
 

@@ -1,6 +1,7 @@
 //! Calls and returns.
 
-ghost use Rattle.std.specs.Prelude.{◌≡◌, ℕ, ◌+◌, ◌<◌, ◌^◌, codes, IfOk, IfErr, OnErr, pos, Ok, Some, slice_get, vec_len, vec_capacity};
+ghost use Rattle.std.specs.Prelude.{◌≡◌, ℕ, ◌+◌, ◌<◌, ◌^◌, pos, codes, slice_get, vec_len, vec_capacity};
+ghost use Rattle.std.specs.Prelude.{Ok, Some, IfOk, IfErr, OnErr};
 ghost use Rattle.dis_isa.specs.declared.inst.Inst.{Inst as AnyInst};
 ghost use Rattle.dis_file.specs.declared.object.Object.{Object};
 ghost use Rattle.ref_heap.specs.Store.{AreHeld};
@@ -84,6 +85,10 @@ fn no_frame(memory: &Memory, block: Ref) -> Fault
 }
 
 /// The place, among the frames that are made, of the one whose address a word is.
+///
+/// # Errors
+/// The fault that the definition has: the word is no address, that of a block, of a place within a frame, or of a frame that was called
+/// already or isn't there.
 pub fn made_at(memory: &Memory, process: &Process, word: Word) -> Result<usize, Fault>
     ensures found { IfOk result (λ k. Made process.now k
         (control.frame_at (view_world memory.now) (view_process process.now) (view_word word))) }
@@ -118,6 +123,9 @@ fn enter(process: &mut Process, made: usize, pc: usize)
 }
 
 /// `call`: the frame that calls waits below the one that is called. There are at most so many; one more breaks the process.
+///
+/// # Errors
+/// The fault that the definition has, what it raises, or want of memory; then nothing has changed.
 pub fn call(
     alloc: Global,
     limit: usize,

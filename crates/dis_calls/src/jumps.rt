@@ -10,6 +10,9 @@ use dis_isa::Inst;
 use dis_places::{Halt, Memory, Process};
 
 /// `jmp`: the process goes on at the destination.
+///
+/// # Errors
+/// The fault that the definition has; then nothing has changed.
 pub fn jmp(code: &Code, memory: &Memory, process: &mut Process, inst: Inst) -> Result<(), Halt>
     ensures goes { (limit : ℕ) → Goes memory.now process.old result
         (control.jmp limit code.now.object (view_world memory.now) (view_process process.old) inst) memory.now process.new }

@@ -13,7 +13,7 @@ ghost use Rattle.dis_places.specs.Words.{number_of, view_word, view_words};
 ghost use Rattle.dis_results.specs.Going.{Goes};
 ghost use Rattle.dis_stores.specs.Storing.{rested, IsNoMemory};
 ghost use Rattle.dis_calls.specs.Coming.{LeftAlone};
-ghost use Rattle.dis_calls.specs.Given.{HasGiven};
+ghost use Rattle.dis_serials.specs.Given.{HasGiven};
 ghost use Rattle.dis_calls.specs.Made.{blank_frame, frame_stored, with_made, without_last};
 
 use dis_code::{Code, source_type};
@@ -103,7 +103,8 @@ fn finish_frame(
 
 // A plain word stands there.
 fn plain_at(memory: &Memory, process: &Process, spot: Spot) -> Result<Word, Fault>
-    ensures there { IfOk result (λ w. places.read (view_world memory.now) (view_process process.now) (view_spot spot) ≡ Found (view_word w)) }
+    ensures there { IfOk result (λ w.
+        places.read (view_world memory.now) (view_process process.now) (view_spot spot) ≡ Found (view_word w)) }
     ensures plain { IfOk result (λ w. is_reference (cell_of w) ≡ false) }
     ensures wrong { (w : AnyWord) → is_reference (cell_of w) ≡ false → IfErr result (λ f.
         rested (places.store (view_world memory.now) (view_process process.now) (view_spot spot) (view_word w)) ≡ Wrong (number_of f)) }

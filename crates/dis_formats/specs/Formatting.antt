@@ -30,7 +30,8 @@ width _ = 1
 -- What stands behind a `%` begins with a verb, and this follows; or it begins with none.
 abbrev pub IsVerb : Option (Verb × Bor (List ℕ)) → (behind : List ℕ) → Type 0
 IsVerb (Some r) behind =
-    (x : World) (words : List Word) (from : ℕ) → formatted x words (37 ∷ behind) from ≡ told x words r.0 from (formatted x words r.1.now)
+    (x : World) (words : List Word) (from : ℕ)
+    → formatted x words (37 ∷ behind) from ≡ told x words r.0 from (formatted x words r.1.now)
 IsVerb None behind = (x : World) (words : List Word) (from : ℕ) → formatted x words (37 ∷ behind) from ≡ bad_format
 
 -- A verb and what follows, behind a text: the text with what the verb stands for, and what follows with the arguments from the next word

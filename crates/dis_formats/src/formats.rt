@@ -10,7 +10,7 @@ ghost use Rattle.dis_places.specs.Words.{Gives};
 ghost use Rattle.dis_formats.specs.Formatting.{width, AddsVerb};
 
 use crate::arguments::{big_at, int_at, text_in};
-use crate::verbs::{Verb, verb_of};
+use crate::verbs::{PERCENT, Verb, verb_of};
 use dis_places::{Halt, Memory, Process, Raise, Region};
 use inf_text::{Text, decimal};
 use std::alloc::Global;
@@ -111,7 +111,7 @@ fn formatted(
     let mut rest = format;
     let mut next = FIRST_ARGUMENT;
     while let Some((c, more)) = rest.split_first() {
-        if *c != u32::from('%') {
+        if *c != PERCENT {
             push_code(&mut text, *c)?;
             rest = more;
             continue;
@@ -125,11 +125,10 @@ fn formatted(
     Ok(text)
 }
 
-/// The text of a print whose frame has these words. It stands at 32 what the format is, and the arguments are behind it.
+/// The text of a print whose frame has these words: at 32 stands a reference to the format, and the arguments are behind it.
 ///
 /// # Errors
-/// `bad format` is raised exactly where the format or an argument that it asks for isn't there, or isn't of the kind that is asked for;
-/// want of memory.
+/// `bad format` is raised where the format isn't one, or doesn't fit what stands there; want of memory.
 pub fn printed(
     alloc: Global,
     memory: &Memory,

@@ -4,7 +4,7 @@ ghost use Rattle.std.specs.Prelude.{◌+◌, ◌≤◌, length, IfSome};
 ghost use Rattle.dis_formats.specs.Formatting.{width, IsVerb};
 
 /// The characters of verbs, by their codes.
-const PERCENT: u32 = '%' as u32;
+pub(crate) const PERCENT: u32 = '%' as u32;
 
 const BIG: u32 = 'b' as u32;
 

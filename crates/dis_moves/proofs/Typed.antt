@@ -37,7 +37,7 @@ marked_same false (Plain n) v e = cc
 marked_same false (Refer r) v e = absurd cc
 marked_same false (Address place at) v e = cc
 
-counted : (n : ℕ) (ws : List Word) (k : ℕ) (w : Word) → slice_get ws k ≡ Some w → refers n w ≤ in_words n ws
+pub counted : (n : ℕ) (ws : List Word) (k : ℕ) (w : Word) → slice_get ws k ≡ Some w → refers n w ≤ in_words n ws
 counted n [] k w e = absurd cc
 counted n (v ∷ ws) zero w e = let same : v ≡ w = cc in let a = ap (refers n) same in omega (arith, a)
 counted n (v ∷ ws) (suc k) w e = let h = counted n ws k w e in omega (arith, h)
@@ -74,7 +74,7 @@ typed_named desc k ws from (suc count) vs n e one = go (slice_get ws from) refl 
     go None there e more = absurd cc
     go (Some w) there e more = with_word w there (as_marked (marks desc.map k) w) refl e more
 
-named_viewed : (ws : List code_word.Word) (n : ℕ) → in_words n (view_words ws) ≡ all_named ws n
+pub named_viewed : (ws : List code_word.Word) (n : ℕ) → in_words n (view_words ws) ≡ all_named ws n
 named_viewed ws n = ap (in_words n) (sym (as_cells ws)) ∙ cells_named (map cell_of ws) n
 
 -- ---- a value that stands in a place

@@ -160,7 +160,7 @@ fits_kinds [] k w v e f = absurd cc
 fits_kinds (u ∷ us) zero w v e f = let same : u ≡ w = cc in ap (λ b. b ∷ kinds us) (sym f ∙ ap is_refer (sym same))
 fits_kinds (u ∷ us) (suc k) w v e f = ap (λ bs. is_refer u ∷ bs) (fits_kinds us k w v e f)
 
-bytes_kinds : (ws : List Word) (n : ℕ) (bs : List ℕ) (after : List Word) → put_bytes ws n bs ≡ Found after → kinds after ≡ kinds ws
+pub bytes_kinds : (ws : List Word) (n : ℕ) (bs : List ℕ) (after : List Word) → put_bytes ws n bs ≡ Found after → kinds after ≡ kinds ws
 bytes_kinds ws n [] after e = let same : ws ≡ after = cc in ap kinds (sym same)
 bytes_kinds ws n (b ∷ bs) after e = go (plainly ws (n / 4)) e (λ v f. bytes_kinds (slice_set ws (n / 4) v) (suc n) bs after f)
   where
@@ -194,7 +194,7 @@ then_found (Found s) f g e = e s refl
 then_found (Wrong n) f g e = refl
 then_found (Raises text) f g e = refl
 
-all_as : (ws vs : List Word) → kinds ws ≡ kinds vs → none_refers ws ≡ none_refers vs
+pub all_as : (ws vs : List Word) → kinds ws ≡ kinds vs → none_refers ws ≡ none_refers vs
 all_as [] [] e = refl
 all_as [] (v ∷ vs) e = absurd cc
 all_as (w ∷ ws) [] e = absurd cc
@@ -238,7 +238,7 @@ fits_refers (Address p n) (Refer s) e = absurd cc
 fits_refers (Address p n) (Plain m) e = refl
 fits_refers (Address p n) (Address q at) e = refl
 
-meets_as : (ws : List Word) (j : ℕ) (row after : List Word) → AreAt ws j row → kinds after ≡ kinds row → meets ws j after ≡ Found tt
+pub meets_as : (ws : List Word) (j : ℕ) (row after : List Word) → AreAt ws j row → kinds after ≡ kinds row → meets ws j after ≡ Found tt
 meets_as ws j [] [] a e = refl
 meets_as ws j [] (u ∷ us) a e = absurd cc
 meets_as ws j (v ∷ vs) [] a e = absurd cc
@@ -406,3 +406,6 @@ set_gives row n b old w e f =
 -- Words that are found plain are no references.
 pub words_plain : (ws : List Word) (j n : ℕ) (row : List Word) → plain_words ws j n ≡ Found row → none_refers row ≡ true
 words_plain ws j n row e = ((looked ws j n).found row e).plain
+
+pub words_long : (ws : List Word) (j n : ℕ) (row : List Word) → plain_words ws j n ≡ Found row → length row ≡ n
+words_long ws j n row e = ((looked ws j n).found row e).long

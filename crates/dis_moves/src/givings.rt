@@ -21,7 +21,7 @@ use dis_places::{Halt, Memory, Process, Spot, Word, reach, spot_of, word_number}
 ///
 /// # Errors
 /// The fault that the definition has, or want of memory; then memory is as it was.
-pub(crate) fn finish_words(
+pub fn finish_words(
     memory: &mut Memory,
     process: &mut Process,
     spot: Spot,

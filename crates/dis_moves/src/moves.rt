@@ -1,4 +1,5 @@
-//! Instructions that move so many bytes of plain words (Dis Virtual Machine Specification, the instructions by name): movm, headm.
+//! Instructions that move so many bytes of plain words (Dis Virtual Machine Specification, the instructions by name): movm, headm,
+//! consm.
 
 ghost use Rattle.std.specs.Prelude.{◌≡◌, ◌+◌, ◌/◌, ◌<◌, ◌^◌, ◌&&◌, ℕ, true, None, IfErr, IfOk, OnErr};
 ghost use Rattle.std.specs.Option.{option_map};
@@ -10,19 +11,24 @@ ghost use Rattle.dis_memory.specs.Data as data_moves;
 ghost use Rattle.dis_memory.specs.Lists as lists;
 ghost use Rattle.dis_memory.specs.Places as places;
 ghost use Rattle.dis_memory.specs.Process.{next};
+ghost use Rattle.dis_memory.specs.Naming.{names};
+ghost use Rattle.ref_heap.specs.Store.{AreHeld};
+ghost use Rattle.dis_blocks.specs.Making.{Untouched};
 ghost use Rattle.dis_copies.specs.Spans.{none_refers, put_at};
 ghost use Rattle.dis_kinds.specs.Views.{view_linked};
 ghost use Rattle.dis_moves.specs.Bytes.{bytes_moved};
-ghost use Rattle.dis_moves.specs.Moves.{head_to, moved_from, moved_to};
+ghost use Rattle.dis_moves.specs.Moves.{consed_from, head_to, moved_from, moved_to};
 ghost use Rattle.dis_places.specs.Regions.{words_here};
 ghost use Rattle.dis_places.specs.View.{view_process, view_spot, view_world};
 ghost use Rattle.dis_places.specs.Words.{view_words, GivesFault, Halts};
 ghost use Rattle.dis_results.specs.Going.{Goes};
 
+use crate::blanks::copied_words;
 use crate::bytes::bytes_over;
 use dis_copies::store_plain_words;
 use dis_isa::{Inst, Middle};
 use dis_kinds::{bytes_from, plain_words};
+use dis_lists::cons;
 use dis_makings::go_on;
 use dis_places::{
     Fault, Halt, Memory, Process, Raise, Ref, Region, Spot, Word, byte_number, reach, spot_of,
@@ -43,8 +49,8 @@ fn count_in(memory: &Memory, process: &Process, middle: Middle) -> Result<u32, F
     Ok(n as u32)
 }
 
-// Whether whole words go over whole words.
-fn is_whole(from: usize, to: usize, count: u32) -> bool
+/// Whether whole words go over whole words.
+pub(crate) fn is_whole(from: usize, to: usize, count: u32) -> bool
     ensures { result ≡ (is_whole from && is_whole to && is_whole count) }
 {
     from % 4 == 0 && to % 4 == 0 && count % 4 == 0
@@ -125,8 +131,11 @@ fn finish_plain(
     go_on(process, outcome)
 }
 
-// So many bytes of a region go over what stands in a place.
-fn move_to(
+/// So many bytes of a region's plain words go over what stands in a place, and the process goes on.
+///
+/// # Errors
+/// The fault that the definition has, or want of memory; then nothing has changed.
+pub fn move_to(
     alloc: Global,
     memory: &mut Memory,
     process: &mut Process,
@@ -269,6 +278,59 @@ pub fn headm(
     };
     match spot_of(memory, process, inst.dst) {
         Ok(spot) => head_to(alloc, memory, process, spot, first, count),
+        Err(halt) => Err(halt),
+    }
+}
+
+// A cell with so many bytes of a place in front of the list that the destination has.
+fn cons_from(
+    alloc: Global,
+    memory: &mut Memory,
+    process: &mut Process,
+    inst: Inst,
+    spot: Spot,
+) -> Result<(), Halt>
+    requires place { process.old.frame.pc + 1 < 2 ^ 64 }
+    requires held { AreHeld memory.old.heap (names (view_process process.old)) }
+    ensures goes { (o : Object) → Goes memory.old process.old result
+        (consed_from o (view_world memory.old) (view_process process.old) inst (view_spot spot)) memory.new process.new }
+    ensures kept { OnErr result (Untouched memory.old process.old memory.new process.new) }
+{
+    memory.heap.stands();
+    let source = match reach(memory, process, spot) {
+        Ok(source) => source,
+        Err(fault) => return Err(Halt::Fault(fault)),
+    };
+    let from = match byte_number(spot.byte()) {
+        Ok(from) => from,
+        Err(fault) => return Err(Halt::Fault(fault)),
+    };
+    let count = match count_in(memory, process, inst.middle) {
+        Ok(count) => count,
+        Err(fault) => return Err(Halt::Fault(fault)),
+    };
+    match copied_words(alloc, memory, process, source, from, count) {
+        Ok(words) => cons(alloc, memory, process, inst, &words),
+        Err(halt) => Err(halt),
+    }
+}
+
+/// `consm`: a cell with so many bytes of the source's plain words, as the middle says, in front of the list that the destination has.
+pub fn consm(
+    alloc: Global,
+    memory: &mut Memory,
+    process: &mut Process,
+    inst: Inst,
+) -> Result<(), Halt>
+    requires place { process.old.frame.pc + 1 < 2 ^ 64 }
+    requires held { AreHeld memory.old.heap (names (view_process process.old)) }
+    ensures goes { (o : Object) → Goes memory.old process.old result
+        (lists.consm o (view_world memory.old) (view_process process.old) inst) memory.new process.new }
+    ensures kept { OnErr result (Untouched memory.old process.old memory.new process.new) }
+{
+    memory.heap.stands();
+    match spot_of(memory, process, inst.src) {
+        Ok(spot) => cons_from(alloc, memory, process, inst, spot),
         Err(halt) => Err(halt),
     }
 }

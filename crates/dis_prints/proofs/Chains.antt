@@ -1,5 +1,5 @@
 -- Changes that follow one another, and stores that raise nothing.
-use Rattle.std.proofs.Common.{◌≡◌, ℕ, ℤ, ◌+◌, ◌≤◌, Bool, true, false, List, [], ◌∷◌, Option, Some, None, refl, sym, ap, ◌∙◌, subst, arith, if◌then◌else◌}
+use Rattle.std.proofs.Common.{◌≡◌, ℕ, ℤ, ◌+◌, ◌≤◌, Bool, true, false, List, [], ◌∷◌, Option, Some, None, refl, ap, ◌∙◌, subst, arith, if◌then◌else◌}
 use Rattle.std.specs.Prelude.{pos, negsuc, slice_get, slice_set, ◌%◌, ◌/◌, ◌==◌, nat_eq}
 use Rattle.heap_model.specs.Heap as heap_list
 use Rattle.heap_model.specs.Heap.{stays}
@@ -8,7 +8,7 @@ use Rattle.ref_heap.specs.declared.kind.Kind.{Kind}
 use Rattle.ref_heap.specs.declared.kind.Kind.TheVariants as kind
 use Rattle.ref_heap.specs.Words.{Content}
 use Rattle.ref_heap.specs.Store.{AreHeld, outside}
-use Rattle.dis_meaning.specs.Words.{Place, InBlock, InFrame, Word, Refer, Access, Found, Wrong, Raises, ◌>>=◌, type_check, dead_address, or_wrong, fits, stored, replaced, word_number}
+use Rattle.dis_meaning.specs.Words.{Place, InBlock, InFrame, Word, Refer, Access, Found, Wrong, Raises, ◌>>=◌, type_check, dead_address, or_wrong, fits, stored, word_number}
 use Rattle.dis_meaning.specs.Process as view
 use Rattle.dis_meaning.specs.Process.{Frame}
 use Rattle.dis_meaning.specs.Places.{Spot, Far, words_in, all_frames}

@@ -6,7 +6,6 @@ use Rattle.std.proofs.lemmas.Bool.{eqb-true}
 use Rattle.std.proofs.lemmas.Option.{slice_get-map}
 use Rattle.process_model.specs.Process.{Went}
 use Rattle.system_model.specs.Prints as prints
-use Rattle.system_model.specs.World as outside
 use Rattle.dis_meaning.specs.Words.{Place, InBlock, InFrame, Word, Access, Found, Wrong, Raises, ◌>>=◌, dead_address, stored}
 use Rattle.dis_meaning.specs.Process.{Frame, Process, with_words, with_frames}
 use Rattle.dis_meaning.specs.Places.{Spot, Far, words_in, all_frames, change, with_frame_words, place_in}
@@ -24,13 +23,13 @@ use Rattle.dis_places.specs.Frames.{view_frame, view_frames, one, count}
 use Rattle.dis_places.specs.Regions.{words_here, words_in as region_words}
 use Rattle.ref_heap.specs.Store.{Store}
 use Rattle.dis_places.specs.View.{view_process}
-use Rattle.dis_places.specs.Words.{view_words, Halts}
+use Rattle.dis_places.specs.Words.{Halts}
 use Rattle.dis_places.proofs.Serials.{which, count_reverse, count_at, words_past, no_words}
 use Rattle.dis_stores.specs.Storing.{rested, settled}
 use Rattle.dis_stores.proofs.Written.{once, seen}
 use Rattle.dis_results.specs.Going.{moved_on}
 use Rattle.dis_prints.specs.Discarded.{discarded, is_frame}
-use Rattle.dis_prints.specs.Plans.{Target, answer_target, planned, carried_out}
+use Rattle.dis_prints.specs.Plans.{answer_target, planned, carried_out}
 
 -- ---- frames without those of a serial
 

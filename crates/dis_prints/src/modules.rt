@@ -50,7 +50,8 @@ fn is_print(name: &Text) -> bool
 // The object has an import table of this number.
 fn has_table(object: &Object, number: u32) -> Result<(), Fault>
     ensures there { IfOk result (λ _. number < length object.now.imports) }
-    ensures wrong { IfErr result (λ f. words.or_wrong words.type_check (slice_get object.now.imports number) ≡ words.Wrong (number_of f)) }
+    ensures wrong { IfErr result (λ f.
+        words.or_wrong words.type_check (slice_get object.now.imports number) ≡ words.Wrong (number_of f)) }
 {
     if (number as usize) < object.imports.len() {
         Ok(())
@@ -135,9 +136,10 @@ fn loaded_module(reference: Option<Ref>) -> Result<Ref, Halt>
 
 // The names to which a module is linked.
 fn names_of(memory: &Memory, module: Ref) -> Result<u32, Fault>
-    ensures linked { IfOk result (λ n. blocks.block (view_world memory.now) module.serial ≡ words.Found (blocks.Sys (names_by memory.now.tables n))) }
-    ensures wrong { (k : ℕ) → IfErr result (λ f. words.◌>>=◌ (blocks.block (view_world memory.now) module.serial) (λ b. control.function_of b k)
-        ≡ words.Wrong (number_of f)) }
+    ensures linked { IfOk result (λ n.
+        blocks.block (view_world memory.now) module.serial ≡ words.Found (blocks.Sys (names_by memory.now.tables n))) }
+    ensures wrong { (k : ℕ) → IfErr result (λ f.
+        words.◌>>=◌ (blocks.block (view_world memory.now) module.serial) (λ b. control.function_of b k) ≡ words.Wrong (number_of f)) }
 {
     memory.heap.stands();
     match memory.heap.kind_of(module) {

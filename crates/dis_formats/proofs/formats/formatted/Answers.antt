@@ -12,8 +12,8 @@ use Rattle.dis_formats.proofs.Parts.{character_told}
 use Rattle.dis_formats.proofs.Fronts.{front_halts}
 use Rattle.dis_formats.proofs.formats.formatted.Goals as goal
 
-pub loop-c-preserved-then-c-from : goal.loop-c-preserved-then-c-from
-loop-c-preserved-then-c-from c =
+pub loop-c-preserved-then-c-ne-PERCENT : goal.loop-c-preserved-then-c-ne-PERCENT
+loop-c-preserved-then-c-ne-PERCENT c =
     let x = view_world c.args.memory.now in
     let words = words_here c.args.memory.now.heap c.args.process.now c.args.region in
     let from = 4 * c.loop-c.next in

@@ -3,7 +3,6 @@ use Rattle.std.specs.Prelude.{Ok}
 use Rattle.ref_heap.specs.Words.{cell_of, cells, naming, wide}
 use Rattle.dis_meaning.specs.Words.{Found, ◌>>=◌}
 use Rattle.dis_memory.specs.Blocks.{Sys}
-use Rattle.dis_memory.specs.Process.{next}
 use Rattle.dis_memory.specs.Results.{gives_block_at}
 use Rattle.dis_places.specs.Blocks.{names_by}
 use Rattle.dis_places.specs.View.{view_process, view_spot, view_world}

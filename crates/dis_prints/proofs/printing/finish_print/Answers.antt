@@ -1,16 +1,14 @@
-use Rattle.std.proofs.Common.{◌≡◌, ap, sym, ◌∙◌, subst, w32, w64, to_z, of_z, arith}
+use Rattle.std.proofs.Common.{ap, sym, ◌∙◌, subst, w32, w64, to_z, of_z, arith}
 use Rattle.std.proofs.lemmas.Int.{to_z-of_z}
 use Rattle.process_model.specs.Process.{Went}
-use Rattle.ref_heap.specs.declared.word.Word.TheVariants as word
 use Rattle.sys_print.specs.Worlds as outside
-use Rattle.dis_meaning.specs.Words.{Word, Plain, Found}
-use Rattle.dis_meaning.specs.Places.{Spot, Far}
+use Rattle.dis_meaning.specs.Words.{Plain, Found}
+use Rattle.dis_meaning.specs.Places.{Far}
 use Rattle.dis_memory.specs.Control.{with_outside}
 use Rattle.dis_memory.specs.Naming.{names}
 use Rattle.dis_memory.specs.Places as places
-use Rattle.dis_places.specs.declared.spots.Spot.TheVariants as spot
-use Rattle.dis_places.specs.View.{view_place, view_process, view_spot, view_world}
-use Rattle.dis_places.specs.Words.{view_word, Halts}
+use Rattle.dis_places.specs.View.{view_place, view_process, view_world}
+use Rattle.dis_places.specs.Words.{Halts}
 use Rattle.dis_stores.specs.Storing.{rested}
 use Rattle.dis_results.specs.Going.{moved_on}
 use Rattle.dis_prints.proofs.Chains.{settles_twice}
