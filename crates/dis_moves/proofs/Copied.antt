@@ -1,6 +1,6 @@
 -- Plain words that are copied into words of their own.
-use Rattle.std.proofs.Common.{◌≡◌, ℕ, pos, zero, suc, ◌+◌, ◌-◌, ◌*◌, ◌/◌, ◌%◌, ◌^◌, ◌<◌, Bool, true, false, List, [], ◌∷◌, length, None, Some, Result, Ok, Err, IfOk, refl, sym, ap, ◌∙◌, subst, arith, rules, if◌then◌else◌, ◌&&◌, not}
-use Rattle.std.specs.Prelude.{slice_set, slice_get, ◌==◌, Vec}
+use Rattle.std.proofs.Common.{◌≡◌, ℕ, pos, zero, suc, ◌+◌, ◌-◌, ◌*◌, ◌/◌, ◌%◌, ◌^◌, ◌<◌, Bool, true, false, List, [], ◌∷◌, length, None, Result, Ok, Err, IfOk, refl, sym, ap, ◌∙◌, arith, rules, if◌then◌else◌, ◌&&◌, not}
+use Rattle.std.specs.Prelude.{slice_set, ◌==◌, Vec}
 use Rattle.std.specs.Global.{Global}
 use Rattle.std.proofs.Math.Nat.{div-add-mod, zero-div}
 use Rattle.dis_file.specs.declared.types.TypeDesc.{TypeDesc}
@@ -10,7 +10,7 @@ use Rattle.dis_meaning.specs.Words.{Word, Plain, Refer, Access, Found, ◌>>=◌
 use Rattle.dis_memory.specs.Copies.{is_whole, bytes_from, moved, plain_words, put, put_bytes}
 use Rattle.dis_memory.specs.Lists.{plain_type}
 use Rattle.dis_places.specs.declared.fault.Halt.{Halt}
-use Rattle.dis_places.specs.Words.{view_words, Gives, Halts}
+use Rattle.dis_places.specs.Words.{view_words, Gives}
 use Rattle.dis_stores.proofs.Blocks.{halts_on, halts_same}
 use Rattle.dis_copies.specs.Spans.{is_refer, kinds, none_refers, over}
 use Rattle.dis_copies.proofs.Overs.{put_over}

@@ -1,5 +1,5 @@
 -- Words and bytes that go over others.
-use Rattle.std.proofs.Common.{◌≡◌, ℕ, ℤ, pos, zero, suc, ◌+◌, ◌*◌, ◌/◌, ◌%◌, ◌<◌, Bool, true, false, List, [], ◌∷◌, length, Option, Some, None, Result, Ok, Err, IfOk, IfErr, refl, sym, ap, ◌∙◌, subst, arith, if◌then◌else◌, ◌&&◌}
+use Rattle.std.proofs.Common.{◌≡◌, ℕ, pos, zero, suc, ◌+◌, ◌/◌, ◌%◌, ◌<◌, Bool, true, false, List, [], ◌∷◌, length, Option, Some, None, Result, Ok, Err, IfOk, IfErr, refl, sym, ap, ◌∙◌, arith, if◌then◌else◌, ◌&&◌}
 use Rattle.std.specs.Prelude.{slice_get, slice_index, Vec}
 use Rattle.std.specs.Global.{Global}
 use Rattle.std.proofs.lemmas.Nat.{div-mul-add, mod-mul-add}
@@ -8,14 +8,14 @@ use Rattle.limbo_values.specs.declared.number.Kind.TheVariants.{Byte}
 use Rattle.ref_heap.specs.declared.word.Word as code_word
 use Rattle.ref_heap.specs.Words.{Cell, cells}
 use Rattle.ref_heap.specs.Store.{Block}
-use Rattle.dis_meaning.specs.Words.{Word, Access, Found, Wrong, Raises, ◌>>=◌, type_check, or_wrong, plain, at_least_zero, number_in}
+use Rattle.dis_meaning.specs.Words.{Word, Access, Found, Wrong, Raises, ◌>>=◌, type_check, or_wrong, plain, at_least_zero}
 use Rattle.dis_meaning.specs.Numbers.{number_at, nth_number, bytes_of}
 use Rattle.dis_meaning.specs.Process.{Process}
 use Rattle.dis_meaning.specs.Places.{Spot, place_in}
 use Rattle.dis_memory.specs.Blocks.{World}
 use Rattle.dis_memory.specs.Copies.{byte_of, bytes_from, is_whole, moved, plain_words, put, put_bytes}
 use Rattle.dis_memory.specs.Places.{words_at, with_words_at}
-use Rattle.dis_memory.specs.Process.{Does, next}
+use Rattle.dis_memory.specs.Process.{next}
 use Rattle.dis_places.specs.declared.fault.Halt.{Halt}
 use Rattle.dis_places.specs.Blocks.{behind_first}
 use Rattle.dis_places.specs.Regions.{block_words}
@@ -25,7 +25,7 @@ use Rattle.dis_stores.proofs.Blocks.{halts_on, halts_same}
 use Rattle.dis_copies.specs.Spans.{none_refers, put_at}
 use Rattle.dis_moves.specs.Bytes.{bytes_moved}
 use Rattle.dis_moves.specs.Moves.{moved_to}
-use Rattle.dis_moves.proofs.Chains.{as_put, under}
+use Rattle.dis_moves.proofs.Chains.{as_put}
 use Rattle.dis_moves.proofs.Windows.{words_plain}
 
 -- As many bytes are found as are asked for.

@@ -1,12 +1,11 @@
 -- Bytes that go over those of words: the words in which they lie, and no others, have to be looked at.
-use Rattle.std.proofs.Common.{◌≡◌, ℕ, ℤ, pos, zero, suc, ◌+◌, ◌*◌, ◌/◌, ◌%◌, ◌-◌, ◌≤◌, ◌<◌, Bool, true, false, List, [], ◌∷◌, length, Option, Some, None, ◌⊎◌, inl, inr, refl, sym, ap, ◌∙◌, subst, arith, add-zero, if◌then◌else◌}
+use Rattle.std.proofs.Common.{◌≡◌, ℕ, ℤ, pos, zero, suc, ◌+◌, ◌*◌, ◌/◌, ◌%◌, ◌≤◌, ◌<◌, Bool, true, false, List, [], ◌∷◌, length, Option, Some, None, ◌⊎◌, inl, inr, refl, sym, ap, ◌∙◌, subst, arith, add-zero, if◌then◌else◌}
 use Rattle.std.specs.Prelude.{slice_get, slice_set, not, ◌&&◌}
 use Rattle.std.proofs.lemmas.Nat.{div-mul-add, mod-mul-add}
-use Rattle.std.proofs.lemmas.Option.{slice_get_within}
 use Rattle.std.proofs.Math.Nat.{div-add-mod}
 use Rattle.limbo_values.specs.declared.number.Kind.TheVariants.{Byte}
 use Rattle.dis_meaning.specs.Words.{Word, Plain, Refer, Address, Access, Found, Wrong, Raises, ◌>>=◌, type_check, or_wrong, fits, number_in, plain, replaced}
-use Rattle.dis_meaning.specs.Numbers.{nth_number, number_at, with_number_at, with_byte}
+use Rattle.dis_meaning.specs.Numbers.{nth_number, with_number_at, with_byte}
 use Rattle.dis_memory.specs.Copies.{plain_words, put, put_bytes}
 use Rattle.dis_copies.specs.Spans.{is_refer, kinds, meets, none_refers, over}
 use Rattle.dis_copies.proofs.Overs.{put_over}

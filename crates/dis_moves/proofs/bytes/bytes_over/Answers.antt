@@ -1,4 +1,4 @@
-use Rattle.std.proofs.Common.{◌≡◌, length, ◌/◌, ◌%◌, ap, ◌∙◌, rules}
+use Rattle.std.proofs.Common.{◌≡◌, length, ◌/◌, ap, ◌∙◌, rules}
 use Rattle.dis_meaning.specs.Words.{Found, ◌>>=◌}
 use Rattle.dis_memory.specs.Copies.{plain_words}
 use Rattle.dis_copies.specs.Spans.{over}

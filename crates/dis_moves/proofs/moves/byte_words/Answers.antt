@@ -1,4 +1,4 @@
-use Rattle.std.proofs.Common.{◌≡◌, length, sym, ap, ◌∙◌, arith}
+use Rattle.std.proofs.Common.{length, ap, arith}
 use Rattle.dis_places.specs.Regions.{words_here}
 use Rattle.dis_moves.proofs.Moved.{bytes_long, over_fault, over_put}
 use Rattle.dis_moves.proofs.moves.byte_words.Goals as goal

@@ -1,4 +1,4 @@
-use Rattle.std.proofs.Common.{◌≡◌, true, sym, ap, ◌∙◌, rules}
+use Rattle.std.proofs.Common.{◌≡◌, sym, ap, ◌∙◌, rules}
 use Rattle.limbo_values.specs.declared.number.Kind.TheVariants.{Int}
 use Rattle.dis_meaning.specs.Places.{place_in}
 use Rattle.dis_meaning.specs.Words.{Found, ◌>>=◌, at_least_zero, blank}

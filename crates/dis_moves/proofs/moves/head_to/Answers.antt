@@ -3,7 +3,6 @@ use Rattle.std.specs.Option.{option_map}
 use Rattle.ref_heap.specs.Store.{at}
 use Rattle.dis_meaning.specs.Places.{place_in}
 use Rattle.dis_meaning.specs.Words.{Found, ◌>>=◌, at_least_zero}
-use Rattle.dis_memory.specs.Copies.{moved}
 use Rattle.dis_memory.specs.Places.{words_at, with_words_at}
 use Rattle.dis_memory.specs.Process.{next}
 use Rattle.dis_kinds.specs.Views.{view_linked}
