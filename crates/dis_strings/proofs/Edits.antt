@@ -1,6 +1,6 @@
 -- Strings that are edited in place, and become the next block.
 use Rattle.std.proofs.Common.{◌≡◌, ℕ, zero, suc, ◌+◌, ◌-◌, ◌<◌, Bool, true, false, List, [], ◌∷◌, ◌++◌, map, length, Some, None, Ok, ◌⊎◌, inl, inr, refl, sym, ap, ◌∙◌, subst, arith}
-use Rattle.std.specs.Prelude.{◌==◌, if◌then◌else◌, slice_get, slice_set, Result, Err, IfOk, OnErr}
+use Rattle.std.specs.Prelude.{◌==◌, if◌then◌else◌, slice_get, slice_set, Result, Err, IfOk, OnErr, OnOk}
 use Rattle.std.proofs.lemmas.Bool.{cases_eq, eqb-true}
 use Rattle.std.proofs.lemmas.List.{length-map}
 use Rattle.ref_heap.specs.Answers.{answer_for, fits_there, set_answer}
@@ -11,6 +11,7 @@ use Rattle.ref_heap.proofs.Put.{at_with_block}
 use Rattle.ref_heap.proofs.Renew.{at_without}
 use Rattle.dis_memory.specs.Strings.{with_character}
 use Rattle.dis_places.specs.Blocks.{is_proper, AreProper}
+use Rattle.ref_heap.specs.declared.kind.HeapFault.{HeapFault}
 use Rattle.ref_heap.specs.declared.word.Ref.{Ref}
 use Rattle.dis_places.specs.declared.fault.Halt.{Halt}
 use Rattle.dis_strings.specs.Renewing.{HasText, IsAnew, IsEdited}
@@ -47,7 +48,7 @@ with_apart s k c ne = go (k == length s) refl
     go false e = refl
 
 module _ (h h1 : Store) (k : ℕ) (s t : List ℕ) (e : IsEdited h h1 k s t) where
-  abbrev now : Block
+  abbrev pub now : Block
   now = with_content e.before.block (compact t)
 
   pub edited_live : at h1 k ≡ Some now
@@ -79,6 +80,22 @@ module _ (h h1 : Store) (k : ℕ) (s t : List ℕ) (e : IsEdited h h1 k s t) whe
     is = is ∙ ap (λ h. with_new (without_block h k) now) e.is;
     outside = λ n. let a = out n in let b = e.outside n in omega (arith, a, b);
   }
+
+  edited_proper : AreProper h → AreProper h1
+  edited_proper p n b is = go (cases_eq n k)
+    where
+      here : at (with_block h k now) n ≡ Some b
+      here = sym (ap (λ h. at h n) e.is) ∙ is
+
+      go : (n ≡ k) ⊎ (n ≡ k → ⊥) → is_proper b.kind b.content ≡ true
+      go (inl same) =
+          let a : Some b ≡ Some now = sym here ∙ ap (at (with_block h k now)) same ∙ (at_with_block h k now).here in let is : b ≡ now = cc in
+          ap (λ (b : Block). is_proper b.kind b.content) is ∙ ap (λ k. is_proper k (compact t)) e.before.kind
+      go (inr ne) = p n b (sym ((at_with_block h k now).apart n ne) ∙ here)
+
+pub edited_keeps : (h h1 : Store) (k : ℕ) (s t : List ℕ) (r : Result (Unit {0}) Halt) → IfOk r (λ _. IsEdited h h1 k s t) → OnErr r (h1 ≡ h) → AreProper h → AreProper h1
+edited_keeps h h1 k s t (Ok u) e f p = edited_proper h h1 k s t e p
+edited_keeps h h1 k s t (Err halt) e f p = subst AreProper (sym f) p
 
 -- ---- the next block
 
@@ -123,3 +140,31 @@ module _ (h h2 : Store) (k k' : ℕ) (s t : List ℕ) (e : IsAnew h h2 k k' s t)
 pub anew_keeps : (h h2 : Store) (k : ℕ) (s t : List ℕ) (r : Result Ref Halt) → IfOk r (λ r. IsAnew h h2 k r.serial s t) → OnErr r (h2 ≡ h) → AreProper h → AreProper h2
 anew_keeps h h2 k s t (Ok r) e f p = anew_proper h h2 k r.serial s t e p
 anew_keeps h h2 k s t (Err halt) e f p = subst AreProper (sym f) p
+
+module _ (h h3 : Store) (k : ℕ) (b : Block) (e : h3 ≡ with_new (without_block h k) b) (q : is_proper b.kind b.content ≡ true) where
+  renewed : Changed (at (without_block h k)) (at (with_new (without_block h k) b)) h.made (Some b)
+  renewed = at_with_block (record (without_block h k) { made = h.made + 1 }) h.made b
+
+  renewed_proper : AreProper h → AreProper h3
+  renewed_proper p n c is = go (cases_eq n h.made)
+    where
+      here : at (with_new (without_block h k) b) n ≡ Some c
+      here = sym (ap (λ h. at h n) e) ∙ is
+
+      go : (n ≡ h.made) ⊎ (n ≡ h.made → ⊥) → is_proper c.kind c.content ≡ true
+      go (inl same) =
+          let a : Some c ≡ Some b = sym here ∙ ap (at (with_new (without_block h k) b)) same ∙ renewed.here in let is : c ≡ b = cc in
+          ap (λ (b : Block). is_proper b.kind b.content) is ∙ q
+      go (inr ne) = at_old (cases_eq n k)
+        where
+          left : at (without_block h k) n ≡ Some c
+          left = sym (renewed.apart n ne) ∙ here
+
+          at_old : (n ≡ k) ⊎ (n ≡ k → ⊥) → is_proper c.kind c.content ≡ true
+          at_old (inl same) = let a : None ≡ Some c = sym (ap (at (without_block h k)) same ∙ (at_without h k).here) ∙ left in absurd cc
+          at_old (inr nk) = p n c (sym ((at_without h k).apart n nk) ∙ left)
+
+pub renewed_keeps : (h h3 : Store) (k : ℕ) → IsSole h k → (r : Result Ref HeapFault) → ((b : Block) → at h k ≡ Some b → OnOk r (h3 ≡ with_new (without_block h k) b)) →
+    OnErr r (h3 ≡ h) → AreProper h → AreProper h3
+renewed_keeps h h3 k sole (Ok r) e f p = renewed_proper h h3 k sole.block (e sole.block sole.live) (p k sole.block sole.live) p
+renewed_keeps h h3 k sole (Err fault) e f p = subst AreProper (sym f) p

@@ -2,6 +2,9 @@ pub mod Made
 pub mod Edits
 pub mod Viewed
 pub mod Owned
+pub mod Sets
+pub mod InBlocks
 pub mod Renewed
 pub mod Joined
 pub mod Changing
+pub mod Moving

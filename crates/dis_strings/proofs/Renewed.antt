@@ -1,5 +1,5 @@
 -- A string that became the next block, to which a word of a frame refers.
-use Rattle.std.proofs.Common.{◌≡◌, ℕ, zero, suc, ◌+◌, ◌-◌, ◌≤◌, ◌<◌, true, List, [], ◌∷◌, ◌++◌, map, length, Option, Some, None, Ok, ◌⊎◌, inl, inr, cond, refl, sym, ap, ◌∙◌, arith}
+use Rattle.std.proofs.Common.{◌≡◌, ℕ, zero, suc, ◌+◌, ◌-◌, ◌≤◌, ◌<◌, true, List, [], ◌∷◌, ◌++◌, map, length, Some, None, Ok, ◌⊎◌, inl, inr, cond, refl, sym, ap, ◌∙◌, arith}
 use Rattle.std.specs.Prelude.{slice_set, eqb, Bool, false}
 use Rattle.std.specs.Option.{option_map}
 use Rattle.std.proofs.lemmas.Bool.{cases_eq, eqb-true}
@@ -38,21 +38,13 @@ use Rattle.dis_blocks.proofs.Made.{refer_named, view_length}
 use Rattle.dis_strings.specs.Renewing.{in_frame, IsAnew}
 use Rattle.dis_strings.proofs.Edits.{edited, emptied, next}
 use Rattle.dis_strings.proofs.Owned.{read_framed, store_framed}
+use Rattle.dis_strings.proofs.Sets.{none_live, set_front}
 use Rattle.dis_strings.proofs.Viewed.{view_named}
-
-set_front : {A : Type 0} (xs ys : List A) (k : ℕ) (a : A) → k < length xs → slice_set (xs ++ ys) k a ≡ slice_set xs k a ++ ys
-set_front [] ys k a lt = absurd (omega (arith, lt))
-set_front (x ∷ xs) ys zero a lt = refl
-set_front (x ∷ xs) ys (suc k) a lt = ap (λ zs. x ∷ zs) (set_front xs ys k a (omega (arith, lt)))
 
 longer : {A : Type 0} (xs : List A) (a : A) (k : ℕ) → k < length xs → k < length (xs ++ a ∷ [])
 longer [] a k lt = absurd (omega (arith, lt))
 longer (x ∷ xs) a zero lt = omega arith
 longer (x ∷ xs) a (suc k) lt = let r = longer xs a k (omega (arith, lt)) in omega (arith, r)
-
-none_live : {A B : Type 0} (f : A → B) (o : Option A) → option_map f o ≡ None → o ≡ None
-none_live f None e = refl
-none_live f (Some a) e = absurd cc
 
 -- ---- the heap, as the definition has it
 
@@ -144,12 +136,9 @@ module _ (m m3 : Memory) (h2 : Store) (p p1 : Process) (d : Spot) (k : ℕ) (r :
   )
 
 -- The reference of the next block is held.
-pub anew_held : (h h2 : Store) (k k' : ℕ) (s u : List ℕ) → IsAnew h h2 k k' s u → IsHeap h → AreHeld h2 (one k')
-anew_held h h2 k k' s u e ok n = go (cases_eq n k)
+pub next_held : (h h2 : Store) (k k' : ℕ) → ((n : ℕ) → outside h2 n + one k n ≡ outside h n + one k' n) → (k ≡ k' → ⊥) → AreHeld h2 (one k')
+next_held h h2 k k' out apart n = go (cases_eq n k)
   where
-    apart : k ≡ k' → ⊥
-    apart same = let a = ok.bounded k e.before.block e.before.live in let b = e.serial in omega (arith, a, b, same)
-
     go : (n ≡ k) ⊎ (n ≡ k → ⊥) → one k' n ≤ outside h2 n
     go (inl same) = none (eqb k' n) refl
       where
@@ -160,4 +149,8 @@ anew_held h h2 k k' s u e ok n = go (cases_eq n k)
       where
         none : (b : Bool) → eqb k n ≡ b → one k' n ≤ outside h2 n
         none true is = absurd (ne (sym (eqb-true k n is)))
-        none false is = let a = e.outside n in let b : one k n ≡ 0 = ap (λ b. cond b 1 0) is in omega (arith, a, b)
+        none false is = let a = out n in let b : one k n ≡ 0 = ap (λ b. cond b 1 0) is in omega (arith, a, b)
+
+pub anew_held : (h h2 : Store) (k k' : ℕ) (s u : List ℕ) → IsAnew h h2 k k' s u → IsHeap h → AreHeld h2 (one k')
+anew_held h h2 k k' s u e ok =
+    next_held h h2 k k' e.outside (λ same. let a = ok.bounded k e.before.block e.before.live in let b = e.serial in omega (arith, a, b, same))

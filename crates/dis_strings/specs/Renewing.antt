@@ -67,10 +67,9 @@ pub record IsAnew (old new : Store) (k k' : ℕ) (s t : List ℕ) : Type 0 where
       (with_content before.block (compact t))
   pub outside : (n : ℕ) → outside new n + one k n ≡ outside old n + one k' n
 
--- A word of a frame has the only reference to a string, of which an edit makes these characters.
+-- A word has the only reference to a string, of which an edit makes these characters.
 pub record IsOwn (m : Memory) (p : code_process.Process) (d : code_spot.Spot) (r : Ref) (edit : Edit) (t : List ℕ) : Type 0 where
   pub there : read (view_world m) (view_process p) (view_spot d) ≡ Found (Refer (Some r.serial))
-  pub frame : in_frame (view_spot d) ≡ true
   pub may : MayRenew m.heap r.serial
   pub before : List ℕ
   pub text : HasText m.heap r.serial before

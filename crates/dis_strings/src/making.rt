@@ -86,7 +86,7 @@ fn joining(
         Err(raised) => return Err(Halt::Raises(Raise::Value(raised))),
     }
     if are_same(left, here) {
-        if let Some(block) = own_block(memory, spot, here) {
+        if let Some(block) = own_block(memory, here) {
             return match Vec::from_slice(alloc, back) {
                 Ok(more) => Ok(Change::Renew(block, Edit::Append(more))),
                 Err(_) => Err(Halt::NoMemory),
@@ -196,7 +196,7 @@ fn inserting(
         Err(raise) => return Err(Halt::Raises(raise)),
     };
     let code = character(code) as u32;
-    match own_block(memory, spot, here) {
+    match own_block(memory, here) {
         Some(block) => Ok(Change::Renew(block, Edit::Insert(k, code))),
         None => match with_character(alloc, text, k, code) {
             Ok(changed) => Ok(Change::Make(changed)),

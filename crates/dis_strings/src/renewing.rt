@@ -1,6 +1,6 @@
-//! Strings that change in place, where a word of a frame has the only reference to them.
+//! Strings that change in place, where a word has the only reference to them.
 
-ghost use Rattle.std.specs.Prelude.{◌≡◌, ◌+◌, ◌<◌, ◌≤◌, ◌^◌, ℕ, List, Some, length, slice_set, true, ◌++◌, IfErr, IfOk, IfSome, OnErr};
+ghost use Rattle.std.specs.Prelude.{◌≡◌, ◌+◌, ◌<◌, ◌≤◌, ◌^◌, ℕ, List, Some, length, slice_set, true, false, ◌++◌, IfErr, IfOk, IfSome, OnErr};
 ghost use Rattle.ref_heap.specs.Answers.{most};
 ghost use Rattle.ref_heap.specs.Store.{AreHeld, IsSole};
 ghost use Rattle.dis_meaning.specs.Words as words;
@@ -149,6 +149,7 @@ fn edit_own(
 ) -> Result<(), Halt>
     requires place { process.old.frame.pc + 1 < 2 ^ 64 }
     requires held { AreHeld memory.old.heap (names (view_process process.old)) }
+    requires frame { in_frame (view_spot spot) ≡ true }
     requires own { (t : List ℕ) × IsOwn memory.old process.old spot block change t }
     ensures goes { (t : List ℕ) → IsOwn memory.old process.old spot block change t → Goes memory.old process.old result
         (gives_block_at (view_world memory.old) (view_process process.old) (view_spot spot) (words.Found (blocks.Text t)))
@@ -170,21 +171,83 @@ fn edit_own(
     }
 }
 
-/// The block to which a word has the only reference, if that word is one of a frame.
-pub(crate) fn own_block(memory: &Memory, spot: Spot, reference: Option<Ref>) -> Option<Ref>
+// Changes the string to which a word of a block has the only reference. That word is nil until the string is the next block, to which it
+// refers from then on.
+fn edit_held(
+    memory: &mut Memory,
+    process: &mut Process,
+    spot: Spot,
+    block: Ref,
+    change: Edit,
+) -> Result<(), Halt>
+    requires place { process.old.frame.pc + 1 < 2 ^ 64 }
+    requires block { in_frame (view_spot spot) ≡ false }
+    requires own { (t : List ℕ) × IsOwn memory.old process.old spot block change t }
+    ensures goes { (t : List ℕ) → IsOwn memory.old process.old spot block change t → Goes memory.old process.old result
+        (gives_block_at (view_world memory.old) (view_process process.old) (view_spot spot) (words.Found (blocks.Text t)))
+        memory.new process.new }
+    ensures kept { OnErr result ((memory.new ≡ memory.old) × (process.new ≡ process.old)) }
+{
+    memory.heap.stands();
+    match apply(&mut memory.heap, block, change) {
+        Ok(()) => {}
+        Err(halt) => return Err(halt),
+    }
+    match put(memory, process, spot, Word::Refer(None)) {
+        Ok(_) => {}
+        Err(_) => unreachable!(),
+    }
+    memory.heap.stands();
+    let renewed = match memory.heap.renew(block) {
+        Ok(renewed) => renewed,
+        Err(_) => unreachable!(),
+    };
+    match put(memory, process, spot, Word::Refer(Some(renewed))) {
+        Ok(_) => {}
+        Err(_) => unreachable!(),
+    }
+    memory.heap.stands();
+    advance(process);
+    Ok(())
+}
+
+/// The block to which a word has the only reference, if one more serial is left.
+pub(crate) fn own_block(memory: &Memory, reference: Option<Ref>) -> Option<Ref>
     ensures is { IfSome result (λ r. reference ≡ Some r) }
-    ensures frame { IfSome result (λ r. in_frame (view_spot spot) ≡ true) }
     ensures may { IfSome result (λ r. MayRenew memory.now.heap r.serial) }
 {
     match reference {
         Some(block) => {
-            if in_frame(spot) && may_renew(&memory.heap, block) {
+            if may_renew(&memory.heap, block) {
                 Some(block)
             } else {
                 None
             }
         }
         None => None,
+    }
+}
+
+// The string to which a word has the only reference changes.
+fn renew_text(
+    memory: &mut Memory,
+    process: &mut Process,
+    spot: Spot,
+    block: Ref,
+    change: Edit,
+) -> Result<(), Halt>
+    requires place { process.old.frame.pc + 1 < 2 ^ 64 }
+    requires held { AreHeld memory.old.heap (names (view_process process.old)) }
+    requires own { (t : List ℕ) × IsOwn memory.old process.old spot block change t }
+    ensures goes { (t : List ℕ) → IsOwn memory.old process.old spot block change t → Goes memory.old process.old result
+        (gives_block_at (view_world memory.old) (view_process process.old) (view_spot spot) (words.Found (blocks.Text t)))
+        memory.new process.new }
+    ensures kept { OnErr result ((memory.new ≡ memory.old) × (process.new ≡ process.old)) }
+{
+    if in_frame(spot) {
+        edit_own(memory, process, spot, block, change)
+    } else {
+        edit_held(memory, process, spot, block, change)
     }
 }
 
@@ -207,7 +270,7 @@ pub(crate) fn give_change(
     ensures kept { OnErr result ((memory.new ≡ memory.old) × (process.new ≡ process.old)) }
 {
     match change {
-        Change::Renew(block, edit) => edit_own(memory, process, spot, block, edit),
+        Change::Renew(block, edit) => renew_text(memory, process, spot, block, edit),
         Change::Make(text) => finish_text(memory, process, spot, text),
     }
 }

@@ -64,7 +64,8 @@ pub(crate) fn with_character(
 /// would be too long.
 pub(crate) fn place_in(text: &[u32], at: i32) -> Result<usize, Raise>
     ensures told { (c : ℕ) → told (λ k. with_character text.now k c) result
-        ≡ words.◌>>=◌ (unless_raised (index_in (suc (length text.now)) at)) (λ k. unless_raised (not_longer (with_character text.now k c))) }
+        ≡ words.◌>>=◌ (unless_raised (index_in (suc (length text.now)) at))
+        (λ k. unless_raised (not_longer (with_character text.now k c))) }
     ensures within { IfOk result (λ k. k ≤ length text.now) }
 {
     match index_in(text.len() + 1, at) {

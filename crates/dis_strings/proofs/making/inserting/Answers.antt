@@ -42,7 +42,6 @@ returns-in-Some c =
           ∙ sym (c.in-Ok-place_in.ensures.told code),
       record {
         there = there_is x (view_process c.args.process.now) (view_spot c.args.spot) (Some block.serial) (c.in-Ok.ensures ∙ ap Found here);
-        frame = c.in-Some.ensures.frame;
         may = c.in-Some.ensures.may;
         before = text;
         text = has_text m block.serial text c.stands.ensures (sym (ap (text_at x) here) ∙ c.in-Ok-text_of.ensures);

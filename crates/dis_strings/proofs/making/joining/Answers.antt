@@ -24,7 +24,6 @@ returns-in-Ok-from_slice c =
           ∙ ap unless_raised (joined_is front back c.in-Ok-joined_len.field-0 (sym c.joined_len.ensures ∙ c.in-Ok-joined_len.is)),
       record {
         there = there_is x (view_process c.args.process.now) (view_spot c.args.spot) (Some block.serial) (c.in-Ok.ensures ∙ ap Found here);
-        frame = c.in-Some.ensures.frame;
         may = c.in-Some.ensures.may;
         before = front;
         text = has_text m block.serial front c.stands.ensures

@@ -17,7 +17,7 @@ edit_anew-requires-clause-sole c =
     let q = view_process c.args.process.now in
     let own = c.requires.own.1 in
     sole_of c.args.memory.now.heap c.args.block.serial (names q) own.may c.requires.held
-    (frame_named (view_world c.args.memory.now) q (view_spot c.args.spot) c.args.block.serial own.frame own.there)
+    (frame_named (view_world c.args.memory.now) q (view_spot c.args.spot) c.args.block.serial c.requires.frame own.there)
 
 pub invariant_of-memory : goal.invariant_of-memory
 invariant_of-memory c =
@@ -50,10 +50,10 @@ returns-clause-goes c =
     let s = own.before in
     let u = edited s c.args.change in
     let k = c.args.block.serial in
-    let sole = sole_of m.heap k (names q) own.may c.requires.held (frame_named x q d k own.frame own.there) in
+    let sole = sole_of m.heap k (names q) own.may c.requires.held (frame_named x q d k c.requires.frame own.there) in
     subst (λ t. Goes m p (Ok tt) (gives_block_at x q d (Found (blocks.Text t))) c.put.new.memory c.advance.new.process) own.is
     (makes_on x q d (blocks.Text u) m c.put.new.memory p c.put.new.process c.advance.new.process
     (renewed_stores m c.put.new.memory c.edit_anew.new.heap p c.put.new.process d k c.in-Ok.renewed c.in-Ok-put.field-0 s u (c.in-Ok.ensures.anew s own.text)
-    c.stands.ensures c.stands-in-Ok-put.ensures sole own.frame own.there
+    c.stands.ensures c.stands-in-Ok-put.ensures sole c.requires.frame own.there
     c.in-Ok-put.ensures.gives c.in-Ok-put.ensures.stood c.in-Ok-put.ensures.exchanges c.in-Ok-put.ensures.tables)
     c.advance.ensures)
