@@ -1,6 +1,7 @@
 //! Strings that change in place, where a word has the only reference to them.
 
-ghost use Rattle.std.specs.Prelude.{◌≡◌, ◌+◌, ◌<◌, ◌≤◌, ◌^◌, ℕ, List, Some, length, slice_set, true, false, ◌++◌, IfErr, IfOk, IfSome, OnErr};
+ghost use Rattle.std.specs.Prelude.{◌≡◌, ◌+◌, ◌<◌, ◌≤◌, ◌^◌, ◌++◌, ℕ, List, length, slice_set, Some, true, false};
+ghost use Rattle.std.specs.Prelude.{IfErr, IfOk, IfSome, OnErr};
 ghost use Rattle.ref_heap.specs.Answers.{most};
 ghost use Rattle.ref_heap.specs.Store.{AreHeld, IsSole};
 ghost use Rattle.dis_meaning.specs.Words as words;
