@@ -77,6 +77,8 @@ abbrev pub over_at : World → Process → Spot → (from : ℕ) → List Word �
 over_at x p s from vs = words_at x p s >>= λ words. with_words_at x p s (over words from vs)
 
 -- The references in some words were given away for those in others: those that others hold outside of blocks are as before.
-abbrev pub ExchangesAll : code_memory.Memory → code_process.Process → code_memory.Memory → code_process.Process → (given taken : List code_word.Word) → Type 0
+abbrev pub ExchangesAll : code_memory.Memory → code_process.Process → code_memory.Memory → code_process.Process →
+    (given taken : List code_word.Word) → Type 0
 ExchangesAll m p m' p' given taken =
-    (n : ℕ) → outside m'.heap n + names (view_process p) n + all_named given n ≡ outside m.heap n + names (view_process p') n + all_named taken n
+    (n : ℕ) → outside m'.heap n + names (view_process p) n + all_named given n
+        ≡ outside m.heap n + names (view_process p') n + all_named taken n

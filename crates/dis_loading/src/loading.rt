@@ -68,7 +68,8 @@ fn enter(alloc: Global, tables: &mut Tables, object: Object) -> Result<Code, All
 /// Want of memory.
 pub fn load(alloc: Global, objects: Vec<(Text, Object)>) -> Result<Loaded, AllocError>
     ensures same { IfOk result (λ l. map (λ c. (c.0, c.1.object)) l.codes.items ≡ objects.items) }
-    ensures loaded { IfOk result (λ l. (k : ℕ) (code : List ℕ × AnyCode) → slice_get l.codes.items k ≡ Some code → IsLoaded l.tables code.1) }
+    ensures loaded { IfOk result (λ l. (k : ℕ) (code : List ℕ × AnyCode) →
+        slice_get l.codes.items k ≡ Some code → IsLoaded l.tables code.1) }
 {
     let mut tables = begin(alloc)?;
     let mut codes = Vec::with_capacity(alloc, objects.len())?;

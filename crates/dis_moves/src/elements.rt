@@ -11,8 +11,8 @@ use dis_kinds::typed_words;
 use dis_places::{Halt, Memory, Process, Ref, Region, Word};
 use std::alloc::Global;
 
-/// The words of a value of a type that a cell has, all of whose references lead to blocks that are there. They stand behind the reference to
-/// the rest.
+/// The words of a value of a type that a cell has, all of whose references lead to blocks that are there. They stand behind the reference
+/// to the rest.
 pub(crate) fn element_value(
     alloc: Global,
     memory: &Memory,

@@ -255,8 +255,8 @@ fn head_to(
     }
 }
 
-/// `headm`: so many bytes of the plain words that a list begins with, as the middle says, go over what stands in the destination. Nil begins
-/// with none.
+/// `headm`: so many bytes of the plain words that a list begins with, as the middle says, go over what stands in the destination. Nil
+/// begins with none.
 pub fn headm(
     alloc: Global,
     memory: &mut Memory,
