@@ -1,9 +1,10 @@
 -- Verbs at the front of what stands behind a `%`.
-use Rattle.std.proofs.Common.{◌≡◌, ℕ, ℤ, ◌+◌, ◌*◌, List, ◌∷◌, ◌++◌, false, sym, ap, ◌∙◌}
+use Rattle.std.proofs.Common.{◌≡◌, ℕ, ℤ, ◌+◌, ◌*◌, List, [], ◌∷◌, ◌++◌, false, refl, sym, ap, ◌∙◌, subst}
 use Rattle.std.specs.Prelude.{◌==◌}
 use Rattle.std.specs.Int.{next_multiple_of}
 use Rattle.std.specs.Fmt.{signed_decimal}
 use Rattle.limbo_values.specs.declared.number.Kind.TheVariants.{Int, Big}
+use Rattle.system_model.specs.Verbs.{character, hexadecimal}
 use Rattle.dis_meaning.specs.Words.{Word, Access, Found, ◌>>=◌}
 use Rattle.dis_meaning.specs.Formats.{in_front}
 use Rattle.dis_memory.specs.Blocks.{World}
@@ -13,7 +14,10 @@ use Rattle.dis_memory.specs.Formats.{fitting, taking, taking_text, verb, formatt
 use Rattle.dis_places.specs.declared.fault.Halt.{Halt}
 use Rattle.dis_places.specs.declared.fault.Halt.TheVariants as halt
 use Rattle.dis_places.specs.Words.{Halts}
+use Rattle.dis_formats.specs.declared.verbs.Verb.{Verb}
+use Rattle.dis_formats.specs.declared.verbs.Verb.TheVariants as verbs
 use Rattle.dis_formats.specs.Arguments.{nth_big, nth_text}
+use Rattle.dis_formats.specs.Formatting.{int_told, told}
 use Rattle.dis_formats.proofs.Parts.{verb_told, int_taken, big_taken, text_taken}
 
 module _ (x : World) (words : List Word) (from : ℕ) where
@@ -59,3 +63,38 @@ module _ (x : World) (words : List Word) (old new : List ℕ) (k : ℕ) (rest : 
       in_front old (taking_text x words (4 * k) rest) ≡ in_front new (rest (4 * (k + 1)))
   text_added t found e =
       added (taking_text x words (4 * k) rest) (fitting (nth_text x words k)) (λ t. t) t (rest (4 * (k + 1))) (text_taken x words k rest) found e
+
+halts_on : {S T : Type 0} (h : Halt) (a : Access S) (f : S → Access T) → Halts h a → Halts h (a >>= f)
+halts_on halt.NoMemory a f e = tt
+halts_on (halt.Fault n) a f e = ap (λ a. a >>= f) e
+halts_on (halt.Raises r) a f e = ap (λ a. a >>= f) e
+
+-- ---- verbs that take an int
+
+pub int_verb_added : (x : World) (words : List Word) (old new : List ℕ) (k : ℕ) (v : Verb) (z : ℤ) →
+    (v ≡ verbs.Percent → ⊥) → (v ≡ verbs.BigDecimal → ⊥) → (v ≡ verbs.Characters → ⊥) → fitting (nth_number words k) ≡ Found z → new ≡ old ++ int_told v z →
+    (rest : ℕ → Access (List ℕ)) → in_front old (told x words v (4 * k) rest) ≡ in_front new (rest (4 * (k + 1)))
+int_verb_added x words old new k verbs.Percent z a b c found e rest = absurd (a refl)
+int_verb_added x words old new k verbs.BigDecimal z a b c found e rest = absurd (b refl)
+int_verb_added x words old new k verbs.Characters z a b c found e rest = absurd (c refl)
+int_verb_added x words old new k verbs.Decimal z a b c found e rest = int_added x words old new k rest signed_decimal z found e
+int_verb_added x words old new k verbs.Character z a b c found e rest = int_added x words old new k rest (λ z. character z ∷ []) z found e
+int_verb_added x words old new k verbs.Hexadecimal z a b c found e rest = int_added x words old new k rest hexadecimal z found e
+
+pub int_verb_halts : (x : World) (words : List Word) (k : ℕ) (v : Verb) (h : Halt) →
+    (v ≡ verbs.Percent → ⊥) → (v ≡ verbs.BigDecimal → ⊥) → (v ≡ verbs.Characters → ⊥) → Halts h (fitting (nth_number words k)) →
+    (rest : ℕ → Access (List ℕ)) → Halts h (told x words v (4 * k) rest)
+int_verb_halts x words k v h a b c e rest = go v a b c
+  where
+    on : (text : ℤ → List ℕ) → Halts h (taking x words Int text (4 * k) rest)
+    on text =
+        subst (Halts h) (sym (int_taken x words text k rest))
+        (halts_on h (fitting (nth_number words k)) (λ z. in_front (text z) (rest (4 * (k + 1)))) e)
+
+    go : (v : Verb) → (v ≡ verbs.Percent → ⊥) → (v ≡ verbs.BigDecimal → ⊥) → (v ≡ verbs.Characters → ⊥) → Halts h (told x words v (4 * k) rest)
+    go verbs.Percent a b c = absurd (a refl)
+    go verbs.BigDecimal a b c = absurd (b refl)
+    go verbs.Characters a b c = absurd (c refl)
+    go verbs.Decimal a b c = on signed_decimal
+    go verbs.Character a b c = on (λ z. character z ∷ [])
+    go verbs.Hexadecimal a b c = on hexadecimal

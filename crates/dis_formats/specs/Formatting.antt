@@ -1,5 +1,5 @@
 -- What a format makes of the arguments in words, one part after the other.
-use Rattle.std.specs.Prelude.{◌≡◌, ℕ, ◌*◌, List, [], ◌∷◌, Option, Some, None, Result, Ok, Err}
+use Rattle.std.specs.Prelude.{◌≡◌, ℕ, ℤ, ◌*◌, List, [], ◌∷◌, Option, Some, None, Result, Ok, Err}
 use Rattle.std.specs.Borrow.{Bor}
 use Rattle.std.specs.Fmt.{signed_decimal}
 use Rattle.limbo_values.specs.declared.number.Kind.TheVariants.{Int, Big}
@@ -21,6 +21,13 @@ told x words verb.BigDecimal from rest = taking x words Big signed_decimal from 
 told x words verb.Character from rest = taking x words Int (λ z. character z ∷ []) from rest
 told x words verb.Hexadecimal from rest = taking x words Int hexadecimal from rest
 told x words verb.Characters from rest = taking_text x words from rest
+
+-- What a verb that takes an int makes of it.
+abbrev pub int_told : Verb → ℤ → List ℕ
+int_told verb.Decimal z = signed_decimal z
+int_told verb.Character z = character z ∷ []
+int_told verb.Hexadecimal z = hexadecimal z
+int_told _ z = []
 
 -- How many characters it has behind the `%`.
 abbrev pub width : Verb → ℕ

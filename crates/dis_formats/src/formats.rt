@@ -1,13 +1,15 @@
 //! What a format makes of the arguments in a region's words.
 
 ghost use Rattle.std.specs.Prelude.{◌≡◌, ◌+◌, ◌<◌, ◌≤◌, ◌^◌, ◌++◌, ◌∷◌, [], IfErr, IfOk};
+ghost use Rattle.std.specs.Fmt.{signed_decimal};
+ghost use Rattle.system_model.specs.Verbs.{hexadecimal as hexadecimal_of};
 ghost use Rattle.dis_memory.specs.Control as control;
 ghost use Rattle.dis_memory.specs.Formats as meaning;
 ghost use Rattle.dis_places.specs.declared.fault.Halt.TheVariants as halt;
 ghost use Rattle.dis_places.specs.Regions.{words_here};
 ghost use Rattle.dis_places.specs.View.{view_world};
 ghost use Rattle.dis_places.specs.Words.{Gives};
-ghost use Rattle.dis_formats.specs.Formatting.{width, AddsVerb};
+ghost use Rattle.dis_formats.specs.Formatting.{int_told, width, AddsVerb};
 
 use crate::arguments::{big_at, int_at, text_in};
 use crate::verbs::{PERCENT, Verb, verb_of};
@@ -49,6 +51,49 @@ fn push_codes(text: &mut Text, codes: &[u32]) -> Result<(), Halt>
     Ok(())
 }
 
+// A number as its decimal digits.
+fn push_decimal(alloc: Global, text: &mut Text, n: i64) -> Result<(), Halt>
+    ensures ok { IfOk result (λ _. text.new ≡ text.old ++ signed_decimal n) }
+    ensures fault { IfErr result (λ h. h ≡ halt.NoMemory) }
+{
+    let digits = match decimal(alloc, n) {
+        Ok(digits) => digits,
+        Err(_) => return Err(Halt::NoMemory),
+    };
+    match text.push_all(digits.as_slice()) {
+        Ok(()) => Ok(()),
+        Err(_) => Err(Halt::NoMemory),
+    }
+}
+
+// An int to the base 16.
+fn push_hexadecimal(alloc: Global, text: &mut Text, n: i32) -> Result<(), Halt>
+    ensures ok { IfOk result (λ _. text.new ≡ text.old ++ hexadecimal_of n) }
+    ensures fault { IfErr result (λ h. h ≡ halt.NoMemory) }
+{
+    let digits = match hexadecimal(alloc, n) {
+        Ok(digits) => digits,
+        Err(_) => return Err(Halt::NoMemory),
+    };
+    match text.push_all(digits.as_slice()) {
+        Ok(()) => Ok(()),
+        Err(_) => Err(Halt::NoMemory),
+    }
+}
+
+// What a verb that takes an int stands for, of an int.
+fn push_int(alloc: Global, text: &mut Text, verb: Verb, n: i32) -> Result<(), Halt>
+    ensures ok { IfOk result (λ _. text.new ≡ text.old ++ int_told verb n) }
+    ensures fault { IfErr result (λ h. h ≡ halt.NoMemory) }
+{
+    match verb {
+        Verb::Decimal => push_decimal(alloc, text, i64::from(n)),
+        Verb::Hexadecimal => push_hexadecimal(alloc, text, n),
+        Verb::Character => push_code(text, u32::from(character(n))),
+        _ => Ok(()),
+    }
+}
+
 // Adds what a verb stands for, and gives the number of the word behind those that it takes, from this one on.
 fn add_verb(
     alloc: Global,
@@ -65,32 +110,21 @@ fn add_verb(
 {
     match verb {
         Verb::Percent => {
-            text.push('%')?;
+            push_code(text, PERCENT)?;
             Ok(next)
-        }
-        Verb::Decimal => {
-            let digits = decimal(alloc, i64::from(int_at(memory, process, region, next)?))?;
-            text.push_all(digits.as_slice())?;
-            Ok(next + 1)
         }
         Verb::BigDecimal => {
             // A big stands at a multiple of its size, which is two words.
             let first = next.next_multiple_of(2);
-            let digits = decimal(alloc, big_at(memory, process, region, first)?)?;
-            text.push_all(digits.as_slice())?;
+            push_decimal(alloc, text, big_at(memory, process, region, first)?)?;
             Ok(first + 2)
-        }
-        Verb::Character => {
-            text.push(character(int_at(memory, process, region, next)?))?;
-            Ok(next + 1)
-        }
-        Verb::Hexadecimal => {
-            let digits = hexadecimal(alloc, int_at(memory, process, region, next)?)?;
-            text.push_all(digits.as_slice())?;
-            Ok(next + 1)
         }
         Verb::Characters => {
             push_codes(text, text_in(memory, process, region, next)?)?;
+            Ok(next + 1)
+        }
+        _ => {
+            push_int(alloc, text, verb, int_at(memory, process, region, next)?)?;
             Ok(next + 1)
         }
     }
