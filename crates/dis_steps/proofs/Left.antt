@@ -1,5 +1,5 @@
 -- Memory that is left alone, however that is told.
-use Rattle.std.proofs.Common.{◌≡◌, ℕ, ap}
+use Rattle.std.proofs.Common.{◌≡◌, ap}
 use Rattle.std.specs.Prelude.{OnErr, Result}
 use Rattle.std.proofs.lemmas.Result.{on_err_weaker}
 use Rattle.ref_heap.specs.Store.{outside}

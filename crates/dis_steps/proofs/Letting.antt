@@ -1,5 +1,5 @@
 -- What is let go in several drops is one cut.
-use Rattle.std.proofs.Common.{◌≡◌, ℕ, ◌+◌, ◌≤◌, ap, ◌∙◌, arith}
+use Rattle.std.proofs.Common.{◌≡◌, ℕ, ◌≤◌, ap, ◌∙◌}
 use Rattle.heap_model.specs.Heap.{stays}
 use Rattle.heap_cuts.proofs.Sooner.{early, twice_early}
 use Rattle.ref_heap.specs.Store.{Store, outside}

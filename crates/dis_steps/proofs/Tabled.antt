@@ -10,8 +10,7 @@ use Rattle.dis_meaning.specs.Process.{Process}
 use Rattle.dis_memory.specs.Blocks.{World}
 use Rattle.dis_memory.specs.Strings.{text_row}
 use Rattle.dis_memory.specs.Step.{obey, by_texts, by_numbers}
-use Rattle.dis_numbers.specs.Rows.{view_row}
-use Rattle.dis_steps.specs.Forms.{row_of, by_rows, form_of, obeyed, FormsObey}
+use Rattle.dis_steps.specs.Forms.{by_rows, form_of, obeyed}
 
 module _ (limit : ℕ) (o : Object) (x : World) (p : Process) (i : Inst) where
   texts : (t : Option Comparison) → by_texts limit o x p i t ≡ obeyed limit o x p i (by_rows None t)

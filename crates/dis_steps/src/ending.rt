@@ -35,7 +35,7 @@ fn let_go_all(heap: &mut Heap, frames: &[Frame])
 /// names then nothing is left.
 pub fn end(memory: &mut Memory, process: &Process)
     requires held { AreHeld memory.old.heap (names (view_process process.now)) }
-    ensures { LetsGo memory.old process.now memory.new }
+    ensures { LetsGo memory.old process.now (view_world memory.old) memory.new }
 {
     let_go(&mut memory.heap, &process.frame);
     let_go_all(&mut memory.heap, &process.below);

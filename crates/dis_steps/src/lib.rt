@@ -7,11 +7,15 @@
 
 mod codes;
 mod ending;
+mod families;
 mod forms;
 mod laws;
+mod obeying;
 mod outcome;
+mod steps;
 
 pub use ending::end;
 pub use forms::{Arraying, Channelling, Control, Form, Listing, Moving, Texting};
 pub use laws::forms_obey;
 pub use outcome::Stepped;
+pub use steps::step;
