@@ -81,4 +81,4 @@ abbrev pub ExchangesAll : code_memory.Memory → code_process.Process → code_m
     (given taken : List code_word.Word) → Type 0
 ExchangesAll m p m' p' given taken =
     (n : ℕ) → outside m'.heap n + names (view_process p) n + all_named given n
-        ≡ outside m.heap n + names (view_process p') n + all_named taken n
+    ≡ outside m.heap n + names (view_process p') n + all_named taken n

@@ -39,7 +39,7 @@ cut_world : (m' : Memory) (d : Doing Process Value) (x : World) → IsExact m' d
     (view_world m').outside ≡ x.outside → trimmed d x ≡ view_world m'
 cut_world m' d x exact heap outer =
     let same : (view_world m').heap ≡ stays inside (total naming (d ∷ [])) x.heap =
-        heap ∙ stays_same inside (outside m'.heap) (total naming (d ∷ [])) x.heap (λ n. let e = exact n in omega (arith, e)) in
+    heap ∙ stays_same inside (outside m'.heap) (total naming (d ∷ [])) x.heap (λ n. let e = exact n in omega (arith, e)) in
     ap (λ h. let w : World = record { heap = h; outside = x.outside } in w) (sym same)
     ∙ ap (λ o. let w : World = record { heap = (view_world m').heap; outside = o } in w) (sym outer)
 
