@@ -89,8 +89,11 @@ pub(crate) fn array_words(alloc: Global, desc: &TypeDesc, count: u32) -> Result<
     }
 }
 
-// The words of an array of so many elements of the type of this number.
-fn element_words(
+/// The words of an array of so many elements of the type of this number, as it is made: kept compactly where all of them are numbers.
+///
+/// # Errors
+/// Want of memory.
+pub fn element_words(
     alloc: Global,
     tables: &Tables,
     element: u32,

@@ -11,7 +11,7 @@ mod kinds;
 mod making;
 mod parts;
 
-pub use arrays::store_array;
+pub use arrays::{element_words, store_array};
 pub use cells::store_cell;
 pub use kinds::{store_record, store_text};
 pub use making::store_new;

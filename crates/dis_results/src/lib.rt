@@ -28,6 +28,6 @@ pub use giving::{
 pub use heads::{head_number, headp, source_cell, tail};
 pub use indexes::{index_of_size, indx, size_of, source_elements, source_int};
 pub use lengths::{lena, lenc, lenl};
-pub use numbers::store_number;
+pub use numbers::{put_number, store_number};
 pub use operands::{natural_to, number_to, reference_to, source_reference};
 pub use words::{high_part, low_part, with_byte};

@@ -74,7 +74,11 @@ fn put_big(memory: &mut Memory, process: &mut Process, spot: Spot, z: i64) -> Re
     }
 }
 
-fn put_number(
+/// Replaces a number by another of its kind: nothing is held and nothing let go.
+///
+/// # Errors
+/// The fault that the definition has, or want of memory; then nothing has changed.
+pub fn put_number(
     memory: &mut Memory,
     process: &mut Process,
     spot: Spot,

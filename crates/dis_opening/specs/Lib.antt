@@ -1,0 +1,4 @@
+pub mod Starting
+pub mod Loading
+pub mod Numbers
+pub mod Opening
