@@ -6,3 +6,4 @@ pub mod Instances
 pub mod Obeys
 pub mod Over
 pub mod Spelled
+pub mod Heard

@@ -1,4 +1,5 @@
 pub mod Codes
 pub mod Ending
 pub mod Forms
+pub mod Hearing
 pub mod Stepping

@@ -9,6 +9,7 @@ mod codes;
 mod ending;
 mod families;
 mod forms;
+mod hearing;
 mod laws;
 mod obeying;
 mod outcome;
@@ -16,6 +17,7 @@ mod steps;
 
 pub use ending::end;
 pub use forms::{Arraying, Channelling, Control, Form, Listing, Moving, Texting};
+pub use hearing::hear;
 pub use laws::forms_obey;
 pub use outcome::Stepped;
 pub use steps::step;

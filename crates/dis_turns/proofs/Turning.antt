@@ -1,11 +1,11 @@
 -- Steps as turns of the whole.
-use Rattle.std.proofs.Common.{◌≡◌, ℕ, ◌+◌, List, [], ◌∷◌, ◌++◌, Some, refl, sym, ap, ◌∙◌, arith, append-nil}
+use Rattle.std.proofs.Common.{◌≡◌, ℕ, List, [], ◌∷◌, ◌++◌, Some, sym, ap, ◌∙◌, arith, append-nil}
 use Rattle.heap_model.specs.Heap.{stays, gone}
 use Rattle.heap_cuts.proofs.Told.{stays_same}
-use Rattle.process_model.specs.Process.{Doing, Ready, Asking, Gone, Effect, Went, Asks, Ends, Requested, Over, released}
+use Rattle.process_model.specs.Process.{Doing, Ready, Asking, Gone, Went, Asks, Ends, Requested, Over, released}
 use Rattle.process_model.specs.Naming.{total}
 use Rattle.process_model.specs.Machine.{does, cut}
-use Rattle.ref_heap.specs.Store.{outside}
+use Rattle.ref_heap.specs.Store.{AreHeld, outside}
 use Rattle.dis_file.specs.declared.object.Object.{Object}
 use Rattle.system_model.specs.Values.{Value}
 use Rattle.system_model.specs.Ending.{Ending, Ended, Broken, Faulted}
@@ -28,14 +28,14 @@ use Rattle.dis_steps.specs.declared.outcome.Stepped.{Stepped}
 use Rattle.dis_steps.specs.declared.outcome.Stepped.TheVariants as stepped
 use Rattle.dis_steps.specs.Ending.{LetsGo}
 use Rattle.dis_steps.specs.Stepping.{Steps}
-use Rattle.dis_turns.specs.Turns.{alone, doing_after, told_by, IsExact, Obeys, HadMemory, StepsObey}
+use Rattle.dis_turns.specs.Turns.{alone, doing_after, IsExact, Obeys, HadMemory, StepsObey}
 
 -- A world of which so much is named, cut.
-abbrev trimmed : (d : Doing Process Value) → World → World
+abbrev pub trimmed : (d : Doing Process Value) → World → World
 trimmed d x = record { heap = stays inside (total naming (d ∷ [])) x.heap; outside = x.outside }
 
 -- It is the memory that stands as that world does, cut by what is held outside of blocks, where that is what the process refers to.
-cut_world : (m' : Memory) (d : Doing Process Value) (x : World) → IsExact m' d → (view_world m').heap ≡ stays inside (outside m'.heap) x.heap →
+pub cut_world : (m' : Memory) (d : Doing Process Value) (x : World) → IsExact m' d → (view_world m').heap ≡ stays inside (outside m'.heap) x.heap →
     (view_world m').outside ≡ x.outside → trimmed d x ≡ view_world m'
 cut_world m' d x exact heap outer =
     let same : (view_world m').heap ≡ stays inside (total naming (d ∷ [])) x.heap =
@@ -73,11 +73,14 @@ module _ (limit : ℕ) (objects : List Object) (m : Memory) (p : code_process.Pr
 
 -- ---- counts
 
-goes_exact : (m m' : Memory) (p p' : code_process.Process) (x : World) → IsExact m (Ready (view_process p)) → Settles m p x m' p' →
+pub exact_held : (m : Memory) (p : code_process.Process) → IsExact m (Ready (view_process p)) → AreHeld m.heap (names (view_process p))
+exact_held m p e = λ n. let a = e n in omega (arith, a)
+
+pub goes_exact : (m m' : Memory) (p p' : code_process.Process) (x : World) → IsExact m (Ready (view_process p)) → Settles m p x m' p' →
     (n : ℕ) → outside m'.heap n ≡ names (view_process p') n
 goes_exact m m' p p' x e s n = let a = e n in let b = s.held n in omega (arith, a, b)
 
-ends_exact : (m m' : Memory) (p : code_process.Process) (x : World) → IsExact m (Ready (view_process p)) → LetsGo m p x m' →
+pub ends_exact : (m m' : Memory) (p : code_process.Process) (x : World) → IsExact m (Ready (view_process p)) → LetsGo m p x m' →
     (n : ℕ) → outside m'.heap n ≡ 0
 ends_exact m m' p x e l n = let a = e n in let b = l.held n in omega (arith, a, b)
 
@@ -133,4 +136,4 @@ obeys limit objects m m' p p' (stepped.Fault f) h e s told =
 obeys limit objects m m' p p' stepped.NoMemory h e s told = absurd h
 
 pub steps_obey : StepsObey
-steps_obey = record { obeys = obeys; exact = exact }
+steps_obey = record { held = exact_held; obeys = obeys; exact = exact }

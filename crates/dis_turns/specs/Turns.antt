@@ -8,10 +8,10 @@ use Rattle.system_model.specs.Values.{Value}
 use Rattle.system_model.specs.Ending.{Ended, Broken, Faulted}
 use Rattle.system_model.specs.Trace.{Trace}
 use Rattle.sys_print.specs.Printing.{view_request}
-use Rattle.ref_heap.specs.Store.{outside}
+use Rattle.ref_heap.specs.Store.{AreHeld, outside}
 use Rattle.dis_meaning.specs.Process.{Process}
 use Rattle.dis_memory.specs.Blocks.{World}
-use Rattle.dis_memory.specs.Naming.{naming}
+use Rattle.dis_memory.specs.Naming.{naming, names}
 use Rattle.dis_memory.specs.Rules.{rules}
 use Rattle.dis_memory.specs.Step.{step}
 use Rattle.dis_counts.specs.Counts.{Machine}
@@ -62,6 +62,7 @@ HadMemory stepped.NoMemory = ⊥
 HadMemory _ = Unit {0}
 
 pub record StepsObey : Type 0 where
+  pub held : (m : Memory) (p : code_process.Process) → IsExact m (Ready (view_process p)) → AreHeld m.heap (names (view_process p))
   pub obeys : (limit : ℕ) (objects : List Object) (m m' : Memory) (p p' : code_process.Process) (s : Stepped) → HadMemory s →
       IsExact m (Ready (view_process p)) → Steps m p s (step limit objects (view_world m) (view_process p)) m' p' →
       (told : Trace) → Obeys limit objects m p s m' p' told
