@@ -5,3 +5,4 @@ pub mod Reach
 pub mod Going
 pub mod Ends
 pub mod Alike
+pub mod Told

@@ -3,7 +3,8 @@
 //!
 //! `specs/` in the order of reading: `Opening` (what a machine of an object begins with), `Alike` (that the machine that runs today begins
 //! alike), `Counts` (when counts are exact, and that they are), `Going` (when a block goes, and that it is told once), `Ends` (what is
-//! there once a process has ended), `References` (where references come from), `Reach` (what a process reaches, and what it leaves alone).
+//! there once a process has ended), `References` (where references come from), `Reach` (what a process reaches, and what it leaves alone),
+//! `Told` (what is told beside which blocks went).
 //!
 //! Nothing is counted as a machine goes on: behind each step what stays is the greatest part that is named from outside or by itself, in
 //! one place for all languages. That nothing else stays than what has a count that isn't 0 is what the laws say: what stays is named, and

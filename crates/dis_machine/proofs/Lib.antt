@@ -1,0 +1,14 @@
+pub mod Translation
+pub mod Replies
+pub mod Traces
+pub mod Turning
+pub mod Stepping
+pub mod Stopping
+pub mod Entering
+pub mod Starting
+pub mod Keeping
+pub mod Loading
+pub mod Outbox
+pub mod Taking
+pub mod Hearing
+pub mod Asks

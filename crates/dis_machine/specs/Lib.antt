@@ -1,0 +1,11 @@
+pub mod Journal
+pub mod Frames
+pub mod Ends
+pub mod Translated
+pub mod Doings
+pub mod Loaded
+pub mod Running
+pub mod Kept
+pub mod Sets
+pub mod Standing
+pub mod Taken
