@@ -18,4 +18,6 @@ pub mod Statements
 pub mod Follows
 pub mod Filling
 pub mod Fitting
+pub mod Updates
 pub mod Modules
+mod Examples

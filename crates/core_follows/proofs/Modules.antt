@@ -37,6 +37,7 @@ use Rattle.limbo_meaning.specs.Program.{is_load, evaluated, optional, local, dec
 use Rattle.limbo_meaning.specs.Program.{program_of}
 use Rattle.limbo_meaning.specs.Trees.{Stm, Over, Eval, Looping, Then, tested}
 use Rattle.core_follows.proofs.Fitting.{makes_so, takes_so}
+use Rattle.core_follows.proofs.Updates.{not_passed}
 
 -- ---- operands
 
@@ -244,8 +245,8 @@ module _ (m : Module) (laid : AdtsAreLaid m.adts) (variables : List Var) where
               (pattern_handled p u s.1 (part_front (operands_to p) (only_term (node_of u n)) h)) (x, tt),
         )
     node_handled t (typed.Update o (At u p) (Of w e)) s h =
-        (h.0, place_handled u p s.0.1 h.1, (node_handled w e s.1.1 h.2.0, tt))
-    node_handled t (typed.Step o g (At u p)) s h = (h.0, place_handled u p s.0.1 h.1, tt)
+        (not_passed m.adts laid o u (sound.type_of (Of w e) ∷ []) s.2, place_handled u p s.0.1 h.0, (node_handled w e s.1.1 h.1.0, tt))
+    node_handled t (typed.Step o g (At u p)) s h = (not_passed m.adts laid o u [] s.1, place_handled u p s.0.1 h.0, tt)
     node_handled t (typed.Copy (Of u a) (Of v i) (Of w e)) s h =
         inl (omega arith, (node_handled u a s.0.1 h.0, (node_handled v i s.1.1 h.1.0, (node_handled w e s.2.1 h.1.1.0, tt))))
     node_handled t (typed.Filled l is rest) s h =

@@ -1,23 +1,22 @@
 -- When the trees of a checked module are such as the law speaks of.
-use Rattle.std.specs.Prelude.{◌≡◌, ℕ, false, List, [], Option, Some, None, slice_get}
+use Rattle.std.specs.Prelude.{◌≡◌, ℕ, List, [], Option, Some, None, slice_get}
 use Rattle.limbo_types.specs.Types as ty
 use Rattle.limbo_layout.specs.Adts.{Def}
 use Rattle.limbo_layout.specs.Layout.{Room, Laid}
 use Rattle.limbo_typed.specs.Typed as typed
 use Rattle.limbo_typed.specs.Sound.{IsSound}
-use Rattle.limbo_meaning.specs.Evaluation.{passes_on}
 use Rattle.limbo_meaning.specs.Trees.{Assign, Term, Evaluated, Missing, Node, Lazy, Update, Fill, Terms, NoTerms, MoreTerms, Items, NoItems}
 use Rattle.limbo_meaning.specs.Trees.{MoreItems, Stm, Eval, If, While, Enter, Return, Loop, Looping, Block, Then}
 use Rattle.limbo_meaning.specs.Program.{Routine, Program, program_of}
 use Rattle.core_follows.specs.Follows.{Keeps}
 
--- A tree of this part of the language: nothing in it is missing, and no tuple and no adt's value is made in place of what was there.
+-- A tree of this part of the language: nothing in it is missing.
 abbrev mutual
   pub IsPart : Term → Type 0
   IsPart Missing = ⊥
   IsPart (Node t o ts) = AllPart ts
   IsPart (Lazy c l r) = IsPart l × IsPart r
-  IsPart (Update o g t w ts us) = (passes_on o ≡ false) × AllPart ts × AllPart us
+  IsPart (Update o g t w ts us) = AllPart ts × AllPart us
   IsPart (Fill t l is rest) = IsPart l × ItemsPart is × AllPart rest
   IsPart t = Unit {0}
 

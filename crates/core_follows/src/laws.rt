@@ -11,8 +11,8 @@ pub fn core_code_keeps()
     ensures { CodeKeeps }
 {}
 
-/// So it is of each checked module of this part of the language: nothing in its trees is missing, its adts have layouts, declarations name
-/// variables, and no tuple and no adt's value is made of what is updated. Nothing else is asked of it than that it is sound.
+/// So it is of each checked module of this part of the language: nothing in its trees is missing, its adts have layouts, and declarations
+/// name variables. Nothing else is asked of it than that it is sound.
 pub fn checked_modules_keep()
     ensures { ModulesKeep }
 {}

@@ -7,8 +7,8 @@
 //!
 //! In `proofs/`, `Slots`, `Drops`, `Holding` and `Static` have what slots name and drops touch, and `Moves`, `Gathers`, `Picks` what they
 //! name after parts have moved into a value or out of it; `Contexts`, `Nodes`, `Given`, `Works`, `Terms`, `Filling` and `Expressions` are
-//! expressions, `Dropped` the drops of a statement, `Valued`, `Blocks` and `Statements` statements, `Follows` processes, and `Fitting` and
-//! `Modules` the trees of checked modules.
+//! expressions, `Dropped` the drops of a statement, `Valued`, `Blocks` and `Statements` statements, `Follows` processes, and `Fitting`,
+//! `Updates` and `Modules` the trees of checked modules, of which `Examples` has one that meets all that is asked.
 #![tactic(auto)]
 
 mod laws;

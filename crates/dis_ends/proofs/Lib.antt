@@ -1,0 +1,2 @@
+pub mod Quanta
+pub mod Far
