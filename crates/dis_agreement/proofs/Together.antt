@@ -25,8 +25,9 @@ use Rattle.dis_memory.specs.Rules.{rules}
 use Rattle.dis_counts.specs.Counts.{Machine, CountsAreExact}
 use Rattle.dis_counts.proofs.Named.{nothing_dangles, there_of}
 use Rattle.dis_agreement.specs.Agreement.{WorldsAgree, WaitsInside, Agrees, IsRight, SameDone}
-use Rattle.dis_agreement.specs.Runs as runs
-use Rattle.dis_agreement.specs.Runs.{Today, Trace, NoFault, StandsInside, StatesAgree}
+use Rattle.dis_counts.specs.Told as traces
+use Rattle.dis_agreement.specs.Runs.{Today, NoFault, StandsInside, StatesAgree}
+use Rattle.dis_counts.specs.Told.{Trace}
 use Rattle.dis_agreement.proofs.Blocks.{cut_worlds}
 use Rattle.dis_agreement.proofs.Traces.{told_on, told_cut, told_passed, no_fault_before, no_fault_behind}
 
@@ -55,7 +56,7 @@ set_inside ps i d k all j e at = go (set_cases ps i j d e at)
 pub record Near (s : Today) (t : Machine) : Type 0 where
   pub processes : t.processes ≡ s.processes
   pub waiters : t.waiters ≡ s.waiters
-  pub trace : runs.told t.trace ≡ s.trace
+  pub trace : traces.told t.trace ≡ s.trace
   pub worlds : WorldsAgree s.world t.world
   pub inside : AllInside s.processes
 
@@ -98,7 +99,7 @@ process_agrees s t i d p a at same stands = record {
 
 -- Process i stands so, and more was told.
 near_set : (s : Today) (t : Machine) → Near s t → (i : ℕ) (d e : Doing Process Value) → e ≡ d → StandsInside d
-    → (x : today.World) (y : World) → WorldsAgree x y → (es fs : Trace) → runs.told fs ≡ es
+    → (x : today.World) (y : World) → WorldsAgree x y → (es fs : Trace) → traces.told fs ≡ es
     → Near (record { processes = set s.processes i d; world = x; waiters = s.waiters; trace = es })
     (record { processes = set t.processes i e; world = y; waiters = t.waiters; trace = fs })
 near_set s t n i d e same k x y w es fs f = record {
@@ -114,8 +115,8 @@ stands_so p q e k = subst (λ (q : Process). WaitsInside q.frame.instance q.prin
 
 -- A reply, and what it comes to.
 module _ (s : Today) (t : Machine) (n : Near s t) (i : ℕ) (a : Rmsg) (x : today.World) (y : World) where
-  more : (es fs : Trace) → runs.told fs ≡ es → runs.told (t.trace ++ fs) ≡ s.trace ++ es
-  more es fs same = told_on t.trace fs ∙ (ap (λ l. runs.told t.trace ++ l) same ∙ ap (λ l. l ++ es) n.trace)
+  more : (es fs : Trace) → traces.told fs ≡ es → traces.told (t.trace ++ fs) ≡ s.trace ++ es
+  more es fs same = told_on t.trace fs ∙ (ap (λ l. traces.told t.trace ++ l) same ∙ ap (λ l. l ++ es) n.trace)
 
   pub near_ready : (p q : Process) → SameDone (Went x p) (Went y q)
       → Near (record { processes = set s.processes i (Ready p); world = x; waiters = s.waiters; trace = s.trace ++ Replied i a ∷ [] })
@@ -168,7 +169,7 @@ module _ (limit : ℕ) (objects : List Object) where
         trace =
             let e = told i c.mine c.own c.met.pid c.met.theirs c.met.branch in
             told_on t.trace (e ∷ [])
-            ∙ (ap (λ l. runs.told t.trace ++ l) (told_passed i c.mine c.own c.met.pid c.met.theirs c.met.branch) ∙ ap
+            ∙ (ap (λ l. traces.told t.trace ++ l) (told_passed i c.mine c.own c.met.pid c.met.theirs c.met.branch) ∙ ap
             (λ l. l ++ e ∷ []) n.trace);
         worlds = w;
         inside =
@@ -195,8 +196,8 @@ module _ (limit : ℕ) (objects : List Object) where
       }
 
     -- What was told, and one entry more.
-    one_more : (e f : Entry Value Request Rmsg Ending) → runs.told (f ∷ []) ≡ e ∷ [] → runs.told (t.trace ++ f ∷ []) ≡ s.trace ++ e ∷ []
-    one_more e f same = told_on t.trace (f ∷ []) ∙ (ap (λ l. runs.told t.trace ++ l) same ∙ ap (λ l. l ++ e ∷ []) n.trace)
+    one_more : (e f : Entry Value Request Rmsg Ending) → traces.told (f ∷ []) ≡ e ∷ [] → traces.told (t.trace ++ f ∷ []) ≡ s.trace ++ e ∷ []
+    one_more e f same = told_on t.trace (f ∷ []) ∙ (ap (λ l. traces.told t.trace ++ l) same ∙ ap (λ l. l ++ e ∷ []) n.trace)
 
     pub does_near : (d : process.Does) (e : Does) → SameDone d e
         → Near (machine.does (today_rules.rules limit objects) s i d) (machine.does (rules limit objects) t i e)

@@ -4,7 +4,8 @@ use Rattle.process_model.specs.Process.{Branch, Entry, Requested, Replied, Passe
 use Rattle.process_model.specs.Process as process
 use Rattle.system_model.specs.Values.{Value}
 use Rattle.system_model.specs.Ending.{Ended, Broken, Faulted}
-use Rattle.dis_agreement.specs.Runs.{Trace, told, NoFault}
+use Rattle.dis_counts.specs.Told.{Trace, told}
+use Rattle.dis_agreement.specs.Runs.{NoFault}
 
 pub told_on : (es fs : Trace) → told (es ++ fs) ≡ told es ++ told fs
 told_on [] fs = refl

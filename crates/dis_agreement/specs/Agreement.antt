@@ -1,4 +1,4 @@
--- When a state of the machine that runs today and one of the machine with memory agree. Frames, words and processes are of the same types
+-- When a state of the machine of numbers and one of the machine with memory agree. Frames, words and processes are of the same types
 -- in both, so these are just equal.
 use Rattle.std.specs.Prelude.{ℕ, ◌≡◌, List, [], ◌∷◌, Option, Some, None, slice_get}
 use Rattle.process_model.specs.Process.{Went, Parks, Asks, Ends}

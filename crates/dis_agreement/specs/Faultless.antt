@@ -1,4 +1,4 @@
--- When a machine that runs today never faults, by what its processes do next.
+-- When a machine of numbers never faults, by what its processes do next.
 use Rattle.std.specs.Prelude.{ℕ, ◌≡◌, List, Some, slice_get}
 use Rattle.styx_msg.specs.declared.message.Rmsg.{Rmsg}
 use Rattle.process_model.specs.Process.{Ends, Ready, Asking}

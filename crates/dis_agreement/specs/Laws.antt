@@ -10,7 +10,7 @@ use Rattle.dis_memory.specs.Control.{answer}
 use Rattle.dis_memory.specs.Step.{step}
 use Rattle.dis_agreement.specs.Agreement.{Agrees, IsRight, SameDone}
 
--- From states that agree, an instruction that is right on the machine that runs today does the same on the machine with memory.
+-- From states that agree, an instruction that is right on the machine of numbers does the same on the machine with memory.
 abbrev pub StepsAgree : Type 0
 StepsAgree =
     (limit : ℕ) (objects : List Object) (x : today.World) (y : World) (p : Process) → Agrees x y p →

@@ -1,7 +1,7 @@
 -- Whole runs of both machines.
 use Rattle.std.specs.Prelude.{ℕ, ◌≡◌, List, [], ◌∷◌, Option, Some, slice_get}
 use Rattle.styx_msg.specs.declared.message.Rmsg.{Rmsg}
-use Rattle.process_model.specs.Process.{Doing, Ready, Waiting, Asking, Gone, Entry, Over, Released}
+use Rattle.process_model.specs.Process.{Doing, Ready, Waiting, Asking, Gone, Over}
 use Rattle.process_model.specs.Machine.{State, Event, turns, replay}
 use Rattle.process_model.specs.Plain.{no_names}
 use Rattle.process_model.specs.Law.{begins_code}
@@ -19,20 +19,12 @@ use Rattle.dis_memory.specs.Rules.{rules}
 use Rattle.dis_counts.specs.Alike.{world_of}
 use Rattle.dis_counts.specs.Opening.{Opened, opens, opened}
 use Rattle.dis_counts.specs.Counts.{Machine, CountsAreExact, begun}
+use Rattle.dis_counts.specs.Told.{Trace, told}
 use Rattle.dis_agreement.specs.Agreement.{WorldsAgree, WaitsInside}
 
--- A state of the machine that runs today, from which nothing goes.
+-- A state of the machine of numbers, from which nothing goes.
 abbrev pub Today : Type 0
 Today = State today.World Process Value Request Rmsg Ending
-
-abbrev pub Trace : Type 0
-Trace = List (Entry Value Request Rmsg Ending)
-
--- What was told: requests, replies and ends, but not which blocks went.
-abbrev pub told : Trace → Trace
-told [] = []
-told (Released pid serials ∷ es) = told es
-told (e ∷ es) = e ∷ told es
 
 -- No process has faulted.
 abbrev pub NoFault : Trace → Type 0
@@ -63,27 +55,27 @@ pub record ComesTo (o : Option Machine) (last : Today) : Type 0 where
   pub is : o ≡ Some after
   pub agrees : StatesAgree last after
 
--- So many instructions of a process of which none faults on the machine that runs today, with what goes behind each.
+-- So many instructions of a process of which none faults on the machine of numbers, with what goes behind each.
 abbrev pub TurnsAgree : Type 0
 TurnsAgree =
     (limit : ℕ) (objects : List Object) (pid n : ℕ) (s last : Today) (t : Machine) → StatesAgree s t →
     turns (today_rules.rules limit objects) no_names pid n s ≡ Some last → NoFault last.trace →
     ComesTo (turns (rules limit objects) naming pid n t) last
 
--- Each journal whose replay on the machine that runs today has no fault has a replay on the machine with memory, of which the same is told.
+-- Each journal whose replay on the machine of numbers has no fault has a replay on the machine with memory, of which the same is told.
 abbrev pub RunsAgree : Type 0
 RunsAgree =
     (limit longest : ℕ) (objects : List Object) (journal : List (Event Rmsg)) (s last : Today) (t : Machine) → StatesAgree s t →
     replay (today_rules.rules limit objects) no_names longest s journal ≡ Some last → NoFault last.trace →
     ComesTo (replay (rules limit objects) naming longest t journal) last
 
--- From this state no journal comes to a fault on the machine that runs today.
+-- From this state no journal comes to a fault on the machine of numbers.
 abbrev pub NeverFaults : (limit longest : ℕ) → List Object → Today → Type 0
 NeverFaults limit longest objects s =
     (journal : List (Event Rmsg)) (u : Today) → replay (today_rules.rules limit objects) no_names longest s journal ≡ Some u →
     NoFault u.trace
 
--- The machine that runs today comes to a state that agrees with this one.
+-- The machine of numbers comes to a state that agrees with this one.
 pub record ComesAlike (o : Option Today) (last : Machine) : Type 0 where
   pub after : Today
   pub is : o ≡ Some after

@@ -4,7 +4,7 @@ ghost use Rattle.dis_agreement.specs.Faultless.{RightNeverFaults};
 ghost use Rattle.dis_agreement.specs.Laws.{StepsAgree, AnswersAgree};
 ghost use Rattle.dis_agreement.specs.Runs.{OpeningsAgree, TurnsAgree, RunsAgree, RunsReturn, ProgramsRunAlike};
 
-/// From states that agree, an instruction that doesn't fault on the machine that runs today does the same on the machine with memory, and
+/// From states that agree, an instruction that doesn't fault on the machine of numbers does the same on the machine with memory, and
 /// the states behind it agree.
 pub fn steps_agree()
     ensures { StepsAgree }
@@ -15,7 +15,7 @@ pub fn answers_agree()
     ensures { AnswersAgree }
 {}
 
-/// Both machines of an object begin in states that agree, where the one that runs today begins at all.
+/// Both machines of an object begin in states that agree, where that of numbers begins at all.
 pub fn openings_agree()
     ensures { OpeningsAgree }
 {}
@@ -25,7 +25,7 @@ pub fn turns_agree()
     ensures { TurnsAgree }
 {}
 
-/// From states that agree, a journal whose replay has no fault on the machine that runs today is one of the machine with memory: the same
+/// From states that agree, a journal whose replay has no fault on the machine of numbers is one of the machine with memory: the same
 /// is asked and printed, with the same replies and ends, and the states behind it agree.
 pub fn runs_agree()
     ensures { RunsAgree }

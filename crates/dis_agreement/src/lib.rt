@@ -1,4 +1,4 @@
-//! The machine that runs today and the machine with memory do the same, wherever what the first does isn't a fault. No code stands here,
+//! The machine of numbers and the machine with memory do the same, wherever what the first does isn't a fault. No code stands here,
 //! only definitions and laws: what is proved of programs over the first machine is to hold over the second by them.
 //!
 //! `specs/` in the order of reading: `Agreement` (when two states agree for a process, and when both machines did the same), `Laws` (that

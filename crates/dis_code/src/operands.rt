@@ -11,6 +11,7 @@ use dis_isa::{Middle, Operand};
 use dis_places::{Fault, Process};
 
 // A number that isn't below 0.
+#[inline(always)]
 fn natural(n: i32) -> Result<u32, Fault>
     ensures { GivesFault (λ n. n) result (meaning.immediate (Operand.Imm n)) }
 {
@@ -21,6 +22,7 @@ fn natural(n: i32) -> Result<u32, Fault>
 }
 
 /// The number of an immediate source or destination.
+#[inline(always)]
 pub fn immediate(operand: Operand) -> Result<u32, Fault>
     ensures { GivesFault (λ n. n) result (meaning.immediate operand) }
 {
@@ -71,6 +73,7 @@ pub fn middle_type(object: &Object, middle: Middle) -> Result<&TypeDesc, Fault>
 }
 
 /// A place in the code.
+#[inline(always)]
 pub fn target(object: &Object, destination: Operand) -> Result<usize, Fault>
     ensures { GivesFault (λ pc. pc) result (meaning.target object.now destination) }
 {
@@ -86,6 +89,7 @@ pub fn target(object: &Object, destination: Operand) -> Result<usize, Fault>
 }
 
 /// The process goes on at a place in the code. What it printed is answered no more.
+#[inline(always)]
 pub fn jump_to(process: &mut Process, pc: usize)
     ensures { view_process process.new ≡ gone_to (view_process process.old) pc }
 {

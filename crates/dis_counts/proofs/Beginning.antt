@@ -1,4 +1,4 @@
--- The machine that runs today begins as the machine with memory does: item by item.
+-- The machine of numbers begins as the machine with memory does: item by item.
 use Rattle.std.proofs.Common.{◌≡◌, ℕ, suc, ◌+◌, Bool, true, false, List, [], ◌∷◌, ◌++◌, length, refl, sym, ap, subst, ◌∙◌, if◌then◌else◌}
 use Rattle.std.proofs.Math.Nat.{zero-add}
 use Rattle.std.proofs.lemmas.Bool.{eqb-true}

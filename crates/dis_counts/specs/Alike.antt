@@ -1,4 +1,4 @@
--- The machine that runs today begins as the machine with memory does.
+-- The machine of numbers begins as the machine with memory does.
 use Rattle.std.specs.Prelude.{◌≡◌, map, Some}
 use Rattle.dis_file.specs.declared.object.Object.{Object}
 use Rattle.dis_meaning.specs.Words.{Found}

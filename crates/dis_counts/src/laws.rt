@@ -7,7 +7,7 @@ ghost use Rattle.dis_counts.specs.Going.{EachGoesOnce, LastReferencesRelease};
 ghost use Rattle.dis_counts.specs.Reach.{NothingElseIsReached, OnlyReachedCounts};
 ghost use Rattle.dis_counts.specs.References.{NoReferenceIsForged};
 
-/// Where the machine that runs today begins, this one begins with the same process and the same blocks, of which those go that nothing
+/// Where the machine of numbers begins, this one begins with the same process and the same blocks, of which those go that nothing
 /// names.
 pub fn begins_alike()
     ensures { BeginsAlike }

@@ -1,7 +1,7 @@
 //! The machine with memory as a whole: what it begins with, that in every state of a run a block is there exactly where its count isn't
 //! 0, and what a process reaches and leaves alone. No code stands here, only definitions and laws.
 //!
-//! `specs/` in the order of reading: `Opening` (what a machine of an object begins with), `Alike` (that the machine that runs today begins
+//! `specs/` in the order of reading: `Opening` (what a machine of an object begins with), `Alike` (that the machine of numbers begins
 //! alike), `Counts` (when counts are exact, and that they are), `Going` (when a block goes, and that it is told once), `Ends` (what is
 //! there once a process has ended), `References` (where references come from), `Reach` (what a process reaches, and what it leaves alone),
 //! `Told` (what is told beside which blocks went).

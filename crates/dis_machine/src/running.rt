@@ -42,6 +42,7 @@ pub(crate) struct Turns {
 
 impl Running {
     /// Runs the next instruction of a process that is ready.
+    #[inline(always)]
     fn turn(&mut self, alloc: Global, codes: &[(Text, Code)]) -> Turn
         requires ready { self.old.doing ≡ Doing.Ready }
         requires loaded { AreLoaded self.old.memory.tables codes.now }

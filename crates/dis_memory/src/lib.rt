@@ -1,5 +1,5 @@
 //! What one instruction of the Dis machine does with memory: blocks with kinds, strings, arrays, lists, records and references, as
-//! definitions. No code stands here. The machine that runs today is `dis_meaning`'s, which this one will take the place of.
+//! definitions. No code stands here. The machine of numbers is `dis_meaning`'s: what the compiler's code does is said over it first.
 //!
 //! `specs/` in the order of reading: `Blocks`, `Raising`, `Places` (the words that operands name), `Kinds` (what references lead to),
 //! `Process`, `Results`, `Operands`, `Copies`; the families of instructions, `Data`, `Arrays`, `Strings`, `Lists`, `Numbers`, `Formats` and

@@ -1,23 +1,21 @@
 //! Operations on numbers: arithmetic, shifts, conversions and moves (Dis Virtual Machine Specification, the instructions by name).
 
 ghost use Rattle.std.specs.Prelude.{◌≡◌, ◌+◌, ◌<◌, ◌^◌, IfOk, OnErr};
-ghost use Rattle.limbo_values.specs.declared.number.Kind.TheVariants as kind;
 ghost use Rattle.limbo_values.specs.Numbers.{kind_of, value_of, wrapped};
 ghost use Rattle.limbo_values.specs.Operators as values;
 ghost use Rattle.dis_file.specs.declared.object.Object.{Object};
 ghost use Rattle.dis_memory.specs.Numbers as numbers;
-ghost use Rattle.dis_memory.specs.Places as places;
 ghost use Rattle.dis_memory.specs.Raising.{unless_raised};
 ghost use Rattle.dis_places.specs.View.{view_process, view_world};
-ghost use Rattle.dis_places.specs.Words.{Gives};
 ghost use Rattle.dis_results.specs.Going.{told, Goes};
 
-use dis_isa::{Inst, Operand};
+use dis_isa::Inst;
 use dis_places::{Halt, Memory, Process, Raise, middle_of, source_of};
-use dis_results::number_to;
+use dis_results::{number_to, source_int};
 use limbo_values::{Kind, Number, Operator, Shift, big, byte, int};
 
 // What an operator gives of two numbers of a kind, or raises.
+#[inline(always)]
 fn combined(kind: Kind, operator: Operator, left: Number, right: Number) -> Result<Number, Raise>
     requires left { kind_of left ≡ kind }
     requires right { kind_of right ≡ kind }
@@ -34,6 +32,7 @@ fn combined(kind: Kind, operator: Operator, left: Number, right: Number) -> Resu
 }
 
 // What a shift gives of a number of a kind.
+#[inline(always)]
 fn shifted(kind: Kind, shift: Shift, number: Number, count: i32) -> Number
     requires { kind_of number ≡ kind }
     ensures number { value_of result ≡ values.shifted kind shift (value_of number) count }
@@ -46,8 +45,9 @@ fn shifted(kind: Kind, shift: Shift, number: Number, count: i32) -> Number
     }
 }
 
-/// An operator on two numbers of a kind: the middle is the left one, the source the right one.
-pub fn calculate(
+// An operator on two numbers of a kind that the caller knows.
+#[inline(always)]
+fn calculate_as(
     memory: &mut Memory,
     process: &mut Process,
     kind: Kind,
@@ -71,16 +71,24 @@ pub fn calculate(
     number_to(memory, process, kind, inst.dst, outcome)
 }
 
-// The int of a source.
-fn source_int(memory: &Memory, process: &Process, source: Operand) -> Result<i32, Halt>
-    ensures { Gives (λ n. n) result
-        (places.source_of kind.Int (view_world memory.now) (view_process process.now) source) }
+/// An operator on two numbers of a kind: the middle is the left one, the source the right one.
+pub fn calculate(
+    memory: &mut Memory,
+    process: &mut Process,
+    kind: Kind,
+    operator: Operator,
+    inst: Inst,
+) -> Result<(), Halt>
+    requires place { process.old.frame.pc + 1 < 2 ^ 64 }
+    ensures goes { (o : Object) → Goes memory.old process.old result
+        (numbers.calculates o (view_world memory.old) (view_process process.old) inst kind operator) memory.new process.new }
+    ensures kept { OnErr result ((memory.new ≡ memory.old) × (process.new ≡ process.old)) }
 {
-    match source_of(memory, process, Kind::Int, source) {
-        Ok(Number::Int(n)) => Ok(n),
-        Ok(Number::Byte(_)) => unreachable!(),
-        Ok(Number::Big(_)) => unreachable!(),
-        Err(halt) => Err(halt),
+    // Each kind by itself: most programs calculate with ints.
+    match kind {
+        Kind::Int => calculate_as(memory, process, Kind::Int, operator, inst),
+        Kind::Byte => calculate_as(memory, process, Kind::Byte, operator, inst),
+        Kind::Big => calculate_as(memory, process, Kind::Big, operator, inst),
     }
 }
 
@@ -110,6 +118,7 @@ pub fn shift_by(
 }
 
 // What is left of a number in a kind.
+#[inline(always)]
 fn converted(number: Number, kind: Kind) -> Number
     ensures number { value_of result ≡ wrapped kind (value_of number) }
     ensures kind { kind_of result ≡ kind }

@@ -23,6 +23,7 @@ use dis_results::advance;
 use limbo_values::{Comparison, Kind, compare};
 
 // The process goes on there, or with the next instruction.
+#[inline(always)]
 fn branch(process: &mut Process, taken: bool, pc: usize)
     requires { process.old.frame.pc + 1 < 2 ^ 64 }
     ensures { view_process process.new ≡ branched (view_process process.old) taken pc }
@@ -62,6 +63,7 @@ fn compare_references(
 }
 
 // Two words that don't both refer are compared as numbers.
+#[inline(always)]
 fn compare_numbers(comparison: Comparison, left: Word, right: Word) -> Result<bool, Fault>
     ensures { GivesFault (λ b. b) result (words.◌>>=◌ (words.number_in (view_word left)) (λ a.
         words.◌>>=◌ (words.number_in (view_word right)) (λ b. words.Found (values.compared comparison a b)))) }
@@ -71,6 +73,7 @@ fn compare_numbers(comparison: Comparison, left: Word, right: Word) -> Result<bo
     Ok(comparison.is_met(left.cmp(&right)))
 }
 
+#[inline(always)]
 fn compare_words(comparison: Comparison, left: Word, right: Word) -> Result<bool, Fault>
     ensures { GivesFault (λ b. b) result (numbers.words_compared comparison (view_word left) (view_word right)) }
 {
@@ -81,6 +84,7 @@ fn compare_words(comparison: Comparison, left: Word, right: Word) -> Result<bool
 }
 
 // Ints and references, which stand in words.
+#[inline(always)]
 fn branch_words(
     code: &Code,
     memory: &Memory,

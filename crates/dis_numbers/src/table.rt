@@ -31,7 +31,7 @@ pub enum Row {
 }
 
 /// The operations on numbers.
-#[inline]
+#[inline(always)]
 pub fn number_row(op: Op) -> Option<Row>
     ensures { option_map view_row result ≡ number_row op }
 {
@@ -95,6 +95,7 @@ pub fn number_row(op: Op) -> Option<Row>
 }
 
 /// What a row of the table does.
+#[inline(always)]
 pub fn obey_row(
     code: &Code,
     memory: &mut Memory,

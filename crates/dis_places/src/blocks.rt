@@ -17,6 +17,7 @@ use crate::spots::Region;
 use ref_heap::{Heap, Kind, Ref};
 
 // Operands reach the words of records, of arrays, and of the data of instances.
+#[inline(always)]
 fn reached(kind: Kind) -> Result<(), Fault>
     ensures { (t : Tables) (c : Content) → GivesFault (λ _. words_of c) result (reached (block_by t kind c)) }
 {
@@ -34,6 +35,7 @@ fn reached(kind: Kind) -> Result<(), Fault>
 }
 
 /// The words of a block that operands reach.
+#[inline]
 pub fn data_of(heap: &Heap, r: Ref) -> Result<Region, Fault>
     ensures words { (t : Tables) → GivesFault (λ _. block_words (at heap.now r.serial)) result
         (words.◌>>=◌ (words.or_wrong words.dead_address (heap_list.at (view_heap t heap.now) r.serial)) reached) }

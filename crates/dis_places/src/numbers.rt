@@ -16,6 +16,7 @@ use limbo_values::{Kind, Number};
 use ref_heap::Word;
 
 /// The number in a word, 0 where an address stands in it.
+#[inline(always)]
 pub fn number_in(word: Word) -> Result<i32, Fault>
     ensures { GivesFault (λ n. n) result (words.number_in (view_word word)) }
 {
@@ -27,6 +28,7 @@ pub fn number_in(word: Word) -> Result<i32, Fault>
 }
 
 /// The number in the word of this number.
+#[inline(always)]
 pub fn nth_number(
     memory: &Memory,
     process: &Process,
@@ -40,6 +42,7 @@ pub fn nth_number(
 }
 
 /// One of the four bytes of a plain word, the most significant of which is the first.
+#[inline(always)]
 pub fn byte_of(z: i32, k: usize) -> u8
     requires { k < 4 }
     ensures { result ≡ slice_index (meaning.bytes_of z) k }
@@ -48,12 +51,14 @@ pub fn byte_of(z: i32, k: usize) -> u8
 }
 
 /// A big of its two words.
+#[inline(always)]
 pub fn joined(high: i32, low: i32) -> i64
     ensures { result ≡ meaning.joined high low }
 {
     i64::from(high) * (1 << 32) + i64::from(low.cast_unsigned())
 }
 
+#[inline]
 fn byte_at(memory: &Memory, process: &Process, region: Region, at: i64) -> Result<u8, Fault>
     ensures { GivesFault pos result (meaning.number_at kind.Byte (words_here memory.now.heap process.now region) at) }
 {
@@ -62,6 +67,7 @@ fn byte_at(memory: &Memory, process: &Process, region: Region, at: i64) -> Resul
     Ok(byte_of(word, n % 4))
 }
 
+#[inline(always)]
 fn int_at(memory: &Memory, process: &Process, region: Region, at: i64) -> Result<i32, Fault>
     ensures { GivesFault (λ n. n) result (meaning.number_at kind.Int (words_here memory.now.heap process.now region) at) }
 {
@@ -69,6 +75,7 @@ fn int_at(memory: &Memory, process: &Process, region: Region, at: i64) -> Result
     nth_number(memory, process, region, k)
 }
 
+#[inline]
 fn big_at(memory: &Memory, process: &Process, region: Region, at: i64) -> Result<i64, Fault>
     ensures { GivesFault (λ n. n) result (meaning.number_at kind.Big (words_here memory.now.heap process.now region) at) }
 {
@@ -79,6 +86,7 @@ fn big_at(memory: &Memory, process: &Process, region: Region, at: i64) -> Result
 }
 
 /// The number of a kind at a byte of a region.
+#[inline(always)]
 pub fn number_at(
     memory: &Memory,
     process: &Process,

@@ -21,6 +21,7 @@ use limbo_values::{Kind, Number, byte};
 use ref_heap::{Place, Ref, Word};
 
 /// The word that stands at a byte.
+#[inline(always)]
 pub fn read(memory: &Memory, process: &Process, spot: Spot) -> Result<Word, Fault>
     ensures { GivesFault view_word result
         (meaning.read (view_world memory.now) (view_process process.now) (view_spot spot)) }
@@ -64,6 +65,7 @@ pub fn spot_of(memory: &Memory, process: &Process, operand: Operand) -> Result<S
 }
 
 /// The byte that a middle names.
+#[inline(always)]
 pub fn middle_spot(middle: Middle) -> Result<Spot, Fault>
     ensures { GivesFault view_spot result (meaning.middle_spot middle) }
 {
@@ -76,6 +78,7 @@ pub fn middle_spot(middle: Middle) -> Result<Spot, Fault>
 }
 
 /// A word that is plain.
+#[inline(always)]
 pub fn plain(word: Word) -> Result<Word, Fault>
     ensures { GivesFault view_word result (words.plain (view_word word)) }
 {
@@ -87,6 +90,7 @@ pub fn plain(word: Word) -> Result<Word, Fault>
 }
 
 /// The block of a word that is a reference.
+#[inline(always)]
 pub fn reference(word: Word) -> Result<Option<Ref>, Fault>
     ensures { GivesFault (option_map (λ (r : CodeRef). r.serial)) result (words.reference (view_word word)) }
 {
@@ -118,6 +122,7 @@ pub fn address(process: &Process, spot: Spot) -> Result<Word, Halt>
 }
 
 // The word of a place that isn't an immediate.
+#[inline(never)]
 fn word_of(memory: &Memory, process: &Process, source: Operand) -> Result<Word, Halt>
     ensures { Gives view_word result (words.◌>>=◌
         (meaning.spot (view_world memory.now) (view_process process.now) source)
@@ -128,14 +133,15 @@ fn word_of(memory: &Memory, process: &Process, source: Operand) -> Result<Word, 
 }
 
 /// The word of a source; an immediate is the number itself.
+#[inline(always)]
 pub fn source_word(memory: &Memory, process: &Process, source: Operand) -> Result<Word, Halt>
     ensures { Gives view_word result
         (meaning.source_word (view_world memory.now) (view_process process.now) source) }
 {
     match source {
         Operand::Imm(n) => Ok(Word::Plain(n.cast_unsigned())),
+        Operand::Fp(at) => Ok(read(memory, process, Spot::Own(i64::from(at)))?),
         Operand::None => word_of(memory, process, source),
-        Operand::Fp(_) => word_of(memory, process, source),
         Operand::Mp(_) => word_of(memory, process, source),
         Operand::IndFp { .. } => word_of(memory, process, source),
         Operand::IndMp { .. } => word_of(memory, process, source),
@@ -143,6 +149,7 @@ pub fn source_word(memory: &Memory, process: &Process, source: Operand) -> Resul
 }
 
 // The plain word that an operand names.
+#[inline(never)]
 fn plain_of(memory: &Memory, process: &Process, source: Operand) -> Result<Word, Halt>
     ensures { Gives view_word result (words.◌>>=◌
         (meaning.spot (view_world memory.now) (view_process process.now) source)
@@ -154,6 +161,7 @@ fn plain_of(memory: &Memory, process: &Process, source: Operand) -> Result<Word,
 }
 
 /// The word of a source that is plain; an immediate is the number itself.
+#[inline(always)]
 pub fn source_plain(memory: &Memory, process: &Process, source: Operand) -> Result<Word, Halt>
     ensures { Gives view_word result
         (meaning.source_plain (view_world memory.now) (view_process process.now) source) }
@@ -168,7 +176,17 @@ pub fn source_plain(memory: &Memory, process: &Process, source: Operand) -> Resu
     }
 }
 
+// The word at a byte by itself, for places that most operands don't name.
+#[inline(never)]
+fn far_word(memory: &Memory, process: &Process, spot: Spot) -> Result<Word, Fault>
+    ensures { GivesFault view_word result
+        (meaning.read (view_world memory.now) (view_process process.now) (view_spot spot)) }
+{
+    read(memory, process, spot)
+}
+
 /// The word of a middle.
+#[inline(always)]
 pub fn middle_word(memory: &Memory, process: &Process, middle: Middle) -> Result<Word, Fault>
     ensures { GivesFault view_word result
         (meaning.middle_word (view_world memory.now) (view_process process.now) middle) }
@@ -176,12 +194,13 @@ pub fn middle_word(memory: &Memory, process: &Process, middle: Middle) -> Result
     match middle {
         Middle::Imm(n) => Ok(Word::Plain(n.cast_unsigned())),
         Middle::Fp(at) => read(memory, process, Spot::Own(i64::from(at))),
-        Middle::Mp(at) => read(memory, process, Spot::Data(i64::from(at))),
+        Middle::Mp(at) => far_word(memory, process, Spot::Data(i64::from(at))),
         Middle::None => Err(Fault::TypeCheck),
     }
 }
 
 /// The number of a kind that stands at a byte.
+#[inline(always)]
 pub fn read_number(
     memory: &Memory,
     process: &Process,
@@ -196,7 +215,18 @@ pub fn read_number(
     number_at(memory, process, kind, region, spot.byte())
 }
 
+// The same by itself, for places that most operands don't name.
+#[inline(never)]
+fn far_number(memory: &Memory, process: &Process, kind: Kind, spot: Spot) -> Result<Number, Fault>
+    ensures number { GivesFault value_of result
+        (meaning.read_number kind (view_world memory.now) (view_process process.now) (view_spot spot)) }
+    ensures kind { IfOk result (λ n. kind_of n ≡ kind) }
+{
+    read_number(memory, process, kind, spot)
+}
+
 // An immediate, which is an int: as a byte it is what is left of it.
+#[inline(always)]
 fn immediate_as(kind: Kind, n: i32) -> Number
     ensures number { value_of result ≡ numbers.immediate_as kind n }
     ensures kind { kind_of result ≡ kind }
@@ -209,6 +239,7 @@ fn immediate_as(kind: Kind, n: i32) -> Number
 }
 
 // The number of a place that isn't an immediate.
+#[inline(never)]
 fn number_of(
     memory: &Memory,
     process: &Process,
@@ -221,10 +252,11 @@ fn number_of(
     ensures kind { IfOk result (λ n. kind_of n ≡ kind) }
 {
     let spot = spot_of(memory, process, source)?;
-    Ok(read_number(memory, process, kind, spot)?)
+    Ok(far_number(memory, process, kind, spot)?)
 }
 
 /// The number of a source.
+#[inline(always)]
 pub fn source_of(
     memory: &Memory,
     process: &Process,
@@ -237,8 +269,8 @@ pub fn source_of(
 {
     match source {
         Operand::Imm(n) => Ok(immediate_as(kind, n)),
+        Operand::Fp(at) => Ok(read_number(memory, process, kind, Spot::Own(i64::from(at)))?),
         Operand::None => number_of(memory, process, kind, source),
-        Operand::Fp(_) => number_of(memory, process, kind, source),
         Operand::Mp(_) => number_of(memory, process, kind, source),
         Operand::IndFp { .. } => number_of(memory, process, kind, source),
         Operand::IndMp { .. } => number_of(memory, process, kind, source),
@@ -246,6 +278,7 @@ pub fn source_of(
 }
 
 /// The number of a middle that is there.
+#[inline(always)]
 pub fn given_of(
     memory: &Memory,
     process: &Process,
@@ -259,12 +292,13 @@ pub fn given_of(
     match middle {
         Middle::Imm(n) => Ok(immediate_as(kind, n)),
         Middle::Fp(at) => read_number(memory, process, kind, Spot::Own(i64::from(at))),
-        Middle::Mp(at) => read_number(memory, process, kind, Spot::Data(i64::from(at))),
+        Middle::Mp(at) => far_number(memory, process, kind, Spot::Data(i64::from(at))),
         Middle::None => Err(Fault::TypeCheck),
     }
 }
 
 /// The number of an operation's middle; where there is none, the destination's.
+#[inline(always)]
 pub fn middle_of(
     memory: &Memory,
     process: &Process,

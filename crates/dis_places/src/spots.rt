@@ -28,6 +28,7 @@ pub enum Spot {
 
 impl Spot {
     /// Its number among the bytes there.
+    #[inline(always)]
     pub fn byte(self) -> i64
         ensures { result ≡ place_in (view_spot self) }
     {
@@ -49,6 +50,7 @@ pub enum Region {
 }
 
 /// The number of the word at a byte: a byte inside a word is none.
+#[inline(always)]
 pub fn word_number(at: i64) -> Result<usize, Fault>
     ensures number { GivesFault (λ k. k) result (words.word_number at) }
     ensures small { IfOk result (λ k. k < 2 ^ 61) }
@@ -60,6 +62,7 @@ pub fn word_number(at: i64) -> Result<usize, Fault>
 }
 
 /// The number of a byte among those of some words.
+#[inline(always)]
 pub fn byte_number(at: i64) -> Result<usize, Fault>
     ensures number { GivesFault (λ n. n) result (words.at_least_zero at) }
     ensures small { IfOk result (λ n. n < 2 ^ 63) }
@@ -71,6 +74,7 @@ pub fn byte_number(at: i64) -> Result<usize, Fault>
 }
 
 // The words of the frame of this serial.
+#[inline]
 fn frame_of(process: &Process, serial: u64) -> Result<Region, Fault>
     ensures { (h : Store) → GivesFault (λ g. words_here h process.now g) result
         (places.words_in serial (places.all_frames (view_process process.now))) }
@@ -84,6 +88,7 @@ fn frame_of(process: &Process, serial: u64) -> Result<Region, Fault>
 }
 
 // The words of a place.
+#[inline]
 fn place_of(memory: &Memory, process: &Process, place: Place) -> Result<Region, Fault>
     ensures { GivesFault (λ g. words_here memory.now.heap process.now g) result
         (meaning.words_of (view_world memory.now) (view_process process.now) (view_place place)) }
@@ -95,6 +100,7 @@ fn place_of(memory: &Memory, process: &Process, place: Place) -> Result<Region, 
 }
 
 /// The words among which a byte is.
+#[inline(always)]
 pub fn reach(memory: &Memory, process: &Process, spot: Spot) -> Result<Region, Fault>
     ensures { GivesFault (λ g. words_here memory.now.heap process.now g) result
         (meaning.words_at (view_world memory.now) (view_process process.now) (view_spot spot)) }
@@ -106,6 +112,7 @@ pub fn reach(memory: &Memory, process: &Process, spot: Spot) -> Result<Region, F
     }
 }
 
+#[inline(always)]
 fn nth_of(row: &[Word], k: usize) -> Result<Word, Fault>
     ensures { GivesFault view_word result (words.or_wrong words.type_check (slice_get (view_words row.now) k)) }
 {
@@ -115,6 +122,7 @@ fn nth_of(row: &[Word], k: usize) -> Result<Word, Fault>
     }
 }
 
+#[inline]
 fn nth_waiting(frames: &[Frame], place: usize, k: usize) -> Result<Word, Fault>
     ensures { GivesFault view_word result
         (words.or_wrong words.type_check (slice_get (words_in (slice_get frames.now place)) k)) }
@@ -125,6 +133,7 @@ fn nth_waiting(frames: &[Frame], place: usize, k: usize) -> Result<Word, Fault>
     }
 }
 
+#[inline]
 fn nth_in_block(heap: &Heap, block: Ref, k: usize) -> Result<Word, Fault>
     ensures { GivesFault view_word result
         (words.or_wrong words.type_check (slice_get (block_words (at heap.now block.serial)) k)) }
@@ -136,6 +145,7 @@ fn nth_in_block(heap: &Heap, block: Ref, k: usize) -> Result<Word, Fault>
 }
 
 /// The word of this number in a region.
+#[inline(always)]
 pub fn nth(memory: &Memory, process: &Process, region: Region, k: usize) -> Result<Word, Fault>
     ensures { GivesFault view_word result
         (words.or_wrong words.type_check (slice_get (words_here memory.now.heap process.now region) k)) }

@@ -135,14 +135,14 @@ fn loaded_module(reference: Option<Ref>) -> Result<Ref, Halt>
 }
 
 // The names to which a module is linked.
-fn names_of(memory: &Memory, module: Ref) -> Result<u32, Fault>
+fn names_of(memory: &Memory, sys: Ref) -> Result<u32, Fault>
     ensures linked { IfOk result (λ n.
-        blocks.block (view_world memory.now) module.serial ≡ words.Found (blocks.Sys (names_by memory.now.tables n))) }
+        blocks.block (view_world memory.now) sys.serial ≡ words.Found (blocks.Sys (names_by memory.now.tables n))) }
     ensures wrong { (k : ℕ) → IfErr result (λ f.
-        words.◌>>=◌ (blocks.block (view_world memory.now) module.serial) (λ b. control.function_of b k) ≡ words.Wrong (number_of f)) }
+        words.◌>>=◌ (blocks.block (view_world memory.now) sys.serial) (λ b. control.function_of b k) ≡ words.Wrong (number_of f)) }
 {
     memory.heap.stands();
-    match memory.heap.kind_of(module) {
+    match memory.heap.kind_of(sys) {
         Ok(kind) => match kind {
             Kind::Sys { names } => Ok(names),
             _ => Err(Fault::TypeCheck),
@@ -171,11 +171,11 @@ fn nth_name(names: &[Text], number: u32) -> Result<&Text, Fault>
 }
 
 // The name of the function of this number.
-fn function_of(memory: &Memory, module: Ref, number: u32) -> Result<&Text, Fault>
+fn function_of(memory: &Memory, sys: Ref, number: u32) -> Result<&Text, Fault>
     ensures { GivesFault (λ name. name.now) result
-        (words.◌>>=◌ (blocks.block (view_world memory.now) module.serial) (λ b. control.function_of b number)) }
+        (words.◌>>=◌ (blocks.block (view_world memory.now) sys.serial) (λ b. control.function_of b number)) }
 {
-    match names_of(memory, module) {
+    match names_of(memory, sys) {
         Ok(names) => nth_name(row(memory.tables.names.as_slice(), names), number),
         Err(fault) => Err(fault),
     }

@@ -1,22 +1,47 @@
 //! Instructions that move a word (Dis Virtual Machine Specification, the instructions by name): movw, movp, lea.
 
-ghost use Rattle.std.specs.Prelude.{◌≡◌, ◌+◌, ◌<◌, ◌^◌, OnErr};
+ghost use Rattle.std.specs.Prelude.{◌≡◌, ◌+◌, ◌<◌, ◌^◌, false, OnErr};
 ghost use Rattle.dis_file.specs.declared.object.Object.{Object};
+ghost use Rattle.ref_heap.specs.Words.{cell_of, is_reference};
 ghost use Rattle.ref_heap.specs.Store.{AreHeld};
+ghost use Rattle.dis_meaning.specs.Words as words;
 ghost use Rattle.dis_memory.specs.Data as moves;
 ghost use Rattle.dis_memory.specs.Naming.{names};
 ghost use Rattle.dis_memory.specs.Places as places;
+ghost use Rattle.dis_memory.specs.Results.{gives_plain_at};
 ghost use Rattle.dis_places.specs.View.{view_process, view_spot, view_world};
 ghost use Rattle.dis_places.specs.Words.{view_word, GivesFault};
 ghost use Rattle.dis_results.specs.Going.{Goes};
 
 use crate::giving::give_plain;
 use crate::operands::{reference_to, source_reference};
-use dis_isa::Inst;
+use dis_isa::{Inst, Operand};
 use dis_places::{
     Fault, Halt, Memory, Process, Spot, Word, address, byte_number, nth, reach, source_plain,
     spot_of,
 };
+
+// Gives a plain word to any destination.
+#[inline(never)]
+fn plain_to(
+    memory: &mut Memory,
+    process: &mut Process,
+    destination: Operand,
+    word: Word,
+) -> Result<(), Halt>
+    requires place { process.old.frame.pc + 1 < 2 ^ 64 }
+    requires plain { is_reference (cell_of word) ≡ false }
+    ensures goes { Goes memory.old process.old result
+        (words.◌>>=◌ (places.spot (view_world memory.old) (view_process process.old) destination) (λ d.
+        gives_plain_at (view_world memory.old) (view_process process.old) d (words.Found (view_word word))))
+        memory.new process.new }
+    ensures kept { OnErr result ((memory.new ≡ memory.old) × (process.new ≡ process.old)) }
+{
+    match spot_of(memory, process, destination) {
+        Ok(spot) => give_plain(memory, process, spot, Ok(word)),
+        Err(halt) => Err(halt),
+    }
+}
 
 /// `movw`: a plain word, whatever stands in it.
 pub fn movw(memory: &mut Memory, process: &mut Process, inst: Inst) -> Result<(), Halt>
@@ -29,9 +54,10 @@ pub fn movw(memory: &mut Memory, process: &mut Process, inst: Inst) -> Result<()
         Ok(word) => word,
         Err(halt) => return Err(halt),
     };
-    match spot_of(memory, process, inst.dst) {
-        Ok(spot) => give_plain(memory, process, spot, Ok(word)),
-        Err(halt) => Err(halt),
+    match inst.dst {
+        // Most words go into the running frame.
+        Operand::Fp(at) => give_plain(memory, process, Spot::Own(i64::from(at)), Ok(word)),
+        _ => plain_to(memory, process, inst.dst, word),
     }
 }
 

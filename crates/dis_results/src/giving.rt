@@ -23,6 +23,7 @@ use dis_stores::{store_plain, store_reference};
 use limbo_values::{Kind, Number};
 
 /// The process comes to its next instruction. What it printed is answered no more.
+#[inline(always)]
 pub fn advance(process: &mut Process)
     requires { process.old.frame.pc + 1 < 2 ^ 64 }
     ensures { view_process process.new ≡ moved_on (view_process process.old) }
@@ -35,6 +36,7 @@ pub fn advance(process: &mut Process)
 }
 
 /// Stores a number, and the process goes on.
+#[inline(always)]
 pub fn finish_number(
     memory: &mut Memory,
     process: &mut Process,
@@ -61,6 +63,7 @@ pub fn finish_number(
 ///
 /// # Errors
 /// The fault that the definition has, what it raises, or want of memory; then nothing has changed.
+#[inline(always)]
 pub fn give_number(
     memory: &mut Memory,
     process: &mut Process,
@@ -86,6 +89,7 @@ pub fn give_number(
 }
 
 // A plain word stands there.
+#[inline(always)]
 fn has_plain(memory: &Memory, process: &Process, spot: Spot) -> Result<Word, Fault>
     ensures { GivesFault view_word result (words.◌>>=◌
         (places.read (view_world memory.now) (view_process process.now) (view_spot spot)) words.plain) }
@@ -100,6 +104,7 @@ fn has_plain(memory: &Memory, process: &Process, spot: Spot) -> Result<Word, Fau
 ///
 /// # Errors
 /// The fault that the definition has, what it raises, or want of memory; then nothing has changed.
+#[inline(always)]
 pub fn give_plain(
     memory: &mut Memory,
     process: &mut Process,
@@ -131,6 +136,7 @@ pub fn give_plain(
 }
 
 /// A reference stands there.
+#[inline(always)]
 pub fn has_reference(memory: &Memory, process: &Process, spot: Spot) -> Result<Option<Ref>, Fault>
     ensures { GivesFault (option_map (λ (r : CodeRef). r.serial)) result
         (places.reference_at (view_world memory.now) (view_process process.now) (view_spot spot)) }

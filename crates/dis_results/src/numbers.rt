@@ -17,6 +17,7 @@ use dis_stores::put;
 use limbo_values::{Kind, Number};
 
 // Replaces a plain word by a number: nothing is held and nothing let go.
+#[inline(always)]
 fn put_int(memory: &mut Memory, process: &mut Process, spot: Spot, z: i32) -> Result<(), Halt>
     ensures gives { Gives (λ _. places.memory (view_world memory.new) (settled (view_process process.new))) result
         (rested (store (view_world memory.old) (view_process process.old) (view_spot spot) (Plain z))) }
@@ -32,6 +33,7 @@ fn put_int(memory: &mut Memory, process: &mut Process, spot: Spot, z: i32) -> Re
 }
 
 // Replaces a byte: the others of its word are left as they were read.
+#[inline]
 fn put_byte(memory: &mut Memory, process: &mut Process, spot: Spot, byte: u8) -> Result<(), Halt>
     ensures gives { Gives (λ _. places.memory (view_world memory.new) (settled (view_process process.new))) result
         (rested (store_number kind.Byte (view_world memory.old) (view_process process.old) (view_spot spot) (pos byte))) }
@@ -50,6 +52,7 @@ fn put_byte(memory: &mut Memory, process: &mut Process, spot: Spot, byte: u8) ->
 }
 
 // Replaces a big, which has two words. Both are looked at before the first is replaced. No memory has the greatest bytes of all.
+#[inline]
 fn put_big(memory: &mut Memory, process: &mut Process, spot: Spot, z: i64) -> Result<(), Halt>
     ensures gives { Gives (λ _. places.memory (view_world memory.new) (settled (view_process process.new))) result
         (rested (store_number kind.Big (view_world memory.old) (view_process process.old) (view_spot spot) z)) }
@@ -78,6 +81,7 @@ fn put_big(memory: &mut Memory, process: &mut Process, spot: Spot, z: i64) -> Re
 ///
 /// # Errors
 /// The fault that the definition has, or want of memory; then nothing has changed.
+#[inline(always)]
 pub fn put_number(
     memory: &mut Memory,
     process: &mut Process,
@@ -101,6 +105,7 @@ pub fn put_number(
 ///
 /// # Errors
 /// The fault that the definition has, or want of memory; then nothing has changed.
+#[inline(always)]
 pub fn store_number(
     memory: &mut Memory,
     process: &mut Process,

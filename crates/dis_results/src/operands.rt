@@ -16,7 +16,7 @@ ghost use Rattle.dis_results.specs.Going.{told, Goes};
 
 use crate::giving::{give_number, give_reference};
 use dis_isa::Operand;
-use dis_places::{Halt, Memory, Process, Raise, Ref, reference, source_word, spot_of};
+use dis_places::{Halt, Memory, Process, Raise, Ref, Spot, reference, source_word, spot_of};
 use limbo_values::{Kind, Number};
 
 /// The block that a source refers to, or nothing. That block is there.
@@ -41,8 +41,9 @@ pub fn source_reference(
     }
 }
 
-/// Gives a number to a destination.
-pub fn number_to(
+// Gives a number to any destination.
+#[inline(never)]
+fn number_anywhere(
     memory: &mut Memory,
     process: &mut Process,
     kind: Kind,
@@ -59,6 +60,29 @@ pub fn number_to(
     match spot_of(memory, process, destination) {
         Ok(spot) => give_number(memory, process, kind, spot, outcome),
         Err(halt) => Err(halt),
+    }
+}
+
+/// Gives a number to a destination.
+#[inline(always)]
+pub fn number_to(
+    memory: &mut Memory,
+    process: &mut Process,
+    kind: Kind,
+    destination: Operand,
+    outcome: Result<Number, Raise>,
+) -> Result<(), Halt>
+    requires place { process.old.frame.pc + 1 < 2 ^ 64 }
+    requires kind { IfOk outcome (λ n. kind_of n ≡ kind) }
+    ensures goes { Goes memory.old process.old result
+        (gives_number (view_world memory.old) (view_process process.old) kind destination (told value_of outcome))
+        memory.new process.new }
+    ensures kept { OnErr result ((memory.new ≡ memory.old) × (process.new ≡ process.old)) }
+{
+    match destination {
+        // Most results go into the running frame.
+        Operand::Fp(at) => give_number(memory, process, kind, Spot::Own(i64::from(at)), outcome),
+        _ => number_anywhere(memory, process, kind, destination, outcome),
     }
 }
 

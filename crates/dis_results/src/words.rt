@@ -11,6 +11,7 @@ use dis_places::{Fault, Memory, Process, Region, Spot, byte_number, nth_number};
 use limbo_values::int;
 
 /// A plain word with one of its bytes replaced.
+#[inline(always)]
 pub fn with_byte(z: i32, k: usize, byte: u8) -> i32
     requires { k < 4 }
     ensures { result ≡ meaning.with_byte z k byte }
@@ -21,6 +22,7 @@ pub fn with_byte(z: i32, k: usize, byte: u8) -> i32
 }
 
 /// The first of the two words of a big.
+#[inline(always)]
 pub fn high_part(z: i64) -> i32
     ensures { result ≡ meaning.high_part z }
 {
@@ -28,6 +30,7 @@ pub fn high_part(z: i64) -> i32
 }
 
 /// The second of them.
+#[inline(always)]
 pub fn low_part(z: i64) -> i32
     ensures { result ≡ meaning.low_part z }
 {
@@ -50,6 +53,7 @@ pub(crate) fn word_with_byte(
 }
 
 /// The byte of this number in the same place.
+#[inline(always)]
 pub(crate) fn moved(spot: Spot, at: i64) -> Spot
     ensures { view_spot result ≡ moved (view_spot spot) at }
 {

@@ -17,6 +17,7 @@ use inf_text::Text;
 use ref_heap::Kind;
 
 // The number of the object whose instance a block of this kind is.
+#[inline(always)]
 fn instance_of(kind: Kind) -> Option<u32>
     ensures { result ≡ instance_of kind }
 {
@@ -27,6 +28,7 @@ fn instance_of(kind: Kind) -> Option<u32>
 }
 
 // The number of the object whose instance a block is.
+#[inline(always)]
 fn object_of(memory: &Memory, instance: Ref) -> Result<u32, Fault>
     ensures { GivesFault (λ n. n) result (words.◌>>=◌ (block (view_world memory.now) instance.serial) meaning.object_of) }
 {
@@ -41,6 +43,7 @@ fn object_of(memory: &Memory, instance: Ref) -> Result<u32, Fault>
 }
 
 /// The code that a process runs.
+#[inline(always)]
 pub(crate) fn code_of<'a>(
     codes: &'a [(Text, Code)],
     memory: &Memory,
@@ -61,13 +64,14 @@ pub(crate) fn code_of<'a>(
 }
 
 /// The instruction at a place of the code.
-pub(crate) fn inst_at(object: &Object, pc: usize) -> Result<Inst, Fault>
-    ensures inst { GivesFault (λ i. i) result (words.or_wrong words.bad_jump (slice_get object.now.insts pc)) }
-    ensures there { IfOk result (λ i. slice_get object.now.insts pc ≡ Some i) }
+#[inline(always)]
+pub(crate) fn inst_at(object: &Object, pc: usize) -> Result<&Inst, Fault>
+    ensures inst { GivesFault (λ i. i.now) result (words.or_wrong words.bad_jump (slice_get object.now.insts pc)) }
+    ensures there { IfOk result (λ i. slice_get object.now.insts pc ≡ Some i.now) }
     ensures within { OnOk result (pc + 1 < 2 ^ 64) }
 {
     match object.insts.as_slice().get(pc) {
-        Some(inst) => Ok(*inst),
+        Some(inst) => Ok(inst),
         None => Err(Fault::BadJump),
     }
 }

@@ -27,6 +27,7 @@ use dis_text_numbers::{cvtac, cvtca, number_of_text, text_of_number};
 use std::alloc::Global;
 
 /// Instructions that move data.
+#[inline(always)]
 pub(crate) fn moves(
     alloc: Global,
     code: &Code,

@@ -137,6 +137,7 @@ pub enum Form {
 }
 
 // The comparison of strings that an operation is.
+#[inline]
 fn text_row(op: Op) -> Option<Comparison>
     ensures { result ≡ text_row op }
 {
@@ -152,7 +153,7 @@ fn text_row(op: Op) -> Option<Comparison>
 }
 
 // What the tables say of an operation on numbers, or of a comparison of strings.
-#[inline]
+#[inline(always)]
 fn by_tables(op: Op) -> Form
     ensures { result ≡ by_rows (number_row op) (text_row op) }
 {
@@ -166,7 +167,7 @@ fn by_tables(op: Op) -> Form
 }
 
 /// What an operation is.
-#[inline]
+#[inline(always)]
 pub(crate) fn form_of(op: Op) -> Form
     ensures { result ≡ form_of op }
 {

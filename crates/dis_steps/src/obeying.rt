@@ -28,6 +28,7 @@ use dis_text_numbers::compares;
 use std::alloc::Global;
 
 // An instruction that goes on where it does anything.
+#[inline(always)]
 fn went(outcome: Result<(), Halt>) -> Result<Does, Halt>
     ensures went { result ≡ went_of outcome }
     ensures silent { (printing : Option Asking) → Sends result printing }
@@ -39,6 +40,7 @@ fn went(outcome: Result<(), Halt>) -> Result<Does, Halt>
 }
 
 /// Jumps, frames, calls and modules.
+#[inline(always)]
 fn controls(
     alloc: Global,
     limit: usize,
@@ -69,6 +71,7 @@ fn controls(
 }
 
 /// What an instruction of a form does.
+#[inline(always)]
 fn obey_form(
     alloc: Global,
     limit: usize,
@@ -104,6 +107,7 @@ fn obey_form(
 }
 
 /// What an instruction does.
+#[inline(always)]
 pub(crate) fn obey(
     alloc: Global,
     limit: usize,

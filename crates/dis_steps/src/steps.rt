@@ -22,6 +22,7 @@ use inf_text::Text;
 use std::alloc::{AllocError, Global};
 
 // Runs the instruction at the process's place.
+#[inline(always)]
 fn run(
     alloc: Global,
     limit: usize,
@@ -43,12 +44,13 @@ fn run(
         Err(fault) => return Err(Halt::Fault(fault)),
     };
     match inst_at(&code.object, process.frame.pc) {
-        Ok(inst) => obey(alloc, limit, code, memory, process, inst),
+        Ok(inst) => obey(alloc, limit, code, memory, process, *inst),
         Err(fault) => Err(Halt::Fault(fault)),
     }
 }
 
 // What comes behind an instruction that did this.
+#[inline(always)]
 fn done(memory: &mut Memory, process: &Process, does: Does) -> Stepped
     requires held { ends does ≡ true → AreHeld memory.old.heap (names (view_process process.now)) }
     ensures { Done does memory.old process.now result memory.new }
@@ -106,6 +108,7 @@ fn halted(alloc: Global, memory: &mut Memory, process: &Process, halt: Halt) -> 
 
 /// One instruction of a process, where at most `limit` frames may be called, and the cut behind it. The tables have what the objects ask
 /// for, each frame has a serial that the machine gave, and all that the process refers to is held.
+#[inline(always)]
 pub fn step(
     alloc: Global,
     limit: usize,

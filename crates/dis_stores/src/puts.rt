@@ -23,6 +23,7 @@ use dis_places::{
 };
 
 /// Whether a word takes another: one of its own kind alone.
+#[inline(always)]
 pub(crate) fn fits(old: Word, new: Word) -> bool
     ensures { result ≡ words.fits (view_word old) (view_word new) }
 {
@@ -30,6 +31,7 @@ pub(crate) fn fits(old: Word, new: Word) -> bool
 }
 
 // The word of this number.
+#[inline(always)]
 fn nth(row: &[Word], k: usize) -> Result<Word, Fault>
     ensures word { GivesFault view_word result (words.or_wrong words.type_check (slice_get (view_words row.now) k)) }
     ensures stood { IfOk result (λ word. slice_get row.now k ≡ Some word) }
@@ -41,6 +43,7 @@ fn nth(row: &[Word], k: usize) -> Result<Word, Fault>
 }
 
 // Replaces a word by one of its kind.
+#[inline(always)]
 fn replace(row: &mut Vec<Word>, k: usize, new: Word) -> Result<Word, Fault>
     ensures gives { GivesFault (λ _. view_words row.new.items) result
         (words.replaced (view_words row.old.items) k (view_word new)) }
@@ -58,6 +61,7 @@ fn replace(row: &mut Vec<Word>, k: usize, new: Word) -> Result<Word, Fault>
 }
 
 // Replaces the word at a byte of some words.
+#[inline(always)]
 fn put_at(row: &mut Vec<Word>, at: i64, new: Word) -> Result<Word, Fault>
     ensures gives { GivesFault (λ _. view_words row.new.items) result
         (words.stored (view_words row.old.items) at (view_word new)) }
@@ -127,6 +131,7 @@ fn put_in_block(memory: &mut Memory, block: Ref, at: i64, new: Word) -> Result<W
 }
 
 // Replaces the word at a byte of the running frame.
+#[inline(always)]
 fn put_own(process: &mut Process, at: i64, new: Word) -> Result<Word, Halt>
     ensures gives { (x : World) → Gives (λ _. places.memory x (settled (view_process process.new))) result
         (rested (store x (view_process process.old) (Own at) (view_word new))) }
@@ -162,6 +167,7 @@ fn put_far(process: &mut Process, serial: u64, at: i64, new: Word) -> Result<Wor
 }
 
 // Replaces the word at a byte of a place.
+#[inline]
 fn put_in_place(
     memory: &mut Memory,
     process: &mut Process,
@@ -187,6 +193,7 @@ fn put_in_place(
 }
 
 // Replaces the word at a byte of the data of the process's module.
+#[inline]
 fn put_in_data(memory: &mut Memory, process: &Process, at: i64, new: Word) -> Result<Word, Halt>
     requires held { AreHeld memory.old.heap (named new) }
     ensures gives { Gives (λ _. places.memory (view_world memory.new) (settled (view_process process.now))) result
@@ -206,6 +213,7 @@ fn put_in_data(memory: &mut Memory, process: &Process, at: i64, new: Word) -> Re
 ///
 /// # Errors
 /// The fault that the definition has, or want of memory; then nothing has changed.
+#[inline(always)]
 pub fn put(memory: &mut Memory, process: &mut Process, spot: Spot, new: Word) -> Result<Word, Halt>
     requires held { AreHeld memory.old.heap (named new) }
     ensures gives { Gives (λ _. places.memory (view_world memory.new) (settled (view_process process.new))) result

@@ -21,6 +21,7 @@ use ref_heap::Heap;
 ///
 /// # Errors
 /// The fault that the definition has, or want of memory; then nothing has changed.
+#[inline(always)]
 pub fn store_plain(
     memory: &mut Memory,
     process: &mut Process,

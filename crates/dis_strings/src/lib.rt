@@ -15,4 +15,4 @@ mod texts;
 
 pub use giving::{finish_text, give_text, text_to};
 pub use making::{addc, insc, slicec};
-pub use operands::{given_int, middle_text, source_int, source_text, text_there};
+pub use operands::{middle_text, source_text, text_there};

@@ -19,13 +19,13 @@ ghost use Rattle.dis_strings.specs.Renewing.{Changes};
 ghost use Rattle.dis_strings.specs.Telling.{left_reference};
 
 use crate::giving::give_text;
-use crate::operands::{given_int, middle_reference, source_int, source_text, text_there};
+use crate::operands::{middle_reference, source_text, text_there};
 use crate::renewing::{Change, Edit, give_change, own_block};
 use crate::texts::{joined, place_in, sliced, with_character};
 use dis_isa::{Inst, Middle};
 use dis_kinds::text_of;
 use dis_places::{Halt, Memory, Process, Raise, Ref, Spot, spot_of};
-use dis_results::has_reference;
+use dis_results::{given_int, has_reference, source_int};
 use limbo_values::joined_len;
 use std::alloc::Global;
 use sys_print::character;

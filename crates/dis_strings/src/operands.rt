@@ -2,7 +2,6 @@
 
 ghost use Rattle.std.specs.Prelude.{◌≡◌};
 ghost use Rattle.std.specs.Option.{option_map};
-ghost use Rattle.limbo_values.specs.declared.number.Kind.TheVariants as kind;
 ghost use Rattle.ref_heap.specs.declared.word.Ref.{Ref as CodeRef};
 ghost use Rattle.dis_meaning.specs.Words as words;
 ghost use Rattle.dis_memory.specs.Kinds.{text_at};
@@ -12,37 +11,8 @@ ghost use Rattle.dis_places.specs.Words.{Gives, GivesFault};
 
 use dis_isa::{Middle, Operand};
 use dis_kinds::text_of;
-use dis_places::{
-    Fault, Halt, Memory, Process, Ref, Spot, given_of, middle_word, reference, source_of,
-};
+use dis_places::{Fault, Halt, Memory, Process, Ref, Spot, middle_word, reference};
 use dis_results::{has_reference, source_reference};
-use limbo_values::{Kind, Number};
-
-/// The int of a source.
-pub fn source_int(memory: &Memory, process: &Process, source: Operand) -> Result<i32, Halt>
-    ensures { Gives (λ n. n) result
-        (places.source_of kind.Int (view_world memory.now) (view_process process.now) source) }
-{
-    match source_of(memory, process, Kind::Int, source) {
-        Ok(Number::Int(n)) => Ok(n),
-        Ok(Number::Byte(_)) => unreachable!(),
-        Ok(Number::Big(_)) => unreachable!(),
-        Err(halt) => Err(halt),
-    }
-}
-
-/// The int of a middle.
-pub fn given_int(memory: &Memory, process: &Process, middle: Middle) -> Result<i32, Fault>
-    ensures { GivesFault (λ n. n) result
-        (places.given_of kind.Int (view_world memory.now) (view_process process.now) middle) }
-{
-    match given_of(memory, process, Kind::Int, middle) {
-        Ok(Number::Int(n)) => Ok(n),
-        Ok(Number::Byte(_)) => unreachable!(),
-        Ok(Number::Big(_)) => unreachable!(),
-        Err(fault) => Err(fault),
-    }
-}
 
 /// The characters of the string that a source refers to.
 pub fn source_text<'a>(

@@ -24,7 +24,7 @@ use dis_blocks::store_new;
 use dis_isa::{Inst, Operand};
 use dis_kinds::{Elements, bytes_from, elements_of};
 use dis_places::{Fault, Halt, Memory, Process, Raise, Region, Spot, spot_of};
-use dis_results::{advance, has_reference, source_reference};
+use dis_results::{advance, has_reference, size_of, source_reference};
 use dis_strings::{source_text, text_to};
 use ref_heap::{Kind, Words};
 use std::alloc::Global;
@@ -118,16 +118,6 @@ pub fn cvtca(
     match spot_of(memory, process, inst.dst) {
         Ok(spot) => give_bytes(alloc, memory, process, spot, bytes),
         Err(halt) => Err(halt),
-    }
-}
-
-// How many bytes an element has.
-fn size_of(memory: &Memory, elements: Elements) -> u32
-    ensures { result ≡ (view_elements memory.now elements).element.size }
-{
-    match memory.tables.types.get(elements.element as usize) {
-        Some(desc) => desc.size,
-        None => 0,
     }
 }
 

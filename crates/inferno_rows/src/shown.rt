@@ -1,7 +1,7 @@
 //! What is printed of a command's end.
 
+use dis_machine::{Event, Journal};
 use inferno_top::Ended;
-use machine_core::{Event, Journal};
 use std::alloc::{AllocError, Global};
 
 // Of more bytes than these the last are shown.

@@ -1,8 +1,8 @@
 -- What a run took, by its journal.
 use Rattle.std.specs.Prelude.{ℕ, suc, List, [], ◌∷◌, ◌++◌, codes, decimal}
-use Rattle.machine_core.specs.declared.event.Event.{Event}
-use Rattle.machine_core.specs.declared.event.Event.TheVariants as event
-use Rattle.machine_core.specs.Journal.{quanta}
+use Rattle.dis_machine.specs.declared.event.Event.{Event}
+use Rattle.dis_machine.specs.declared.event.Event.TheVariants as event
+use Rattle.dis_machine.specs.Journal.{quanta}
 use Rattle.inferno_stats.specs.declared.stats.Stats.{Stats}
 
 -- how many replies a journal has

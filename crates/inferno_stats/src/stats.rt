@@ -1,7 +1,7 @@
 ghost use Rattle.std.specs.Prelude.{◌≡◌, IfOk, string_bytes, decimal};
 ghost use Rattle.inferno_stats.specs.Stats.{stats_in, stats_line};
 
-use machine_core::{Event, Journal};
+use dis_machine::{Event, Journal};
 use std::alloc::{AllocError, Global};
 
 /// What a run took.

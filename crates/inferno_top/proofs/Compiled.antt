@@ -7,8 +7,9 @@ use Rattle.dis_format.specs.Objects.{Spells, written_form}
 use Rattle.dis_format.proofs.Whole.{one_object}
 use Rattle.dis_format.proofs.Shortest as shortest
 use Rattle.limbo_typed.specs.Typed.{Module}
+use Rattle.dis_meaning.specs.Opening.{StringsSpell}
 use Rattle.code_sim.specs.Keeps.{object_for}
-use Rattle.machine_core.specs.declared.event.Journal.{Journal}
+use Rattle.dis_machine.specs.declared.event.Journal.{Journal}
 use Rattle.limbo_compiler.proofs.Means.{journals_mean}
 use Rattle.limbo_command.specs.Write as write
 use Rattle.limbo_command.proofs.Unchanged.{untouched}
@@ -40,7 +41,7 @@ object_file m o made =
       spelled = spelled;
       means = λ p spells. subst (RunsMean m) (sym (one_object p (object_for m) (written_form o) spells spelled))
           (λ init first begins journal cut t reaches.
-          journals_mean m made.has.part made.has.within.frames init first begins journal cut t reaches);
+          journals_mean m made.has.part made.has.within.frames (subst StringsSpell made.same made.spelled) init first begins journal cut t reaches);
     }
 
 -- ---- what is left after the write, and before it

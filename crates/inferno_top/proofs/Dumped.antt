@@ -11,7 +11,7 @@ use Rattle.dis_text.specs.Listing.{listing_of}
 use Rattle.dis_dump.specs.Dump.{Output, IsDump, IsShown}
 use Rattle.dis_dump.specs.declared.command.DumpEnd.{DumpEnd}
 use Rattle.dis_dump.specs.declared.command.DumpEnd.TheVariants.{Done, BadObject, Unread, SinkFault, NoMemory}
-use Rattle.machine_core.specs.declared.event.Journal.{Journal}
+use Rattle.dis_machine.specs.declared.event.Journal.{Journal}
 use Rattle.inferno_top.specs.Dumping.{HasDumped, TellsObject, IsListing, IsObjectRefusal, dump_cause}
 use Rattle.inferno_top.specs.Outcome.{IsUnlessMemory, IsUnrun, Tells}
 use Rattle.inferno_top.specs.Running.{NothingRan}

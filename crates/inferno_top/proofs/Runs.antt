@@ -6,21 +6,21 @@ use Rattle.inf_ports.specs.Outside.{Told, Rose}
 use Rattle.dis_file.specs.declared.object.Object.{Object}
 use Rattle.dis_format.specs.Objects.{Spells, written_form}
 use Rattle.limbo_typed.specs.Typed.{Module}
+use Rattle.dis_meaning.specs.Opening.{StringsSpell}
 use Rattle.code_sim.specs.Keeps.{object_for}
-use Rattle.machine_core.specs.declared.event.Event.{Event}
-use Rattle.machine_core.specs.declared.event.Journal.{Journal}
-use Rattle.machine_core.specs.declared.end.End.{End}
-use Rattle.machine_core.specs.declared.end.End.TheVariants as end
-use Rattle.machine_core.specs.declared.machine.Machine.{Machine}
-use Rattle.machine_core.specs.Journal.{State, Fault, fault_in, quanta, or_else}
-use Rattle.machine_core.specs.Ends.{Breach, breaches, ended_in, any_live, faulted, over}
-use Rattle.machine_core.specs.Kept.{view_broken}
-use Rattle.machine_core.specs.Standing.{codes}
+use Rattle.dis_machine.specs.declared.event.Event.{Event}
+use Rattle.dis_machine.specs.declared.event.Journal.{Journal}
+use Rattle.dis_machine.specs.declared.end.End.{End}
+use Rattle.dis_machine.specs.declared.end.End.TheVariants as end
+use Rattle.dis_machine.specs.declared.machine.Machine.{Machine}
+use Rattle.dis_machine.specs.Journal.{State, Fault, fault_in, quanta, or_else}
+use Rattle.dis_machine.specs.Ends.{Breach, breaches, ended_in, any_live, faulted, over}
+use Rattle.dis_machine.specs.Kept.{view_broken}
+use Rattle.dis_machine.specs.Standing.{codes, objects}
 use Rattle.machine_host.specs.declared.run.Ran.{Ran}
 use Rattle.machine_host.specs.Leading.{Leads}
 use Rattle.limbo_compiler.specs.Means.{Means}
-use Rattle.limbo_compiler.proofs.Means.{journals_mean}
-use Rattle.limbo_compiler.proofs.Sound.{none_fault}
+use Rattle.limbo_compiler.proofs.Means.{journals_mean, none_fault}
 use Rattle.inferno_top.specs.Outcome.{IsAccepted, IsRefusal, IsRunEnd, IsUnrun, HasRun, TellsProgram, is_run_out, lacks_memory}
 use Rattle.inferno_top.specs.Running.{IsCompiled, IsOwnCause, IsOwnEnd, IsRun, IsStarted, NothingRan, Says}
 use Rattle.inferno_command.specs.Base.{base_name}
@@ -67,30 +67,31 @@ led limit m o r old new before after c l =
     let there : Leads (object_for m ∷ []) limit r old new before after = subst (λ (x : Object). Leads (x ∷ []) limit r old new before
     after) c.made.same l in
     let reached = there.conversation.reached in
+    let spell : StringsSpell (object_for m) = subst StringsSpell c.made.same c.made.spelled in
     record {
       leads = there;
       means = λ d. subst (λ (es : List Event). Means m d.init es there.state) (sym reached.all) (journals_mean m (part_of Run m c.made.has.part) c.made.has.within.frames
-          d.init d.first d.enters reached.journal reached.cut there.state reached.reaches);
-      own = own_end limit (quanta r.journal.events) there.state r.end (none_fault m (part_of Run m c.made.has.part) c.made.has.within.frames c.init c.first c.enters
-          reached.journal reached.cut there.state reached.reaches) there.conversation.ended;
+          spell d.init d.first d.enters reached.journal reached.cut there.state reached.reaches);
+      own = own_end limit (quanta r.journal.events) there.state r.end (none_fault m (part_of Run m c.made.has.part) c.made.has.within.frames spell c.init c.first
+          c.enters reached.journal reached.cut there.state reached.reaches) there.conversation.ended;
     }
 
 pub started_codes : (limit : ℕ) (path : List ℕ) (o : Object) (machine : Machine) → IsStarted limit path o machine → codes machine ≡ o ∷ []
-started_codes limit path o machine s = ap (map (λ x. x.1)) s.objects ∙ ap (λ (x : Object). x ∷ []) s.same
+started_codes limit path o machine s = s.begun.codes ∙ ap (λ (x : Object). x ∷ []) s.same
 
 pub run_as : (limit : ℕ) (path : List ℕ) (m : Module) (o : Object) (machine : Machine) (r : Ran) (cause : Cause) (old new : Option (List
     ℕ)) (before after : ℕ) →
-    IsCompiled m o → IsStarted limit path o machine → Leads (codes machine) machine.limit r old new before after → r.objects ≡
-    machine.objects →
+    IsCompiled m o → IsStarted limit path o machine → Leads (codes machine) machine.limit r old new before after → r.objects.items ≡
+    objects machine →
     ((t : State) → map view_broken r.broken.items ≡ breaches t.trace → Says limit t r.end cause) →
     IsRun limit path m (Some r.journal) r.objects.items old new before after cause
 run_as limit path m o machine r cause old new before after c s l same says =
-    let at : Leads (o ∷ []) limit r old new before after = subst (λ (n : ℕ). Leads (o ∷ []) n r old new before after) s.limit (subst (λ
+    let at : Leads (o ∷ []) limit r old new before after = subst (λ (n : ℕ). Leads (o ∷ []) n r old new before after) s.begun.same.1 (subst (λ
     (os : List Object). Leads os machine.limit r old new before after) (started_codes limit path o machine s) l) in
     let k = led limit m o r old new before after c at in (
       record {
         object = s.read;
-        named = ap (λ v. v.items) same ∙ s.objects;
+        named = same ∙ s.begun.same.0;
         spelled = subst (λ (x : Object). Spells s.read (written_form x)) c.made.same s.spelled;
       },
       record {
@@ -108,7 +109,7 @@ pub own_of : (limit : ℕ) (path : List ℕ) (m : Module) (o : Object) (machine 
     : ℕ) →
     IsCompiled m o → IsStarted limit path o machine → Leads (codes machine) machine.limit r old new before after → IsOwnEnd r.end
 own_of limit path m o machine r old new before after c s l =
-    let at : Leads (o ∷ []) limit r old new before after = subst (λ (n : ℕ). Leads (o ∷ []) n r old new before after) s.limit (subst (λ
+    let at : Leads (o ∷ []) limit r old new before after = subst (λ (n : ℕ). Leads (o ∷ []) n r old new before after) s.begun.same.1 (subst (λ
     (os : List Object). Leads os machine.limit r old new before after) (started_codes limit path o machine s) l) in
     (led limit m o r old new before after c at).own
 

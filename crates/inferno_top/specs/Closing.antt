@@ -4,9 +4,9 @@ use Rattle.std.specs.Io.KnownBytes.{Appends}
 use Rattle.inf_ports.specs.Outside.{Rose, AppendsPart}
 use Rattle.dis_format.specs.Answers.{refusal_number}
 use Rattle.link_sign.specs.declared.found.Clash.{Clash}
-use Rattle.machine_core.specs.Ends.{Breach}
-use Rattle.machine_core.specs.Kept.{view_broken}
-use Rattle.machine_core.specs.declared.event.Journal.{Journal}
+use Rattle.dis_machine.specs.Ends.{Breach}
+use Rattle.dis_machine.specs.Kept.{view_broken}
+use Rattle.dis_machine.specs.declared.event.Journal.{Journal}
 use Rattle.inferno_stats.specs.declared.stats.Stats.{Stats}
 use Rattle.inferno_stats.specs.Stats.{stats_in, stats_line}
 use Rattle.inferno_top.specs.declared.cause.Cause.{Cause}

@@ -6,9 +6,9 @@ use Rattle.dis_format.specs.Objects.{Spells, written_form}
 use Rattle.limbo_typed.specs.Typed.{Module}
 use Rattle.typed_meaning.specs.Program.{Routine}
 use Rattle.code_sim.specs.Keeps.{object_for, BeginsWith}
-use Rattle.machine_core.specs.declared.event.Event.{Event}
-use Rattle.machine_core.specs.declared.event.Journal.{Journal}
-use Rattle.machine_core.specs.Journal.{State, state_of, cut_events}
+use Rattle.dis_machine.specs.declared.event.Event.{Event}
+use Rattle.dis_machine.specs.declared.event.Journal.{Journal}
+use Rattle.dis_machine.specs.Journal.{State, state_of, cut_events}
 use Rattle.limbo_compiler.specs.Means.{Means}
 use Rattle.limbo_command.specs.declared.command.WriteEnd.{WriteEnd}
 use Rattle.limbo_command.specs.declared.command.WriteEnd.TheVariants as end

@@ -8,7 +8,7 @@ use Rattle.dis_text.specs.Listing.{listing_of}
 use Rattle.dis_dump.specs.Dump.{Output, IsDump, IsShown}
 use Rattle.dis_dump.specs.declared.command.DumpEnd.{DumpEnd}
 use Rattle.dis_dump.specs.declared.command.DumpEnd.TheVariants as end
-use Rattle.machine_core.specs.declared.event.Journal.{Journal}
+use Rattle.dis_machine.specs.declared.event.Journal.{Journal}
 use Rattle.inferno_top.specs.Outcome.{Tells}
 use Rattle.inferno_top.specs.declared.cause.Cause.{Cause}
 use Rattle.inferno_top.specs.declared.cause.Cause.TheVariants as cause

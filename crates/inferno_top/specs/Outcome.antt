@@ -3,7 +3,7 @@ use Rattle.std.specs.Prelude.{ℕ, ◌≡◌, ◌≤◌, ◌⊎◌, List, Option
 use Rattle.inf_ports.specs.Outside.{Told, Lacks, Rose}
 use Rattle.dis_file.specs.declared.object.Object.{Object}
 use Rattle.limbo_typed.specs.Typed.{Module}
-use Rattle.machine_core.specs.declared.event.Journal.{Journal}
+use Rattle.dis_machine.specs.declared.event.Journal.{Journal}
 use Rattle.limbo_tree.specs.Sources.{Source}
 use Rattle.source_modules.specs.Checked.{IsOther}
 use Rattle.declared_signs.specs.Declared.{HasClash}

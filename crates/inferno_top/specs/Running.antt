@@ -6,14 +6,14 @@ use Rattle.limbo_typed.specs.Typed.{Function, Module}
 use Rattle.typed_meaning.specs.Program.{Routine}
 use Rattle.dis_meaning.specs.Opening.{StringsSpell}
 use Rattle.code_sim.specs.Keeps.{object_for, BeginsWith}
-use Rattle.machine_core.specs.declared.event.Journal.{Journal}
-use Rattle.machine_core.specs.declared.end.End.{End}
-use Rattle.machine_core.specs.declared.end.End.TheVariants as end
-use Rattle.machine_core.specs.declared.machine.Machine.{Machine}
-use Rattle.machine_core.specs.Journal.{State}
-use Rattle.machine_core.specs.Ends.{breaches}
-use Rattle.machine_core.specs.Kept.{view_broken}
-use Rattle.machine_core.specs.Standing.{HasBegun}
+use Rattle.dis_machine.specs.declared.event.Journal.{Journal}
+use Rattle.dis_machine.specs.declared.end.End.{End}
+use Rattle.dis_machine.specs.declared.end.End.TheVariants as end
+use Rattle.dis_machine.specs.declared.machine.Machine.{Machine}
+use Rattle.dis_machine.specs.Journal.{State}
+use Rattle.dis_machine.specs.Ends.{breaches}
+use Rattle.dis_machine.specs.Kept.{view_broken}
+use Rattle.dis_machine.specs.Standing.{HasBegun}
 use Rattle.machine_host.specs.Conversation.{Conversation}
 use Rattle.limbo_compiler.specs.Means.{Means}
 use Rattle.inferno_top.specs.Built.{HasObject}
@@ -100,9 +100,7 @@ pub record IsStarted (quanta : ℕ) (path : List ℕ) (o : Object) (machine : Ma
   pub read : Object
   pub spelled : Spells read (written_form o)
   pub same : read ≡ o
-  pub objects : machine.objects.items ≡ (base_name path, read) ∷ []
-  pub limit : machine.limit ≡ quanta
-  pub begun : HasBegun machine.objects machine.limit machine
+  pub begun : HasBegun ((base_name path, read) ∷ []) quanta machine
 
 -- how a run ends, before the counts of faults are looked at
 abbrev pub IsOwnCause : Cause → Type 0

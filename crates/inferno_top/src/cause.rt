@@ -5,12 +5,12 @@ ghost use Rattle.inferno_top.specs.Faults.{number_of, place_of};
 
 use dis_file::Object;
 use dis_format::FileFault;
+use dis_machine::{Broken, Journal};
 use inf_text::{Span, Text};
 use inferno_stats::Stats;
 use limbo_lexer::LexFault;
 use limbo_parser::ParseFault;
 use link_sign::Clash;
-use machine_core::{Broken, Journal};
 use std::alloc::Global;
 
 /// Why a source was refused.

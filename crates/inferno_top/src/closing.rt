@@ -1,16 +1,16 @@
 ghost use Rattle.std.specs.Prelude.{◌≡◌, ◌≤◌, ◌⊎◌, ◌++◌, ◌∷◌, [], map, IfOk, string_bytes, decimal, codes, encode_utf8_all};
-ghost use Rattle.machine_core.specs.Kept.{view_broken};
+ghost use Rattle.dis_machine.specs.Kept.{view_broken};
 ghost use Rattle.dis_format.specs.Answers.{refusal_number};
 ghost use Rattle.inferno_top.specs.Closing.{line, closing_line, closing_lines, told, told_refusal, broken_line, broken_lines};
 ghost use Rattle.inferno_top.specs.Closing.{clash_line, IsWritten};
 
 use crate::cause::{Cause, SourceFault};
 use dis_format::FileFault;
+use dis_machine::Broken;
 use inf_ports::{Sink, write_whole};
 use inf_text::Text;
 use inferno_stats::Stats;
 use link_sign::Clash;
-use machine_core::Broken;
 use std::alloc::{AllocError, Global};
 
 /// A line of the command: its name, words, a path where one belongs there, and what follows it.

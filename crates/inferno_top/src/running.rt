@@ -3,17 +3,17 @@
 ghost use Rattle.std.specs.Prelude.{◌≡◌, ◌≤◌, ◌↔◌, IfOk, IsTrue, map};
 ghost use Rattle.inf_ports.specs.Outside.{Rose};
 ghost use Rattle.limbo_typed.specs.Typed.{Module};
-ghost use Rattle.machine_core.specs.Journal.{State};
-ghost use Rattle.machine_core.specs.Ends.{breaches};
-ghost use Rattle.machine_core.specs.Kept.{view_broken};
+ghost use Rattle.dis_machine.specs.Journal.{State};
+ghost use Rattle.dis_machine.specs.Ends.{breaches};
+ghost use Rattle.dis_machine.specs.Kept.{view_broken};
 ghost use Rattle.inferno_top.specs.Running.{IsCompiled, IsOwnCause, IsOwnEnd, IsRun, IsStarted, Says};
 
 use crate::cause::{Cause, Left};
 use dis_file::Object;
+use dis_machine::{Broken, End, Machine, Setup, StartFault};
 use inf_ports::Sink;
 use inf_text::Text;
 use inferno_command::base_name;
-use machine_core::{Broken, End, Machine, Setup, StartFault};
 use machine_host::{Ran, run_machine};
 use object_bytes::reread;
 use std::alloc::{AllocError, Global};

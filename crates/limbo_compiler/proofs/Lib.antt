@@ -1,5 +1,3 @@
 pub mod Fine
-pub mod Spelled
 pub mod Means
-pub mod Sound
 pub mod Valid

@@ -1,32 +1,36 @@
--- A machine's journal, instruction by instruction, is a journal of the law.
+-- A machine's journal, instruction by instruction, is a journal of process_model, of which memory_sim's law speaks.
 use Rattle.std.proofs.Common.{◌≡◌, ℕ, zero, suc, Bool, true, false, List, [], ◌∷◌, ◌++◌, Option, Some, None, refl, sym, ap, subst, ◌∙◌, if◌then◌else◌, append-nil, append_assoc}
 use Rattle.std.specs.Prelude.{◌==◌}
 use Rattle.styx_msg.specs.declared.message.Rmsg.{Rmsg}
+use Rattle.process_model.specs.Process.{Requested, Replied, Passed, Over, Released, Lost}
 use Rattle.process_model.specs.Machine as model
-use Rattle.process_model.specs.Machine.{turns}
-use Rattle.process_model.specs.Law.{makers, repeated, begins_code}
+use Rattle.process_model.specs.Law.{repeated}
 use Rattle.process_model.specs.Law as law
-use Rattle.process_model.specs.Plain.{no_names}
+use Rattle.system_model.specs.Ending.{Ended, Broken, Faulted}
+use Rattle.system_model.specs.Trace.{Trace}
 use Rattle.dis_file.specs.declared.object.Object.{Object}
 use Rattle.limbo_typed.specs.Typed.{Module}
 use Rattle.typed_meaning.specs.Program.{Routine}
 use Rattle.typed_lower.specs.Sizes.{FrameTooLarge}
 use Rattle.typed_part.specs.Part.{is_part}
 use Rattle.inf_text.specs.Options.{◌>>=◌}
-use Rattle.dis_meaning.specs.Opening.{Opened, opened}
-use Rattle.machine_core.specs.declared.event.Event.{Event}
-use Rattle.machine_core.specs.declared.event.Event.TheVariants as event
-use Rattle.machine_core.specs.Journal.{State, Tagged, longest, machine_rules, fault_in, reply_in, asker, meant, happens, replay, begins, cut_short, state_of, cut_events, place_of}
-use Rattle.machine_core.specs.Translated.{translated}
-use Rattle.machine_core.proofs.Translation.{translates, happened}
+use Rattle.dis_meaning.specs.Words.{Access, Found, Wrong, Raises}
+use Rattle.dis_meaning.specs.Opening.{if_found, StringsSpell}
+use Rattle.dis_memory.specs.Naming.{naming}
+use Rattle.dis_counts.specs.Opening.{Opened, opened}
+use Rattle.dis_counts.specs.Counts.{CountsAreExact, begun}
+use Rattle.dis_agreement.specs.Runs.{NoFault}
 use Rattle.code_sim.specs.Keeps.{object_for, BeginsWith}
-use Rattle.code_sim.specs.Begins.{begins_with}
-use Rattle.code_sim.proofs.Together.{journals}
-use Rattle.code_sim.proofs.Beginning as beginning
+use Rattle.memory_sim.specs.Keeps.{KeepsWithMemory}
+use Rattle.memory_sim.proofs.Keeping.{memory_keeps_meaning}
+use Rattle.dis_machine.specs.declared.event.Event.{Event}
+use Rattle.dis_machine.specs.declared.event.Event.TheVariants as event
+use Rattle.dis_machine.specs.Journal.{State, Tagged, longest, machine_rules, fault_in, reply_in, asker, meant, happens, replay, begins, cut_short, state_of, cut_events, place_of}
+use Rattle.dis_machine.specs.Translated.{translated}
+use Rattle.dis_machine.proofs.Translation.{happened, same_replay}
 use Rattle.limbo_compiler.specs.Fine.{singles, fine}
-use Rattle.limbo_compiler.specs.Means.{at_place, instructions_of, instructions, Means, JournalsMean}
+use Rattle.limbo_compiler.specs.Means.{at_place, instructions_of, instructions, Means, JournalsMean, NoneFault, CountsExact}
 use Rattle.limbo_compiler.proofs.Fine.{on, turns_fine, replay_fine, fine_has}
-use Rattle.limbo_compiler.proofs.Spelled.{begun_spelled}
 
 -- ---- the instructions of the translation
 
@@ -80,9 +84,9 @@ abbrev cut_fine : Option ℕ → List (model.Event Rmsg)
 cut_fine None = []
 cut_fine (Some count) = singles 0 count
 
-cut_replays : (objects : List Object) (cut : Option ℕ) (s t : State) → cut_short objects cut s ≡ Some t → model.replay (machine_rules objects) no_names 1 s (cut_fine cut) ≡ Some t
+cut_replays : (objects : List Object) (cut : Option ℕ) (s t : State) → cut_short objects cut s ≡ Some t → model.replay (machine_rules objects) naming 1 s (cut_fine cut) ≡ Some t
 cut_replays objects None s t e = e
-cut_replays objects (Some count) s t e = turns_fine (machine_rules objects) no_names 0 count s t e
+cut_replays objects (Some count) s t e = turns_fine (machine_rules objects) naming 0 count s t e
 
 cut_has : (es : List (model.Event Rmsg)) (cut : Option ℕ) → law.instructions (fine es ++ cut_fine cut) ≡ law.instructions es ++ instructions (cut_events cut)
 cut_has es None = ap law.instructions (append-nil (fine es)) ∙ fine_has es ∙ sym (append-nil (law.instructions es))
@@ -101,40 +105,97 @@ cut_has es (Some count) = fine_joined es ∙ ap (λ l. law.instructions es ++ l)
     fine_joined : (es : List (model.Event Rmsg)) → law.instructions (fine es ++ singles 0 count) ≡ law.instructions es ++ law.instructions (singles {A = Rmsg} 0 count)
     fine_joined es = model_joined (fine es) (singles 0 count) ∙ ap (λ l. l ++ law.instructions (singles {A = Rmsg} 0 count)) (fine_has es)
 
-module _ (m : Module) (part : is_part m ≡ true) (small : FrameTooLarge m → ⊥) (init : ℕ) (first : Routine) (begins_so : BeginsWith m init first) (journal : List Event) (cut : Option ℕ) (t : State) where
+-- A machine of these objects begins with this one's opening.
+found_so : {T : Type 0} (a : Access T) (t : T) → if_found a ≡ Some t → a ≡ Found t
+found_so (Found t) u e = cc
+found_so (Wrong number) u e = absurd cc
+found_so (Raises text) u e = absurd cc
+
+-- Where no fault is told, none is found.
+none_found : (es : Trace) → NoFault es → fault_in es ≡ None
+none_found [] h = refl
+none_found (Requested i m ∷ es) h = none_found es h
+none_found (Replied i a ∷ es) h = none_found es h
+none_found (Passed channel v i k j l ∷ es) h = none_found es h
+none_found (Released i names ∷ es) h = none_found es h
+none_found (Lost l ∷ es) h = none_found es h
+none_found (Over i Ended ∷ es) h = none_found es h
+none_found (Over i (Broken text) ∷ es) h = none_found es h
+none_found (Over i (Faulted number pc) ∷ es) h = absurd h
+
+module _ (m : Module) (part : is_part m ≡ true) (small : FrameTooLarge m → ⊥) (spell : StringsSpell (object_for m)) (init : ℕ) (first : Routine) (begins_so : BeginsWith m init first) where
   abbrev objects : List Object
   objects = object_for m ∷ []
 
-  means_from : (o : Opened) (s : State) → opened (object_for m) ≡ Some o → replay objects (begins o) journal ≡ Some s →
-      model.replay (machine_rules objects) no_names longest (begins_code o.world o.first) (translated objects (begins o) journal) ≡ Some s →
-      cut_short objects cut s ≡ Some t → Means m init (journal ++ cut_events cut) t
-  means_from o s opens replays told more =
-      let es = translated objects (begins o) journal in
-      let same : o ≡ begins_with m = (let both : Some o ≡ Some (begins_with m) = sym opens ∙ beginning.begins m part small (begun_spelled (object_for m) o opens) in cc) in
-      let all : model.replay (machine_rules objects) no_names 1 (begins_code o.world o.first) (fine es ++ cut_fine cut) ≡ Some t =
-      on (machine_rules objects) no_names 1 (fine es) (cut_fine cut) (begins_code o.world o.first) s t (replay_fine (machine_rules objects) no_names longest es (begins_code o.world o.first) s told) (cut_replays objects cut s t more) in
-      let from : model.replay (machine_rules objects) no_names 1 (begins_code (begins_with m).world (begins_with m).first) (fine es ++ cut_fine cut) ≡ Some t = subst (λ (o : Opened). model.replay (machine_rules objects) no_names 1 (begins_code o.world o.first) (fine es ++ cut_fine cut) ≡ Some t) same all in
-      let run = journals m part init first begins_so 1 (fine es ++ cut_fine cut) t from in
-      record {
-        turns = run.turns;
-        config = run.config;
-        run = run.run;
-        makers = run.makers ∙ cut_has es cut ∙ ap (λ l. l ++ instructions (cut_events cut)) (translated_has objects (begins o) s journal replays) ∙ sym (joined journal (cut_events cut));
-        paced = run.paced;
-        told = run.told;
-      }
+  module _ (journal : List Event) (cut : Option ℕ) (t : State) where
+    -- The journal as one of process_model, instruction by instruction, and the state from which the quantum that was cut short went on.
+    record Told : Type 0 where
+      opening : Opened
+      opens : opened (object_for m) ≡ Found opening
+      events : List (model.Event Rmsg)
+      replays : model.replay (machine_rules objects) naming 1 (begun opening) events ≡ Some t
+      has : law.instructions events ≡ instructions (journal ++ cut_events cut)
 
-  means : state_of objects journal cut ≡ Some t → Means m init (journal ++ cut_events cut) t
-  means h = by_start (opened (object_for m)) refl h
-    where
-      by_replay : (o : Opened) (s : Option State) → opened (object_for m) ≡ Some o → replay objects (begins o) journal ≡ s → (s >>= cut_short objects cut) ≡ Some t → Means m init (journal ++ cut_events cut) t
-      by_replay o None opens k e = absurd cc
-      by_replay o (Some s) opens k e =
-          means_from o s opens k (Rattle.machine_core.proofs.Translation.same_replay objects (begins o) s journal k) e
+    told_from : (o : Opened) (s : State) → opened (object_for m) ≡ Found o → replay objects (begins o) journal ≡ Some s → cut_short objects cut s ≡ Some t → Told
+    told_from o s opens replays more =
+        let es = translated objects (begins o) journal in
+        record {
+          opening = o;
+          opens = opens;
+          events = fine es ++ cut_fine cut;
+          replays =
+              on (machine_rules objects) naming 1 (fine es) (cut_fine cut) (begins o) s t
+              (replay_fine (machine_rules objects) naming longest es (begins o) s (same_replay objects (begins o) s journal replays))
+              (cut_replays objects cut s t more);
+          has =
+              cut_has es cut
+              ∙ ap (λ l. l ++ instructions (cut_events cut)) (translated_has objects (begins o) s journal replays)
+              ∙ sym (joined journal (cut_events cut));
+        }
 
-      by_start : (o : Option Opened) → opened (object_for m) ≡ o → ((o >>= λ o. replay objects (begins o) journal) >>= cut_short objects cut) ≡ Some t → Means m init (journal ++ cut_events cut) t
-      by_start None k e = absurd cc
-      by_start (Some o) k e = by_replay o (replay objects (begins o) journal) k refl e
+    told : state_of objects journal cut ≡ Some t → Told
+    told h = by_start (if_found (opened (object_for m))) refl h
+      where
+        by_replay : (o : Opened) (s : Option State) → if_found (opened (object_for m)) ≡ Some o → replay objects (begins o) journal ≡ s → (s >>= cut_short objects cut) ≡ Some t → Told
+        by_replay o None opens k e = absurd cc
+        by_replay o (Some s) opens k e = told_from o s (found_so (opened (object_for m)) o opens) k e
+
+        by_start : (o : Option Opened) → if_found (opened (object_for m)) ≡ o → ((o >>= λ o. replay objects (begins o) journal) >>= cut_short objects cut) ≡ Some t → Told
+        by_start None k e = absurd cc
+        by_start (Some o) k e = by_replay o (replay objects (begins o) journal) k refl e
+
+    module _ (h : state_of objects journal cut ≡ Some t) where
+      keeps : KeepsWithMemory m
+      keeps = memory_keeps_meaning m part small spell
+
+      journal_means : Means m init (journal ++ cut_events cut) t
+      journal_means =
+          let was = told h in
+          let run = keeps.journals init first begins_so was.opening was.opens 1 was.events t was.replays in
+          record {
+            turns = run.turns;
+            config = run.config;
+            run = run.run;
+            makers = run.makers ∙ was.has;
+            paced = run.paced;
+            told = run.told;
+          }
+
+      never_faults : fault_in t.trace ≡ None
+      never_faults =
+          let was = told h in
+          none_found t.trace (keeps.never_faults init first begins_so was.opening was.opens 1 was.events t was.replays)
+
+      keeps_counts : CountsAreExact t
+      keeps_counts =
+          let was = told h in
+          keeps.counts init first begins_so was.opening was.opens 1 was.events t was.replays
 
 pub journals_mean : JournalsMean
-journals_mean m part small init first begins_so journal cut t h = means m part small init first begins_so journal cut t h
+journals_mean m part small spell init first begins_so journal cut t h = journal_means m part small spell init first begins_so journal cut t h
+
+pub none_fault : NoneFault
+none_fault m part small spell init first begins_so journal cut t h = never_faults m part small spell init first begins_so journal cut t h
+
+pub counts_exact : CountsExact
+counts_exact m part small spell init first begins_so journal cut t h = keeps_counts m part small spell init first begins_so journal cut t h

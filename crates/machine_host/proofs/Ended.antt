@@ -1,24 +1,26 @@
 -- What a run leaves.
 use Rattle.std.proofs.Common.{◌≡◌, ◌≢◌, ◌≤◌, ◌<◌, ◌⊎◌, ℕ, Bool, true, false, List, [], ◌∷◌, ◌++◌, length, take, Option, Some, None, refl, sym, ap, subst, ◌∙◌, arith, inl, inr, append-nil, map}
 use Rattle.std.proofs.lemmas.List.{take_all}
+use Rattle.std.specs.Option.{is_some}
+use Rattle.std.specs.Prelude.{not}
 use Rattle.inf_ports.specs.Outside.{Rose}
-use Rattle.machine_core.specs.declared.event.Event.{Event}
-use Rattle.machine_core.specs.declared.event.Event.TheVariants as event
-use Rattle.machine_core.specs.declared.end.End.{End}
-use Rattle.machine_core.specs.declared.end.End.TheVariants as end
-use Rattle.machine_core.specs.declared.machine.Machine.{Machine}
+use Rattle.dis_machine.specs.declared.event.Event.{Event}
+use Rattle.dis_machine.specs.declared.event.Event.TheVariants as event
+use Rattle.dis_machine.specs.declared.end.End.{End}
+use Rattle.dis_machine.specs.declared.end.End.TheVariants as end
+use Rattle.dis_machine.specs.declared.machine.Machine.{Machine}
 use Rattle.std.proofs.KnownBytes.{Appends-nil}
 use Rattle.dis_file.specs.declared.object.Object.{Object}
-use Rattle.dis_data_ops.specs.View.{codes_of}
+use Rattle.dis_steps.specs.Codes.{objects_of}
 use Rattle.inf_text.specs.Options.{◌>>=◌}
-use Rattle.dis_meaning.specs.Opening.{Opened}
-use Rattle.machine_core.specs.declared.running.Doing.TheVariants as doing
-use Rattle.machine_core.specs.Kept.{frames_on, told_after, trace_in, view_broken}
-use Rattle.machine_core.specs.Journal.{quanta, cut_events, cut_short, start_of, replay, begins}
-use Rattle.machine_core.specs.Frames.{requests}
-use Rattle.machine_core.specs.Ends.{end_of, ended_in, breaches}
-use Rattle.machine_core.specs.Standing.{codes, told, state, waiting, HasBegun, SameProgram}
-use Rattle.machine_core.proofs.Entering as entering
+use Rattle.dis_counts.specs.Opening.{Opened}
+use Rattle.dis_machine.specs.declared.doing.Doing.TheVariants as doing
+use Rattle.dis_machine.specs.Kept.{frames_on, told_after, trace_in, view_broken}
+use Rattle.dis_machine.specs.Journal.{quanta, cut_events, cut_short, start_of, replay, begins}
+use Rattle.dis_machine.specs.Frames.{requests}
+use Rattle.dis_machine.specs.Ends.{end_of, ended_in, breaches}
+use Rattle.dis_machine.specs.Standing.{codes, objects, told, state, waiting, HasBegun, SameProgram}
+use Rattle.dis_machine.proofs.Entering as entering
 use Rattle.console_server.specs.Console.{Serves}
 use Rattle.machine_host.specs.Talk.{Talk, Heard, Calm, replies_of}
 use Rattle.machine_host.specs.declared.run.Ran.{Ran}
@@ -57,6 +59,11 @@ same_replies m events all = ap replies_of all ∙ cut_replies m.journal.items m.
 
 whole_events : (m : Machine) (events : List Event) → m.lacks ≡ false → events ≡ m.journal.items ++ cut_events m.cut → events ≡ m.journal.items
 whole_events m events able all = all ∙ ap (λ c. m.journal.items ++ cut_events c) (m.kept.whole able) ∙ append-nil m.journal.items
+
+-- Where there is an end, it is one.
+pub some_end : (o e : Option End) (none : Bool) → o ≡ e → is_some o ≡ not none → none ≡ false → (how : End) × (e ≡ Some how)
+some_end (Some how) e none same is other = (how, sym same)
+some_end None e none same is other = let bad : false ≡ true = is ∙ ap not other in absurd cc
 
 -- The machine has ended.
 pub done : (m : Machine) (events : List Event) (start now : Option (List ℕ)) (failed : Bool) (before after : ℕ) (how : End) → Talk m (waiting m 1) start now failed → Calm m → (failed ≡ true → Rose before after) →
@@ -112,11 +119,11 @@ stopped m events start now failed before after heard cause all =
 
 -- ---- the beginning
 
-pub begins_calm : (m : Machine) → HasBegun m.objects m.limit m → Calm m
+pub begins_calm : (m : Machine) → HasBegun (objects m) m.limit m → Calm m
 begins_calm m b = record { handed = ap (frames_on 1) b.outbox; free = λ asks. (let bad : doing.Ready ≡ doing.Asking = sym b.ready ∙ asks in absurd cc) }
 
 -- Nothing was told: the state after no event has told nothing.
-pub begins_talk : (m : Machine) (start : Option (List ℕ)) (failed : Bool) → HasBegun m.objects m.limit m → failed ≡ false → Talk m (waiting m 1) start start failed
+pub begins_talk : (m : Machine) (start : Option (List ℕ)) (failed : Bool) → HasBegun (objects m) m.limit m → failed ≡ false → Talk m (waiting m 1) start start failed
 begins_talk m start failed b sound =
     let none : m.cut ≡ None = m.kept.whole b.able in
     let told_none : told m ≡ [] = ap (told_after (codes m) m.journal.items) none ∙ ap (λ js. told_after (codes m) js None) b.journal ∙ nothing_told (codes m) in
@@ -150,6 +157,6 @@ pub leads : (m n : Machine) (r : Ran) (old new : Option (List ℕ)) (before afte
 leads m n r old new before after same talk broken = record {
   state = state n;
   conversation = subst (λ l. Conversation (codes m) l r.journal.events (state n) old new before after r.end) same.1
-      (subst (λ os. Conversation (codes_of os.items) n.limit r.journal.events (state n) old new before after r.end) same.0 talk);
+      (subst (λ cs. Conversation (objects_of cs.items) n.limit r.journal.events (state n) old new before after r.end) same.0 talk);
   broken = broken;
 }

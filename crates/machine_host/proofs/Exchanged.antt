@@ -14,20 +14,21 @@ use Rattle.styx_msg.specs.Styx.{r_row, Fits}
 use Rattle.process_model.specs.Process as model
 use Rattle.dis_meaning.specs.Process.{Process, Printing}
 use Rattle.sys_print.specs.Sent.{IsSent}
-use Rattle.dis_data_ops.specs.declared.process.Asking.{Asking}
-use Rattle.dis_data_ops.specs.View.{view_process, view_asking, codes_of}
-use Rattle.machine_core.specs.declared.event.Event.TheVariants as event
-use Rattle.machine_core.specs.declared.machine.Machine.{Machine}
-use Rattle.machine_core.specs.declared.running.Doing.{Doing}
-use Rattle.machine_core.specs.declared.running.Doing.TheVariants as doing
-use Rattle.machine_core.specs.Journal.{fault_in, happens, state_of, quanta}
-use Rattle.machine_core.specs.Frames.{requests}
-use Rattle.machine_core.specs.Running.{view_doing}
-use Rattle.machine_core.specs.Kept.{view_fault}
-use Rattle.machine_core.specs.declared.reply.ReplyFault.{ReplyFault}
-use Rattle.machine_core.specs.declared.reply.ReplyFault.TheVariants.{NoMemory, Refused}
-use Rattle.machine_core.specs.Standing.{codes, told, state, waiting, Entered, IsRefused, OnlyOutbox, AsksMore}
-use Rattle.machine_core.proofs.Entering as entering
+use Rattle.dis_places.specs.declared.process.Asking.{Asking}
+use Rattle.dis_places.specs.View.{view_process, view_asking}
+use Rattle.dis_steps.specs.Codes.{objects_of}
+use Rattle.dis_machine.specs.declared.event.Event.TheVariants as event
+use Rattle.dis_machine.specs.declared.machine.Machine.{Machine}
+use Rattle.dis_machine.specs.declared.doing.Doing.{Doing}
+use Rattle.dis_machine.specs.declared.doing.Doing.TheVariants as doing
+use Rattle.dis_machine.specs.Journal.{fault_in, happens, state_of, quanta}
+use Rattle.dis_machine.specs.Frames.{requests}
+use Rattle.dis_machine.specs.Doings.{view_doing}
+use Rattle.dis_machine.specs.Kept.{view_fault}
+use Rattle.dis_machine.specs.declared.reply.ReplyFault.{ReplyFault}
+use Rattle.dis_machine.specs.declared.reply.ReplyFault.TheVariants.{NoMemory, Refused}
+use Rattle.dis_machine.specs.Standing.{codes, told, state, waiting, Entered, IsRefused, OnlyOutbox, AsksMore}
+use Rattle.dis_machine.proofs.Entering as entering
 use Rattle.console_server.specs.Console.{Writes, Exchange, Serves, output_of}
 use Rattle.console_server.specs.Exchange.{IsRequest, IsServed}
 use Rattle.machine_host.specs.Replies as host
@@ -122,7 +123,7 @@ asks_less m n a reply asks waits is able still e =
     let led : state_of (codes m) m.journal.items None ≡ Some (state m) = ap (state_of (codes m) m.journal.items) (sym (m.kept.whole able)) ∙ m.kept.leads in
     let one : state_of (codes m) (m.journal.items ++ event.Reply 1 reply ∷ []) None ≡ Some t.after = entering.entered (codes m) m.journal.items (event.Reply 1 reply) (state m) t.after led t.happens in
     let other : state_of (codes n) n.journal.items None ≡ Some (state n) = ap (state_of (codes n) n.journal.items) (sym (n.kept.whole still)) ∙ n.kept.leads in
-    let same : Some t.after ≡ Some (state n) = sym one ∙ ap (λ js. state_of (codes m) js None) (sym e.journal) ∙ ap (λ os. state_of (codes_of os.items) n.journal.items None) (sym e.same.0) ∙ other in
+    let same : Some t.after ≡ Some (state n) = sym one ∙ ap (λ js. state_of (codes m) js None) (sym e.journal) ∙ ap (λ cs. state_of (objects_of cs.items) n.journal.items None) (sym e.same.0) ∙ other in
     let after : t.after ≡ state n = cc in
     by_doing n.running.doing n.running.process.printing refl refl t.less after
   where

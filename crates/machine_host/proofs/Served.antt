@@ -1,8 +1,8 @@
 -- Requests that the console served, one more after the others, and the replies of a journal.
 use Rattle.std.proofs.Common.{◌≡◌, ℕ, List, [], ◌∷◌, ◌++◌, length, Bool, refl, sym, ap, ◌∙◌, subst, arith, append_assoc}
 use Rattle.std.proofs.lemmas.List.{append-nil}
-use Rattle.machine_core.specs.declared.event.Event.{Event}
-use Rattle.machine_core.specs.declared.event.Event.TheVariants as event
+use Rattle.dis_machine.specs.declared.event.Event.{Event}
+use Rattle.dis_machine.specs.declared.event.Event.TheVariants as event
 use Rattle.console_server.specs.Console.{Exchange, Serves}
 use Rattle.machine_host.specs.Talk.{reply_on, replies_of}
 

@@ -8,7 +8,7 @@ use Rattle.styx_msg.specs.Styx.{spelling, r_row, Begins}
 use Rattle.process_model.specs.Process.{Went, Parks, Polls, Spawns, Asks, Ends, Ready, Asking, Gone}
 use Rattle.process_model.specs.Machine as model
 use Rattle.process_model.specs.Machine.{answered, replied}
-use Rattle.process_model.specs.Plain.{no_names}
+use Rattle.dis_memory.specs.Naming.{naming}
 use Rattle.dis_file.specs.declared.object.Object.{Object}
 use Rattle.system_model.specs.Values.{Value}
 use Rattle.system_model.specs.World as outside
@@ -17,13 +17,15 @@ use Rattle.system_model.specs.Prints.{Request, Writing, Answers, Requests, NoRep
 use Rattle.system_model.specs.Prints as prints
 use Rattle.dis_meaning.specs.Words.{Access, Found, Wrong, Raises}
 use Rattle.dis_meaning.specs.Words as words
-use Rattle.dis_meaning.specs.World.{World}
-use Rattle.dis_meaning.specs.Process.{Process, Printing, Does, or_fault}
-use Rattle.dis_meaning.specs.Step.{answer, heard, hears}
+use Rattle.dis_meaning.specs.Process.{Process, Printing}
+use Rattle.dis_memory.specs.Blocks.{World}
+use Rattle.dis_memory.specs.Places.{Memory}
+use Rattle.dis_memory.specs.Process.{Does, or_fault}
+use Rattle.dis_memory.specs.Control.{answer, heard, hears, outside_of}
 use Rattle.inf_text.specs.Options.{◌>>=◌}
-use Rattle.machine_core.specs.declared.event.Event.TheVariants as event
-use Rattle.machine_core.specs.Journal.{State, Fault, Tagged, fault_in, unless_faulted, longest, machine_rules, reply_in, asker, meant, happens}
-use Rattle.machine_core.proofs.Replies.{reads}
+use Rattle.dis_machine.specs.declared.event.Event.TheVariants as event
+use Rattle.dis_machine.specs.Journal.{State, Fault, Tagged, fault_in, unless_faulted, longest, machine_rules, reply_in, asker, meant, happens}
+use Rattle.dis_machine.proofs.Replies.{reads}
 use Rattle.machine_host.specs.Replies as host
 use Rattle.machine_host.specs.Replies.{IsReply}
 
@@ -86,7 +88,7 @@ IsTaken k (Spawns x child q) = ⊥
 abbrev and_then : {S T : Type 0} → Access S → (S → Access T) → Access T
 and_then a f = words.◌>>=◌ a f
 
-stored_so : (k : Writing) (x : World) (p : Process) (m : Access Rattle.dis_meaning.specs.Places.Memory) (f : Rattle.dis_meaning.specs.Places.Memory → World) (g : Rattle.dis_meaning.specs.Places.Memory → Process) →
+stored_so : (k : Writing) (x : World) (p : Process) (m : Access Memory) (f : Memory → World) (g : Memory → Process) →
     IsTaken k (or_fault x p (and_then m (λ m. Found (Went (f m) (g m)))))
 stored_so k x p (Found m) f g = tt
 stored_so k x p (Wrong n) f g = tt
@@ -99,7 +101,7 @@ answers_so k x p a NoReply is = absurd is
 
 answer_so : (reply : Rmsg) (x : World) (p : Process) (a : Printing) → p.printing ≡ Some a → host.Answers a.writing.asked reply → IsTaken a.writing (answer reply x p)
 answer_so reply x p a asks good =
-    subst (IsTaken a.writing) (sym (ap (heard reply x p) asks)) (answers_so a.writing x p a (hear reply x.outside a.writing) (hears_so reply x.outside a.writing good))
+    subst (IsTaken a.writing) (sym (ap (heard reply x p) asks)) (answers_so a.writing x p a (hear reply (outside_of x) a.writing) (hears_so reply (outside_of x) a.writing good))
 
 -- ---- the event
 
@@ -111,7 +113,7 @@ pub record Took (objects : List Object) (s : State) (left : ℕ) (frame : List �
 
 module _ (objects : List Object) where
   by_answer : (s : State) (p : Process) (k : Writing) (reply : Rmsg) (does : Does) → s.processes ≡ Asking p ∷ [] → IsTaken k does →
-      (t : State) × ((elim (answered s 0 reply does) as (λ _. Option State) [ None ↦ None | Some t ↦ Some (model.cut no_names 0 t) ]) ≡ Some t)
+      (t : State) × ((elim (answered s 0 reply does) as (λ _. Option State) [ None ↦ None | Some t ↦ Some (model.cut naming 0 t) ]) ≡ Some t)
       × ((q : Process) (a : Printing) → slice_get t.processes 0 ≡ Some (Asking q) → q.printing ≡ Some a → length a.writing.left < length k.left)
   by_answer s p k reply (Went x q) one is = (_, refl, λ r a at asks. let w : Some (Ready q) ≡ Some (Asking r) = ap (λ ps. slice_get (Rattle.std.proofs.Math.ListN.set ps 0 (Ready q)) 0) (sym one) ∙ at in absurd cc)
   by_answer s p k reply (Asks x m q) one is = (
@@ -142,8 +144,8 @@ module _ (objects : List Object) where
       let read = reads frame tag is.reply begins in
       let under : nat_eq tag tag ≡ true = search (rules, tests) in
       let asked : asker s tag ≡ Some 0 =
-      ap (Rattle.machine_core.specs.Journal.asker_from 0 tag) one
-      ∙ ap (λ o. if Rattle.machine_core.specs.Journal.has_tag tag o then Some 0 else None) asks
+      ap (Rattle.dis_machine.specs.Journal.asker_from 0 tag) one
+      ∙ ap (λ o. if Rattle.dis_machine.specs.Journal.has_tag tag o then Some 0 else None) asks
       ∙ ap (λ b. if b then Some 0 else None) under in
       let what : meant s (event.Reply 1 frame) ≡ Some (model.Reply 0 is.reply) =
       ap (λ o. o >>= (λ r. asker s r.tag >>= λ i. Some (model.Reply i r.reply))) read ∙ ap (λ o. o >>= λ i. Some (model.Reply i is.reply)) asked in
@@ -152,9 +154,9 @@ module _ (objects : List Object) where
       record {
         after = done.0;
         happens =
-            ap (λ f. unless_faulted f (meant s (event.Reply 1 frame) >>= model.happens (machine_rules objects) no_names longest s)) sound
-            ∙ ap (λ o. o >>= model.happens (machine_rules objects) no_names longest s) what
-            ∙ ap (λ ps. replied (machine_rules objects) no_names s 0 is.reply (slice_get ps 0)) one
+            ap (λ f. unless_faulted f (meant s (event.Reply 1 frame) >>= model.happens (machine_rules objects) naming longest s)) sound
+            ∙ ap (λ o. o >>= model.happens (machine_rules objects) naming longest s) what
+            ∙ ap (λ ps. replied (machine_rules objects) naming s 0 is.reply (slice_get ps 0)) one
             ∙ done.1;
         less = done.2;
       }

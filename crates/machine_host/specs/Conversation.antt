@@ -3,12 +3,12 @@ use Rattle.std.specs.Prelude.{◌≡◌, ◌≢◌, ◌⊎◌, ◌≤◌, ℕ, �
 use Rattle.std.specs.Io.KnownBytes.{Appends}
 use Rattle.inf_ports.specs.Outside.{Rose}
 use Rattle.dis_file.specs.declared.object.Object.{Object}
-use Rattle.machine_core.specs.declared.event.Event.{Event}
-use Rattle.machine_core.specs.declared.end.End.{End}
-use Rattle.machine_core.specs.declared.end.End.TheVariants as end
-use Rattle.machine_core.specs.Journal.{State, state_of, cut_events, quanta}
-use Rattle.machine_core.specs.Frames.{requests}
-use Rattle.machine_core.specs.Ends.{ended_in}
+use Rattle.dis_machine.specs.declared.event.Event.{Event}
+use Rattle.dis_machine.specs.declared.end.End.{End}
+use Rattle.dis_machine.specs.declared.end.End.TheVariants as end
+use Rattle.dis_machine.specs.Journal.{State, state_of, cut_events, quanta}
+use Rattle.dis_machine.specs.Frames.{requests}
+use Rattle.dis_machine.specs.Ends.{ended_in}
 use Rattle.console_server.specs.Console.{Serves}
 use Rattle.machine_host.specs.Talk.{replies_of}
 

@@ -1,9 +1,9 @@
 -- What a run leaves, and the state that its journal leads to.
 use Rattle.std.specs.Prelude.{◌≡◌, ℕ, List, map, Option}
 use Rattle.dis_file.specs.declared.object.Object.{Object}
-use Rattle.machine_core.specs.Journal.{State}
-use Rattle.machine_core.specs.Ends.{breaches}
-use Rattle.machine_core.specs.Kept.{view_broken}
+use Rattle.dis_machine.specs.Journal.{State}
+use Rattle.dis_machine.specs.Ends.{breaches}
+use Rattle.dis_machine.specs.Kept.{view_broken}
 use Rattle.machine_host.specs.declared.run.Ran.{Ran}
 use Rattle.machine_host.specs.Conversation.{Conversation}
 

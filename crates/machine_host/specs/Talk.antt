@@ -2,17 +2,17 @@
 use Rattle.std.specs.Prelude.{◌≡◌, ◌≢◌, ◌≤◌, ℕ, suc, ◌+◌, List, [], ◌∷◌, ◌++◌, length}
 use Rattle.std.specs.Prelude.{take, Bool, false, Option, Some, None, ◌==◌, if◌then◌else◌}
 use Rattle.std.specs.Io.KnownBytes.{Appends}
-use Rattle.dis_data_ops.specs.declared.process.Asking.{Asking}
-use Rattle.machine_core.specs.declared.event.Event.{Event}
-use Rattle.machine_core.specs.declared.event.Event.TheVariants as event
-use Rattle.machine_core.specs.declared.machine.Machine.{Machine}
-use Rattle.machine_core.specs.declared.running.Doing.{Doing}
-use Rattle.machine_core.specs.declared.running.Doing.TheVariants as doing
-use Rattle.machine_core.specs.declared.end.End.{End}
-use Rattle.machine_core.specs.Journal.{quanta}
-use Rattle.machine_core.specs.Ends.{end_of}
-use Rattle.machine_core.specs.Frames.{requests}
-use Rattle.machine_core.specs.Standing.{told, state, waiting, AsksMore}
+use Rattle.dis_places.specs.declared.process.Asking.{Asking}
+use Rattle.dis_machine.specs.declared.event.Event.{Event}
+use Rattle.dis_machine.specs.declared.event.Event.TheVariants as event
+use Rattle.dis_machine.specs.declared.machine.Machine.{Machine}
+use Rattle.dis_machine.specs.declared.doing.Doing.{Doing}
+use Rattle.dis_machine.specs.declared.doing.Doing.TheVariants as doing
+use Rattle.dis_machine.specs.declared.end.End.{End}
+use Rattle.dis_machine.specs.Journal.{quanta}
+use Rattle.dis_machine.specs.Ends.{end_of}
+use Rattle.dis_machine.specs.Frames.{requests}
+use Rattle.dis_machine.specs.Standing.{told, state, waiting, AsksMore}
 use Rattle.console_server.specs.Console.{Serves}
 
 -- The frame of a reply over the console's link.

@@ -2,16 +2,16 @@
 
 ghost use Rattle.std.specs.Prelude.{◌≡◌, ◌≤◌, ◌<◌, ◌⊎◌, ℕ, List, [], ◌∷◌, Option, Some, None, true, false, OnOk, OnErr};
 ghost use Rattle.inf_ports.specs.Outside.{Rose};
-ghost use Rattle.dis_data_ops.specs.declared.process.Asking.{Asking};
+ghost use Rattle.dis_places.specs.declared.process.Asking.{Asking};
 ghost use Rattle.sys_print.specs.Sent.{IsSent};
-ghost use Rattle.machine_core.specs.declared.running.Doing.TheVariants as doing;
-ghost use Rattle.machine_core.specs.declared.reply.ReplyFault.TheVariants.{NoMemory};
-ghost use Rattle.machine_core.specs.Standing.{waiting, SameProgram};
+ghost use Rattle.dis_machine.specs.declared.doing.Doing.TheVariants as doing;
+ghost use Rattle.dis_machine.specs.declared.reply.ReplyFault.TheVariants.{NoMemory};
+ghost use Rattle.dis_machine.specs.Standing.{waiting, SameProgram};
 ghost use Rattle.machine_host.specs.Talk.{Talk, Heard, Pends, SameQuanta, left, left_of};
 
 use console_server::{Console, answer};
+use dis_machine::{Machine, ReplyFault};
 use inf_ports::Sink;
-use machine_core::{Machine, ReplyFault};
 use std::alloc::{AllocError, Global};
 
 /// The console's link.

@@ -2,17 +2,17 @@
 
 ghost use Rattle.std.specs.Prelude.{◌≡◌, ◌≤◌, ◌<◌, ◌⊎◌, ◌+◌, ℕ, List, [], Option, Some, None, true, false, OnOk, OnErr, IfOk};
 ghost use Rattle.inf_ports.specs.Outside.{Rose};
-ghost use Rattle.machine_core.specs.Journal.{quanta};
-ghost use Rattle.machine_core.specs.Standing.{codes, waiting, CanGo, HasBegun, SameProgram};
+ghost use Rattle.dis_machine.specs.Journal.{quanta};
+ghost use Rattle.dis_machine.specs.Standing.{codes, objects, waiting, CanGo, HasBegun, SameProgram};
 ghost use Rattle.machine_host.specs.Leading.{Leads};
 ghost use Rattle.machine_host.specs.Talk.{Talk, Heard, Pends, Calm, SameQuanta, HasEnded, left};
 
 use crate::exchange::{CONSOLE, exchange};
 use console_server::Console;
 use dis_file::Object;
+use dis_machine::{Broken, End, Journal, Machine, Parts};
 use inf_ports::Sink;
 use inf_text::Text;
-use machine_core::{Broken, End, Journal, Machine, Parts};
 use std::alloc::{AllocError, Global};
 
 /// Hands the oldest request to the console and enters its reply, and answers whether there was one.
@@ -158,10 +158,10 @@ pub struct Ran {
 /// Runs a machine that has begun to its end, with the console as its server. What the program prints goes to `out`. A fault of `out`
 /// doesn't end the run: the console refuses each later write.
 pub fn run_machine<K: Sink>(alloc: Global, machine: Machine, out: &mut K) -> Ran
-    requires begun { HasBegun machine.objects machine.limit machine }
+    requires begun { HasBegun (objects machine) machine.limit machine }
     ensures conversation { Leads (codes machine) machine.limit result
         (K.held out.old) (K.held out.new) (K.faults out.old) (K.faults out.new) }
-    ensures objects { result.objects ≡ machine.objects }
+    ensures objects { result.objects.items ≡ objects machine }
     ensures later { K.faults out.old ≤ K.faults out.new }
 {
     let mut machine = machine;

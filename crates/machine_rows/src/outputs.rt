@@ -1,9 +1,9 @@
 //! A print over outputs that have room, fail and get full.
 
 use crate::objects::greeting;
+use dis_machine::{End, Machine, Setup};
 use inf_ports::MemSink;
 use inf_text::Text;
-use machine_core::{End, Machine, Setup};
 use machine_host::run_machine;
 use std::alloc::Global;
 use std::process::Abort;

@@ -1,5 +1,5 @@
--- What a compiled program does on the machine with memory it does on the machine that runs today, so its module means it.
-use Rattle.std.proofs.Common.{◌≡◌, ℕ, true, List, [], ◌∷◌, None, refl, sym, subst, ◌∙◌}
+-- What a compiled program does on the machine with memory it does on the machine of numbers, so its module means it.
+use Rattle.std.proofs.Common.{◌≡◌, ℕ, true, List, [], ◌∷◌, refl, sym, subst, ◌∙◌}
 use Rattle.styx_msg.specs.declared.message.Rmsg.{Rmsg}
 use Rattle.process_model.specs.Process.{Requested, Replied, Passed, Over, Released, Lost}
 use Rattle.process_model.specs.Machine.{Event, replay}
@@ -18,29 +18,17 @@ use Rattle.dis_counts.specs.Opening.{Opened, opened}
 use Rattle.dis_counts.specs.Counts.{Machine, CountsAreExact}
 use Rattle.dis_counts.proofs.Exact.{counts_stay_exact}
 use Rattle.dis_counts.proofs.Beginning.{begins_alike}
-use Rattle.dis_agreement.specs.Runs.{Trace, NoFault, NeverFaults, ComesAlike, told}
+use Rattle.dis_agreement.specs.Runs.{NoFault, NeverFaults, ComesAlike}
+use Rattle.dis_counts.specs.Told.{Trace, told}
 use Rattle.dis_agreement.proofs.Openings.{programs_run_alike}
-use Rattle.machine_core.specs.Journal.{fault_in}
 use Rattle.code_sim.specs.Keeps.{object_for, BeginsWith}
 use Rattle.code_sim.specs.Begins.{begins_with}
 use Rattle.code_sim.proofs.Together.{journals}
 use Rattle.code_sim.proofs.Beginning.{begins}
-use Rattle.limbo_compiler.proofs.Sound.{matched_sound}
+use Rattle.memory_sim.proofs.Faultless.{matched_so}
 use Rattle.memory_sim.specs.Keeps.{IsAfter, RunWithMemory, KeepsWithMemory}
 
--- A trace in which no fault is found tells of none.
-no_fault : (es : Trace) → fault_in es ≡ None → NoFault es
-no_fault [] h = tt
-no_fault (Requested i m ∷ es) h = no_fault es h
-no_fault (Replied i a ∷ es) h = no_fault es h
-no_fault (Passed channel v i k j l ∷ es) h = no_fault es h
-no_fault (Released i names ∷ es) h = no_fault es h
-no_fault (Lost l ∷ es) h = no_fault es h
-no_fault (Over i Ended ∷ es) h = no_fault es h
-no_fault (Over i (Broken text) ∷ es) h = no_fault es h
-no_fault (Over i (Faulted number pc) ∷ es) h = absurd cc
-
--- Nor does one that tells also which blocks went.
+-- Where no fault is told beside which blocks went, none is told.
 none_behind : (es : Trace) → NoFault (told es) → NoFault es
 none_behind [] h = tt
 none_behind (Requested i m ∷ es) h = none_behind es h
@@ -58,8 +46,7 @@ module _ (m : Module) (part : is_part m ≡ true) (small : FrameTooLarge m → �
     faultless : (longest : ℕ) → NeverFaults frames_limit longest (object_for m ∷ []) (begins_code (begins_with m).world (begins_with m).first)
     faultless longest journal u e =
         let run = journals m part init first so longest journal u e in
-        let found = matched_sound frames_limit (routines_of m) _ run.config run.turns run.run.run refl in
-        subst (λ es. NoFault es) run.told (no_fault run.config.trace found)
+        subst (λ es. NoFault es) run.told (matched_so frames_limit (routines_of m) _ run.config run.turns run.run.run tt)
 
     module _ (n : Opened) (opens_so : opened (object_for m) ≡ Found n) (longest : ℕ) (journal : List (Event Rmsg)) (last : Machine)
         (after : IsAfter m n longest journal last) where

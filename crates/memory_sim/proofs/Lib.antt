@@ -1,1 +1,2 @@
-mod Keeping
+mod Faultless
+pub mod Keeping

@@ -14,7 +14,8 @@ use Rattle.dis_memory.specs.Rules.{rules}
 use Rattle.dis_counts.specs.Alike.{world_of}
 use Rattle.dis_counts.specs.Opening.{Opened, opens, opened}
 use Rattle.dis_counts.specs.Counts.{Machine, CountsAreExact, begun}
-use Rattle.dis_agreement.specs.Runs.{NoFault, told}
+use Rattle.dis_agreement.specs.Runs.{NoFault}
+use Rattle.dis_counts.specs.Told.{told}
 use Rattle.code_sim.specs.Keeps.{object_for, BeginsWith}
 use Rattle.code_sim.specs.Begins.{begins_with}
 

@@ -1,4 +1,4 @@
-//! What a compiled program does on the machine with memory: the same as on the machine that runs today, so what its module means. No code
+//! What a compiled program does on the machine with memory: the same as on the machine of numbers, so what its module means. No code
 //! stands here, only definitions and a law.
 //!
 //! `specs/Keeps` says what such a machine owes to the module. In `proofs/`, `Keeping` puts together that the object keeps the module's

@@ -1,5 +1,5 @@
 use Rattle.std.proofs.Common.{◌≡◌, ◌++◌, map, drop}
-use Rattle.machine_core.specs.Kept.{view_broken}
+use Rattle.dis_machine.specs.Kept.{view_broken}
 use Rattle.inferno_top.specs.Closing.{broken_lines}
 use Rattle.inferno_top.proofs.closing.broken_lines.Given as goal
 

@@ -1,8 +1,7 @@
 use Rattle.std.proofs.Common.{[], ◌∷◌, ◌++◌, Err, sym, ap, subst, ◌∙◌}
 use Rattle.dis_file.specs.declared.object.Object.{Object}
-use Rattle.dis_data_ops.specs.View.{codes_of}
-use Rattle.machine_core.specs.Journal.{start_of}
-use Rattle.machine_core.specs.declared.opening.StartFault.{StartFault}
+use Rattle.dis_opening.specs.declared.fault.StartFault.{StartFault}
+use Rattle.dis_machine.specs.Journal.{codes_of, start_of}
 use Rattle.inferno_top.specs.Running.{IsCompiled}
 use Rattle.inferno_top.proofs.Starts.{opens}
 use Rattle.inferno_top.proofs.running.start.Goals as goal

@@ -1,4 +1,4 @@
-use Rattle.limbo_compiler.proofs.Sound as proved
+use Rattle.limbo_compiler.proofs.Means as proved
 use Rattle.limbo_compiler.proofs.laws.none_fault.Goals as goal
 
 pub returns : goal.returns

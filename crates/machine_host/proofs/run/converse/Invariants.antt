@@ -1,7 +1,7 @@
 use Rattle.std.proofs.Common.{◌≡◌, ◌≤◌, ◌-◌, ◌⊎◌, ℕ, List, Option, true, false}
 use Rattle.inf_ports.specs.Outside.{Rose}
-use Rattle.machine_core.specs.Journal.{quanta}
-use Rattle.machine_core.specs.Standing.{waiting, SameProgram}
+use Rattle.dis_machine.specs.Journal.{quanta}
+use Rattle.dis_machine.specs.Standing.{waiting, SameProgram}
 use Rattle.machine_host.specs.Talk.{Talk, Calm}
 use Rattle.machine_host.proofs.run.converse.Given as goal
 

@@ -1,6 +1,6 @@
 use Rattle.std.proofs.Common.{sym, subst, ◌∙◌}
 use Rattle.inf_ports.specs.Outside.{Rose}
-use Rattle.machine_core.specs.Standing.{codes, state}
+use Rattle.dis_machine.specs.Standing.{codes, state}
 use Rattle.machine_host.specs.Conversation.{Conversation}
 use Rattle.machine_host.proofs.Ended.{begins_talk, done, stopped, risen, leads}
 use Rattle.machine_host.proofs.run.run_machine.Goals as goal

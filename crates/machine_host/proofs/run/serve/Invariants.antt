@@ -1,6 +1,6 @@
 use Rattle.std.proofs.Common.{◌≡◌, ◌≤◌, ◌⊎◌, ℕ, List, Option, true, false}
 use Rattle.inf_ports.specs.Outside.{Rose}
-use Rattle.machine_core.specs.Standing.{waiting, SameProgram}
+use Rattle.dis_machine.specs.Standing.{waiting, SameProgram}
 use Rattle.machine_host.specs.Talk.{Talk, Pends, SameQuanta, left}
 use Rattle.machine_host.proofs.run.serve.Given as goal
 

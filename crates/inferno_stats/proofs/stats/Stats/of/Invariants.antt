@@ -1,5 +1,5 @@
 use Rattle.std.proofs.Common.{◌≡◌, ◌+◌, ◌≤◌, drop}
-use Rattle.machine_core.specs.Journal.{quanta}
+use Rattle.dis_machine.specs.Journal.{quanta}
 use Rattle.inferno_stats.specs.Stats.{replies}
 use Rattle.inferno_stats.proofs.stats.Stats.of.Given as goal
 

@@ -1,6 +1,0 @@
-pub mod Made
-pub mod Plans
-pub mod Loading
-pub mod Outcomes
-pub mod Formatting
-pub mod Table
