@@ -33,8 +33,8 @@ use Rattle.core_code.specs.Control.{leads_to, IsClosed, FunctionsAreClosed}
 -- An instruction leads to one of them, or to the next.
 abbrev Leads : (before behind : ℕ) → Instr → Type 0
 Leads b r (Skip c into d from n) = n < r
-Leads b r (Next a counter zs n) = n < r
-Leads b r (Take chain from words n) = n < r
+Leads b r (Next a loop zs n) = n < r
+Leads b r (Take loop from words n) = n < r
 Leads b r (Mirror d n) = n < r
 Leads b r (Unless s n) = n < r
 Leads b r (Jump n) = n < r
@@ -162,18 +162,18 @@ module _ (defs : List Def) where
   -- one loop of the others' element
   others_free : (h : Bool) (t : Ty) (a : ℕ) (zs : List ℤ) (from : ℕ) (e : Lowered) → IsFree e → IsFree (others defs h t a zs from e)
   others_free true t a zs from e f =
-      let own = Other t a from e.value ∷ Keep (suc from) (suc (suc from)) (e.free - suc (suc from)) ∷ [] in
+      let own = Other t a from e.value ∷ Keep from (suc from) (e.free - suc from) ∷ [] in
       let turn = e.code ++ own in
       let turn_free : Free turn = free_join e.code own f.0 (λ b r h. (omega arith, (omega arith, tt))) in (
-        λ b r h. within_join b r (Start from (Some (suc from)) ∷ Next a from zs (suc (length turn)) ∷ turn) (Back (suc (length turn)) ∷ [])
+        λ b r h. within_join b r (Start from ∷ Next a from zs (suc (length turn)) ∷ turn) (Back (suc (length turn)) ∷ [])
             (omega arith, (omega arith, turn_free (suc (suc b)) _ (omega arith))) (omega arith, tt),
-        λ b r h. within_join b r (Take (suc from) (suc (suc from)) (e.free - suc (suc from)) (suc (length e.drops)) ∷ e.drops)
+        λ b r h. within_join b r (Take from (suc from) (e.free - suc from) (suc (length e.drops)) ∷ e.drops)
             (Back (suc (length e.drops)) ∷ []) (omega arith, f.1 (suc b) _ (omega arith)) (omega arith, tt),
       )
   others_free false t a zs from e f =
       let turn = e.code ++ Other t a from e.value ∷ [] in
       let turn_free : Free turn = free_join e.code _ f.0 (λ b r h. (omega arith, tt)) in (
-        λ b r h. within_join b r (Start from None ∷ Next a from zs (suc (length turn)) ∷ turn) (Back (suc (length turn)) ∷ [])
+        λ b r h. within_join b r (Start from ∷ Next a from zs (suc (length turn)) ∷ turn) (Back (suc (length turn)) ∷ [])
             (omega arith, (omega arith, turn_free (suc (suc b)) _ (omega arith))) (omega arith, tt),
         λ b r h. tt,
       )
@@ -237,7 +237,7 @@ module _ (defs : List Def) where
     rest_free : (t : Ty) (a : ℕ) (zs : List ℤ) (s lo : ℕ) (ts : Terms) → IsFree (lower_rest defs t a zs s lo ts)
     rest_free t a zs s lo NoTerms = (λ b r h. tt, λ b r h. tt)
     rest_free t a zs s lo (MoreTerms e es) =
-        others_free (may_hold defs e) t a zs lo _ (term_free (if may_hold defs e then suc (suc lo) else s) e)
+        others_free (may_hold defs e) t a zs lo _ (term_free (if may_hold defs e then suc lo else s) e)
 
 -- ---- statements
 
@@ -388,8 +388,8 @@ all_two P x y p q (suc (suc k)) d l = absurd (omega arith)
 
 inside : (n pc r : ℕ) (i : Instr) → Leads pc r i → suc pc + r ≡ n → All (λ to. to < n) (leads_to pc i)
 inside n pc r (Skip c into d from k) h e = all_two (λ to. to < n) _ _ (omega arith) (omega arith)
-inside n pc r (Next a counter zs k) h e = all_two (λ to. to < n) _ _ (omega arith) (omega arith)
-inside n pc r (Take chain from words k) h e = all_two (λ to. to < n) _ _ (omega arith) (omega arith)
+inside n pc r (Next a loop zs k) h e = all_two (λ to. to < n) _ _ (omega arith) (omega arith)
+inside n pc r (Take loop from words k) h e = all_two (λ to. to < n) _ _ (omega arith) (omega arith)
 inside n pc r (Mirror d k) h e = all_two (λ to. to < n) _ _ (omega arith) (omega arith)
 inside n pc r (Unless s k) h e = all_two (λ to. to < n) _ _ (omega arith) (omega arith)
 inside n pc r (Jump k) h e = all_one (λ to. to < n) _ (omega arith)

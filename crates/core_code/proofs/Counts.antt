@@ -140,17 +140,17 @@ module _ (defs : List Def) where
   others_small : (h : Bool) (t : Ty) (a : ℕ) (zs : List ℤ) (from : ℕ) (e : Lowered) →
       length (others defs h t a zs from e).code + length (others defs h t a zs from e).drops ≤ length e.code + length e.drops + 7
   others_small true t a zs from e =
-      let own = Other t a from e.value ∷ Keep (suc from) (suc (suc from)) (e.free - suc (suc from)) ∷ [] in
+      let own = Other t a from e.value ∷ Keep from (suc from) (e.free - suc from) ∷ [] in
       let turn = e.code ++ own in
       let x = long_join e.code own in
-      let y = long_join (Start from (Some (suc from)) ∷ Next a from zs (suc (length turn)) ∷ turn) (Back (suc (length turn)) ∷ []) in
-      let z = long_join (Take (suc from) (suc (suc from)) (e.free - suc (suc from)) (suc (length e.drops)) ∷ e.drops)
+      let y = long_join (Start from ∷ Next a from zs (suc (length turn)) ∷ turn) (Back (suc (length turn)) ∷ []) in
+      let z = long_join (Take from (suc from) (e.free - suc from) (suc (length e.drops)) ∷ e.drops)
       (Back (suc (length e.drops)) ∷ []) in
       omega arith
   others_small false t a zs from e =
       let turn = e.code ++ Other t a from e.value ∷ [] in
       let x = long_join e.code (Other t a from e.value ∷ []) in
-      let y = long_join (Start from None ∷ Next a from zs (suc (length turn)) ∷ turn) (Back (suc (length turn)) ∷ []) in
+      let y = long_join (Start from ∷ Next a from zs (suc (length turn)) ∷ turn) (Back (suc (length turn)) ∷ []) in
       omega arith
 
   mutual
@@ -233,7 +233,7 @@ module _ (defs : List Def) where
         length (lower_rest defs t a zs s lo ts).code + length (lower_rest defs t a zs s lo ts).drops ≤ 4 * terms_nodes defs ts + 5
     rest_small t a zs s lo NoTerms = omega arith
     rest_small t a zs s lo (MoreTerms e es) =
-        let from = if may_hold defs e then suc (suc lo) else s in
+        let from = if may_hold defs e then suc lo else s in
         let f = term_small from e in
         let g = others_small (may_hold defs e) t a zs lo (lower defs from e) in
         omega arith

@@ -27,6 +27,7 @@ use Rattle.limbo_meaning.specs.Alone.{Trace, reply_to}
 use Rattle.limbo_meaning.proofs.Examples.{Tells, Prints, Frees, Stops, telling, sharing, list_goes, tree_goes, strings, others}
 use Rattle.limbo_meaning.proofs.Examples.{reading_first, conversions, num, nil, cons, plus, read, var, item, set, items, up, print_number}
 use Rattle.limbo_meaning.proofs.Examples.{exprs, apply, len, words_module}
+use Rattle.limbo_meaning.proofs.Examples.{filling_first, storing_first, dropping, adding, three_texts, deciding}
 use Rattle.limbo_meaning.proofs.Examples.{function, made_of, ints, int_list, outcome}
 use Rattle.limbo_meaning.proofs.Temporaries.{unnamed_list, pairs, anew, walking, copies, endless, shapes, head_of, tail_of, pair_type}
 use Rattle.core_code.specs.Code.{Give, Print, Drop, Return, Function, Program}
@@ -172,6 +173,43 @@ same_conversions :
     ∷ Prints (codes "7") ∷ Stops Ended ∷ Frees (0 ∷ 1 ∷ []) ∷ []
 unfolding conversions int_wrap digits lib.Utf8.encode Rattle.std.specs.Str.chars
 same_conversions = refl
+
+-- a value is evaluated before the element is looked for that it is stored into
+same_filling :
+    code_outcome 10000 60 filling_first [] ≡ Prints (codes "7") ∷ Stops (Broken (codes "array bounds error")) ∷ Frees (0 ∷ 1 ∷ []) ∷ []
+unfolding filling_first int_wrap digits lib.Utf8.encode
+same_filling = refl
+
+same_storing :
+    code_outcome 10000 60 storing_first [] ≡ Prints (codes "7") ∷ Stops (Broken (codes "array bounds error")) ∷ Frees (0 ∷ 1 ∷ []) ∷ []
+unfolding storing_first int_wrap digits lib.Utf8.encode
+same_storing = refl
+
+-- two references of one slot go in two steps
+same_dropping : code_outcome 10000 60 dropping [] ≡ Frees (1 ∷ []) ∷ Frees (2 ∷ []) ∷ Prints (codes "0") ∷ Stops Ended ∷ Frees (0 ∷ []) ∷ []
+unfolding dropping int_wrap digits lib.Utf8.encode
+same_dropping = refl
+
+-- the place of `+=` is read first
+same_adding : code_outcome 10000 60 adding [] ≡ Prints (codes "3") ∷ Stops Ended ∷ Frees (0 ∷ []) ∷ []
+unfolding adding int_wrap digits lib.Utf8.encode
+same_adding = refl
+
+-- a character changes in one string alone
+same_texts :
+    code_outcome 10000 200 three_texts [] ≡
+    Prints (codes "ax") ∷ Prints (codes "ab") ∷ Prints (codes "ab") ∷ Prints (codes "ax") ∷ Prints (codes "yb") ∷ Prints (codes "ab")
+    ∷ Prints (codes "ax") ∷ Prints (codes "yb") ∷ Prints (codes "zb") ∷ Stops Ended ∷ Frees (0 ∷ 1 ∷ []) ∷ []
+unfolding three_texts int_wrap digits lib.Utf8.encode
+same_texts = refl
+
+-- a right operand is evaluated only where the left one doesn't decide
+same_deciding :
+    code_outcome 10000 200 deciding [] ≡
+    Prints (codes "0") ∷ Prints (codes "0") ∷ Prints (codes "1") ∷ Prints (codes "0") ∷ Prints (codes "1") ∷ Prints (codes "1")
+    ∷ Prints (codes "1") ∷ Prints (codes "2") ∷ Stops Ended ∷ Frees (0 ∷ []) ∷ []
+unfolding deciding int_wrap digits lib.Utf8.encode
+same_deciding = refl
 
 -- ---- l := 7 :: nil; n := 1; a := array[5] of {n + 1, hd l, n + n + 2, * => n++};  and prints of all five
 

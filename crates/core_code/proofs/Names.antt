@@ -16,8 +16,8 @@ use Rattle.limbo_meaning.specs.Values.{references_in, row, listed, all_fitted}
 use Rattle.limbo_meaning.specs.Operations.{adt_parts}
 use Rattle.limbo_meaning.specs.Places.{value_part, put_part}
 use Rattle.limbo_meaning.specs.Process.{Shared}
-use Rattle.core_code.specs.Slots.{Slot, Holds, Chain, Region, NoSlot, MoreSlots, Regions, NoRegion, MoreRegions, Slots, empty, slot, put}
-use Rattle.core_code.specs.Slots.{value_of, chain_of, without, all_without, dropped, region, cleared, placed, chained, slot_names}
+use Rattle.core_code.specs.Slots.{Slot, Holds, Turns, Region, NoSlot, MoreSlots, Regions, NoRegion, MoreRegions, Slots, empty, slot, put}
+use Rattle.core_code.specs.Slots.{value_of, chain_of, next_of, without, all_without, dropped, region, cleared, placed, chained, slot_names}
 use Rattle.core_code.specs.Slots.{region_names, regions_name, slots_name, emptied, values_of}
 use Rattle.core_code.specs.Code.{Program}
 use Rattle.core_code.specs.Machine.{Process, at, with_frames, goes_to, takes, left_whole, picked, process_names}
@@ -83,7 +83,7 @@ mutual
 
 drop_goes : (n k : ℕ) (s : Slot) → slot_names (dropped k s) n + one n (reference k s) ≡ slot_names s n
 drop_goes n k (Holds v) = one_goes n k v
-drop_goes n k (Chain rs) = omega arith
+drop_goes n k (Turns i rs) = omega arith
 
 -- ---- slots
 
@@ -203,32 +203,31 @@ drops_one limit program w v p q s k e l =
     record { world = a.0; names = a.1 }
 
 keeps_all : (limit : ℕ) (program : Program) → KeepsAll limit program
-keeps_all limit program w v p q chain from words rs e c l m =
+keeps_all limit program w v p q loop from words next rs e c l m =
     let slots = p.frame.slots in
     let g = region slots from words in
     let kept = cleared slots from words in
-    let whole = Chain (chained (chain_of (slot slots chain)) g) in
-    let a = went w v p q (suc p.frame.pc) (put kept chain whole) (λ n. 0) e (λ n.
+    let whole = Turns (next_of (slot slots loop)) (chained (chain_of (slot slots loop)) g) in
+    let a = went w v p q (suc p.frame.pc) (put kept loop whole) (λ n. 0) e (λ n.
     let b = names_cleared n slots from words m in
-    let d = names_put n kept chain whole (let k = long_cleared slots from words in omega arith) in
-    let f = names_chained n (chain_of (slot slots chain)) g in
-    let h = ap (λ (s : Slot). slot_names s n) (cleared_below slots from words chain l) in
-    let i : slot_names (slot slots chain) n ≡ regions_name (chain_of (slot slots chain)) n =
+    let d = names_put n kept loop whole (let k = long_cleared slots from words in omega arith) in
+    let f = names_chained n (chain_of (slot slots loop)) g in
+    let h = ap (λ (s : Slot). slot_names s n) (cleared_below slots from words loop l) in
+    let i : slot_names (slot slots loop) n ≡ regions_name (chain_of (slot slots loop)) n =
     subst (λ (s : Slot). slot_names s n ≡ regions_name (chain_of s) n) (sym c) refl in
     omega arith) in
     record { world = a.0; names = λ n. let b = a.1 n in omega arith }
 
 takes_all : (limit : ℕ) (program : Program) → TakesAll limit program
-takes_all limit program w v p q chain from words passes g rs e c l m z =
+takes_all limit program w v p q loop from words passes next g rs e c l m z =
     let slots = p.frame.slots in
     let back = placed slots from g in
-    let f : chain_of (slot slots chain) ≡ MoreRegions g rs = ap chain_of c in
-    let e' = subst (λ (o : Regions). takes limit program w p chain from passes o ≡ Went v q) f e in
-    let a = went w v p q (suc p.frame.pc) (put back chain (Chain rs)) (λ n. 0) e' (λ n.
+    let e' = subst (λ (s : Slot). takes limit program w p loop from passes (next_of s) (chain_of s) ≡ Went v q) c e in
+    let a = went w v p q (suc p.frame.pc) (put back loop (Turns next rs)) (λ n. 0) e' (λ n.
     let b = names_placed n slots from g m in
     let y = z n in
-    let d = names_put n back chain (Chain rs) (let k = long_placed slots from g in omega arith) in
-    let h = ap (λ (s : Slot). slot_names s n) (placed_below slots from chain g l) in
+    let d = names_put n back loop (Turns next rs) (let k = long_placed slots from g in omega arith) in
+    let h = ap (λ (s : Slot). slot_names s n) (placed_below slots from loop g l) in
     let i = ap (λ (s : Slot). slot_names s n) c in
     omega arith) in
     record { world = a.0; names = λ n. let b = a.1 n in omega arith }

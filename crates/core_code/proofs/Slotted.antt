@@ -47,13 +47,13 @@ module _ (defs : List Def) where
   own_room true lo s e l = omega arith
   own_room false lo s e l = omega arith
 
-  others_room : (h : Bool) (t : Ty) (a : ℕ) (zs : List ℤ) (lo s : ℕ) (e : Term) → Small (suc (suc lo)) e
-      → (others defs h t a zs lo (lower defs (if h then suc (suc lo) else s) e)).free ≤ lo + 2 + 3 * (if h then counted_nodes defs e else 0)
+  others_room : (h : Bool) (t : Ty) (a : ℕ) (zs : List ℤ) (lo s : ℕ) (e : Term) → Small (suc lo) e
+      → (others defs h t a zs lo (lower defs (if h then suc lo else s) e)).free ≤ lo + 1 + 3 * (if h then counted_nodes defs e else 0)
   others_room true t a zs lo s e l = omega arith
   others_room false t a zs lo s e l = omega arith
 
   mutual
-    term_room : (lo : ℕ) (t : Term) → Small lo t
+    pub term_room : (lo : ℕ) (t : Term) → Small lo t
     term_room lo (Evaluated v) = omega arith
     term_room lo (Node t o ts) = node_room (type_at defs 0 ts) t o (lower_all defs lo ts) lo (all_counted defs ts) (terms_room lo ts)
     term_room lo (Lazy c l r) =
@@ -77,20 +77,20 @@ module _ (defs : List Def) where
         omega arith
     term_room lo t = omega arith
 
-    terms_room : (lo : ℕ) (ts : Terms) →
+    pub terms_room : (lo : ℕ) (ts : Terms) →
         (lower_all defs lo ts).free + length (lower_all defs lo ts).values ≤ lo + 3 * all_counted defs ts
     terms_room lo NoTerms = omega arith
     terms_room lo (MoreTerms t ts) = let a = term_room lo t in let b = terms_room (lower defs lo t).free ts in omega arith
 
-    end_room : (s : ℕ) (is : Items) → items_end defs s is ≤ s + 3 * greatest defs is
+    pub end_room : (s : ℕ) (is : Items) → items_end defs s is ≤ s + 3 * greatest defs is
     end_room s NoItems = omega arith
     end_room s (MoreItems i e is) = let a = alone_room (may_hold defs e) s e (term_room s e) in let b = end_room s is in omega arith
 
-    rest_end_room : (s : ℕ) (ts : Terms) → rest_end defs s ts ≤ s + 3 * rest_alone defs ts
+    pub rest_end_room : (s : ℕ) (ts : Terms) → rest_end defs s ts ≤ s + 3 * rest_alone defs ts
     rest_end_room s NoTerms = omega arith
     rest_end_room s (MoreTerms e es) = alone_room (may_hold defs e) s e (term_room s e)
 
-    items_room : (t : Ty) (a s lo : ℕ) (is : Items) → (lower_items defs t a s lo is).free ≤ lo + 3 * held defs is
+    pub items_room : (t : Ty) (a s lo : ℕ) (is : Items) → (lower_items defs t a s lo is).free ≤ lo + 3 * held defs is
     items_room t a s lo NoItems = omega arith
     items_room t a s lo (MoreItems i e is) =
         let x = lower defs (if may_hold defs e then lo else s) e in
@@ -98,10 +98,10 @@ module _ (defs : List Def) where
         let g = items_room t a s (if may_hold defs e then x.free else lo) is in
         omega arith
 
-    rest_room : (t : Ty) (a : ℕ) (zs : List ℤ) (s lo : ℕ) (ts : Terms) →
-        (lower_rest defs t a zs s lo ts).free ≤ lo + 2 + 3 * rest_held defs ts
+    pub rest_room : (t : Ty) (a : ℕ) (zs : List ℤ) (s lo : ℕ) (ts : Terms) →
+        (lower_rest defs t a zs s lo ts).free ≤ lo + 1 + 3 * rest_held defs ts
     rest_room t a zs s lo NoTerms = omega arith
-    rest_room t a zs s lo (MoreTerms e es) = others_room (may_hold defs e) t a zs lo s e (term_room (suc (suc lo)) e)
+    rest_room t a zs s lo (MoreTerms e es) = others_room (may_hold defs e) t a zs lo s e (term_room (suc lo) e)
 
   if_room : (t : Option Term) → free_after defs t ≤ 3 * if_counted defs t
   if_room None = omega arith

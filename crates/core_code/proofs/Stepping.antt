@@ -1,5 +1,5 @@
 -- No step and no reply leaves the code of a program.
-use Rattle.std.proofs.Common.{◌≡◌, ℕ, zero, suc, ◌+◌, ◌-◌, ◌<◌, Bool, true, false, List, [], ◌∷◌, length, map}
+use Rattle.std.proofs.Common.{◌≡◌, ℕ, zero, suc, pos, ◌+◌, ◌-◌, ◌<◌, Bool, true, false, List, [], ◌∷◌, length, map}
 use Rattle.std.proofs.Common.{Option, Some, None, Ok, Err, refl, sym, subst, ◌∙◌, arith}
 use Rattle.std.proofs.lemmas.List.{length-set, length-replicate}
 use Rattle.std.specs.Prelude.{slice_get, slice_index_or, All, nat_lt, if◌then◌else◌}
@@ -18,15 +18,14 @@ use Rattle.limbo_meaning.specs.Trees.{Term, Evaluated}
 use Rattle.limbo_meaning.specs.Process.{Shared}
 use Rattle.limbo_meaning.specs.Program as source
 use Rattle.core_code.specs.Slots.{Slots, Region, NoSlot, MoreSlots, Regions, NoRegion, MoreRegions, slot, chain_of, put, emptied, cleared}
-use Rattle.core_code.specs.Slots.{placed}
-use Rattle.core_code.specs.Slots.{values_of}
+use Rattle.core_code.specs.Slots.{next_of, index_of, placed, values_of}
 use Rattle.core_code.specs.Code as code
 use Rattle.core_code.specs.Code.{Instr, Give, Gather, Pick, Known, Write, CopyInto, Call, Print, Skip, Truth, Element, Next, Other}
 use Rattle.core_code.specs.Code.{Start, Keep, Take, Drop, Mirror, Unless, Jump, Back, Return, Function, Program}
 use Rattle.core_code.specs.Machine as machine
 use Rattle.core_code.specs.Machine.{Frame, Process, Does, at, waiting, frame_of, with_frames, answered, returns, calls, prints, hears}
 use Rattle.core_code.specs.Machine.{heard}
-use Rattle.core_code.specs.Machine.{choice, noted, slot_value, memory, unless_raised, part_or_none, does, first_left, counted, long_of}
+use Rattle.core_code.specs.Machine.{choice, noted, slot_value, memory, unless_raised, part_or_none, does, first_left, long_of}
 use Rattle.core_code.specs.Machine.{step}
 use Rattle.core_code.specs.Statements.{function_of, code_of}
 use Rattle.core_code.specs.Control.{IsClosed, leads_to}
@@ -149,16 +148,16 @@ module _ (program : Program) (sound : (n : ℕ) (f : Function) → slice_get pro
     stored : (place : Place) (v : Value) → suc q.frame.pc < length q.frame.code → Leaves (machine.stores limit program w q place v)
     stored place v l = raised (written program.adts (memory limit program w q) place v) _ (λ m. goes _ _ _ l refl)
 
-    nexts : (counter passes : ℕ) (o : Option ℕ) → suc q.frame.pc < length q.frame.code → suc q.frame.pc + passes < length q.frame.code
-        → Leaves (machine.nexts limit program w q counter passes o)
-    nexts counter n None l k = goes _ _ _ k (long_put q.frame.slots counter _)
-    nexts counter n (Some i) l k = goes _ _ _ l (long_put q.frame.slots counter _)
+    nexts : (loop passes : ℕ) (rs : Regions) (o : Option ℕ) → suc q.frame.pc < length q.frame.code
+        → suc q.frame.pc + passes < length q.frame.code → Leaves (machine.nexts limit program w q loop passes rs o)
+    nexts loop n rs None l k = goes _ _ _ k refl
+    nexts loop n rs (Some i) l k = goes _ _ _ l (long_put q.frame.slots loop _)
 
-    takes : (chain from passes : ℕ) (rs : Regions) → suc q.frame.pc < length q.frame.code → suc q.frame.pc + passes < length q.frame.code
-        → Leaves (machine.takes limit program w q chain from passes rs)
-    takes chain from n NoRegion l k = goes _ _ _ k (long_put q.frame.slots chain _)
-    takes chain from n (MoreRegions g rs) l k =
-        goes _ _ _ l (long_put (placed q.frame.slots from g) chain _ ∙ long_placed q.frame.slots from g)
+    takes : (loop from passes next : ℕ) (rs : Regions) → suc q.frame.pc < length q.frame.code
+        → suc q.frame.pc + passes < length q.frame.code → Leaves (machine.takes limit program w q loop from passes next rs)
+    takes loop from n i NoRegion l k = goes _ _ _ k (long_put q.frame.slots loop _)
+    takes loop from n i (MoreRegions g rs) l k =
+        goes _ _ _ l (long_put (placed q.frame.slots from g) loop _ ∙ long_placed q.frame.slots from g)
 
     decides_so : (into : ℕ) (d : Option ℕ) (from passes : ℕ) (b : Bool) → suc q.frame.pc < length q.frame.code
         → suc q.frame.pc + passes < length q.frame.code → Leaves (machine.left_decides limit program w q into d from passes b)
@@ -239,22 +238,21 @@ module _ (program : Program) (sound : (n : ℕ) (f : Function) → slice_get pro
     done (Element t a i from) e =
         parted (part_of (slot_value limit program w q a)) _
         (λ p. stored (element_at t p i) (slot_value limit program w q from) (on _ e (omega arith)))
-    done (Next a counter named n) e =
-        let c = counted (slot_value limit program w q counter) in
-        nexts counter n (first_left named (range_with_len c (long_of (part_of (slot_value limit program w q a)) - c)))
+    done (Start loop) e = goes _ _ _ (on _ e (omega arith)) (long_put q.frame.slots loop _)
+    done (Next a loop named n) e =
+        let l = slot q.frame.slots loop in
+        let i = next_of l in
+        nexts loop n (chain_of l) (first_left named (range_with_len i (long_of (part_of (slot_value limit program w q a)) - i)))
         (on _ e (omega arith)) (past _ e (omega arith))
-    done (Other t a counter from) e =
+    done (Other t a loop from) e =
         parted (part_of (slot_value limit program w q a)) _
-        (λ p. stored (element_at t p (number_of (slot_value limit program w q counter))) (slot_value limit program w q from)
+        (λ p. stored (element_at t p (pos (index_of (slot q.frame.slots loop)))) (slot_value limit program w q from)
         (on _ e (omega arith)))
-    done (Start counter None) e = goes _ _ _ (on _ e (omega arith)) (long_put q.frame.slots counter _)
-    done (Start counter (Some chain)) e =
-        goes _ _ _ (on _ e (omega arith)) (long_put (put q.frame.slots chain _) counter _ ∙ long_put q.frame.slots chain _)
-    done (Keep chain from words) e =
+    done (Keep loop from words) e =
         goes _ _ _ (on _ e (omega arith))
-        (long_put (cleared q.frame.slots from words) chain _ ∙ long_cleared q.frame.slots from words)
-    done (Take chain from words n) e =
-        takes chain from n (chain_of (slot q.frame.slots chain)) (on _ e (omega arith)) (past _ e (omega arith))
+        (long_put (cleared q.frame.slots from words) loop _ ∙ long_cleared q.frame.slots from words)
+    done (Take loop from words n) e =
+        let l = slot q.frame.slots loop in takes loop from n (next_of l) (chain_of l) (on _ e (omega arith)) (past _ e (omega arith))
     done (Drop d k) e = goes _ _ _ (on _ e (omega arith)) (long_put q.frame.slots d _)
     done (Mirror d n) e =
         goes _ _ _

@@ -233,8 +233,8 @@ module _ (defs : List Def) where
   either_up true lo s e l = l
   either_up false lo s e l = omega arith
 
-  pub others_up : (h : Bool) (t : Ty) (a : ℕ) (zs : List ℤ) (lo s : ℕ) (e : Term) → suc (suc lo) ≤ (lower defs (suc (suc lo)) e).free
-      → lo ≤ (others defs h t a zs lo (lower defs (if h then suc (suc lo) else s) e)).free
+  pub others_up : (h : Bool) (t : Ty) (a : ℕ) (zs : List ℤ) (lo s : ℕ) (e : Term) → suc lo ≤ (lower defs (suc lo) e).free
+      → lo ≤ (others defs h t a zs lo (lower defs (if h then suc lo else s) e)).free
   others_up true t a zs lo s e l = omega arith
   others_up false t a zs lo s e l = omega arith
 
@@ -279,7 +279,7 @@ module _ (defs : List Def) where
 
     pub rest_up : (t : Ty) (a : ℕ) (zs : List ℤ) (s lo : ℕ) (ts : Terms) → lo ≤ (lower_rest defs t a zs s lo ts).free
     rest_up t a zs s lo NoTerms = omega arith
-    rest_up t a zs s lo (MoreTerms e es) = others_up (may_hold defs e) t a zs lo s e (term_up (suc (suc lo)) e)
+    rest_up t a zs s lo (MoreTerms e es) = others_up (may_hold defs e) t a zs lo s e (term_up (suc lo) e)
 
   -- ---- and names no others
 
@@ -293,22 +293,21 @@ module _ (defs : List Def) where
   GoodFrom n e = (from : ℕ) → (lower defs from e).free ≤ n → Good n (lower defs from e)
 
   others_good : (h : Bool) (n : ℕ) (t : Ty) (a : ℕ) (zs : List ℤ) (lo s : ℕ) (e : Term) → a < n
-      → (others defs h t a zs lo (lower defs (if h then suc (suc lo) else s) e)).free ≤ n
-      → (if h then s else (lower defs s e).free) ≤ n → suc (suc lo) ≤ (lower defs (suc (suc lo)) e).free → GoodFrom n e
-      → Good n (others defs h t a zs lo (lower defs (if h then suc (suc lo) else s) e))
+      → (others defs h t a zs lo (lower defs (if h then suc lo else s) e)).free ≤ n
+      → (if h then s else (lower defs s e).free) ≤ n → suc lo ≤ (lower defs (suc lo) e).free → GoodFrom n e
+      → Good n (others defs h t a zs lo (lower defs (if h then suc lo else s) e))
   others_good true n t a zs lo s e p q k u f =
-      let x = lower defs (suc (suc lo)) e in
-      let g = f (suc (suc lo)) q in
-      let own = Other t a lo x.value ∷ Keep (suc lo) (suc (suc lo)) (x.free - suc (suc lo)) ∷ [] in
+      let x = lower defs (suc lo) e in
+      let g = f (suc lo) q in
+      let own = Other t a lo x.value ∷ Keep lo (suc lo) (x.free - suc lo) ∷ [] in
       let turn = x.code ++ own in
-      let c : suc lo < n = omega arith in
-      let counter : lo < n = omega arith in
-      let room : suc (suc lo) + (x.free - suc (suc lo)) ≤ n = omega arith in
+      let loop : lo < n = omega arith in
+      let room : suc lo + (x.free - suc lo) ≤ n = omega arith in
       record {
-        code = use_join n (Start lo (Some (suc lo)) ∷ Next a lo zs (suc (length turn)) ∷ turn) (Back (suc (length turn)) ∷ [])
-            ((counter, c), ((p, counter), use_join n x.code own g.code ((p, counter, g.value), ((c, room), tt)))) (tt, tt);
-        drops = use_join n (Take (suc lo) (suc (suc lo)) (x.free - suc (suc lo)) (suc (length x.drops)) ∷ x.drops)
-            (Back (suc (length x.drops)) ∷ []) ((c, room), g.drops) (tt, tt);
+        code = use_join n (Start lo ∷ Next a lo zs (suc (length turn)) ∷ turn) (Back (suc (length turn)) ∷ [])
+            (loop, ((p, loop), use_join n x.code own g.code ((p, loop, g.value), ((loop, room), tt)))) (tt, tt);
+        drops = use_join n (Take lo (suc lo) (x.free - suc lo) (suc (length x.drops)) ∷ x.drops)
+            (Back (suc (length x.drops)) ∷ []) ((loop, room), g.drops) (tt, tt);
         value = p;
       }
   others_good false n t a zs lo s e p q k u f =
@@ -316,10 +315,10 @@ module _ (defs : List Def) where
       let g = f s k in
       let own = Other t a lo x.value ∷ [] in
       let turn = x.code ++ own in
-      let counter : lo < n = omega arith in
+      let loop : lo < n = omega arith in
       record {
-        code = use_join n (Start lo None ∷ Next a lo zs (suc (length turn)) ∷ turn) (Back (suc (length turn)) ∷ [])
-            ((counter, tt), ((p, counter), use_join n x.code own g.code ((p, counter, g.value), tt))) (tt, tt);
+        code = use_join n (Start lo ∷ Next a lo zs (suc (length turn)) ∷ turn) (Back (suc (length turn)) ∷ [])
+            (loop, ((p, loop), use_join n x.code own g.code ((p, loop, g.value), tt))) (tt, tt);
         drops = tt;
         value = p;
       }
@@ -429,7 +428,7 @@ module _ (defs : List Def) where
         → (lower_rest defs t a zs s lo ts).free ≤ n → rest_end defs s ts ≤ n → Good n (lower_rest defs t a zs s lo ts)
     rest_good n t a zs s lo NoTerms p l q k = record { code = tt; drops = tt; value = l }
     rest_good n t a zs s lo (MoreTerms e es) p l q k =
-        others_good (may_hold defs e) n t a zs lo s e l q k (term_up (suc (suc lo)) e) (λ from r. term_good n from e p r)
+        others_good (may_hold defs e) n t a zs lo s e l q k (term_up (suc lo) e) (λ from r. term_good n from e p r)
 
 -- ---- statements
 

@@ -31,15 +31,14 @@ pub data Instr : Type 0 where
   Truth : (into from : ℕ) → Instr
   -- a new array's element is stored
   Element : Ty → (array : ℕ) → (index : ℤ) → (from : ℕ) → Instr
-  -- the others of an initialiser begin: nothing is counted yet, and nothing is in the chain of what the turns held, where there is one; the
-  -- next index that isn't among these goes into a slot, or so many instructions are passed; an element is stored there; and again, so many
-  -- back
-  Start : (counter : ℕ) → (chain : Option ℕ) → Instr
-  Next : (array counter : ℕ) → (named : List ℤ) → (passes : ℕ) → Instr
-  Other : Ty → (array counter from : ℕ) → Instr
-  -- a region goes to the end of a chain, and is empty; the first region of it comes back, or so many instructions are passed
-  Keep : (chain from words : ℕ) → Instr
-  Take : (chain from words passes : ℕ) → Instr
+  -- the others of an initialiser begin: the loop's slot is at the first index, and nothing is in the chain of what the turns held; it goes
+  -- on to the next index that isn't among these, or so many instructions are passed; an element is stored there; and again, so many back
+  Start : (loop : ℕ) → Instr
+  Next : (array loop : ℕ) → (named : List ℤ) → (passes : ℕ) → Instr
+  Other : Ty → (array loop from : ℕ) → Instr
+  -- a region goes to the end of a loop's chain, and is empty; the first region of it comes back, or so many instructions are passed
+  Keep : (loop from words : ℕ) → Instr
+  Take : (loop from words passes : ℕ) → Instr
   -- a reference of a slot's value goes; what was decided is read again: where the left operand decided, so many drops are passed
   Drop : (slot reference : ℕ) → Instr
   Mirror : (decision passes : ℕ) → Instr

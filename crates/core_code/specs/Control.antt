@@ -12,8 +12,8 @@ on_or_past pc n = suc pc ∷ (suc pc + n) ∷ []
 -- The places at which control may go on in the code from an instruction at this place; from a return it goes on in another frame.
 abbrev pub leads_to : (pc : ℕ) → Instr → List ℕ
 leads_to pc (Skip c into d from n) = on_or_past pc n
-leads_to pc (Next a counter named n) = on_or_past pc n
-leads_to pc (Take chain from words n) = on_or_past pc n
+leads_to pc (Next a loop named n) = on_or_past pc n
+leads_to pc (Take loop from words n) = on_or_past pc n
 leads_to pc (Mirror d n) = on_or_past pc n
 leads_to pc (Unless s n) = on_or_past pc n
 leads_to pc (Jump n) = (suc pc + n) ∷ []

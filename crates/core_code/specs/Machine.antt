@@ -22,9 +22,8 @@ use Rattle.limbo_meaning.specs.Evaluation.{Progress, Stepped, Raises, performed,
 use Rattle.limbo_meaning.specs.Trees.{Term, Evaluated}
 use Rattle.limbo_meaning.specs.Process as meaning
 use Rattle.limbo_meaning.specs.Process.{Shared, shared_with, table_names}
-use Rattle.core_code.specs.Slots.{Holds, Chain, Slots, NoRegion, Regions, MoreRegions, empty, slot, put, value_of, chain_of, values_of}
-use Rattle.core_code.specs.Slots.{emptied}
-use Rattle.core_code.specs.Slots.{dropped, region, cleared, placed, chained, slots_name}
+use Rattle.core_code.specs.Slots.{Holds, Turns, Slots, NoRegion, Regions, MoreRegions, empty, slot, put, value_of, chain_of, next_of}
+use Rattle.core_code.specs.Slots.{index_of, values_of, emptied, dropped, region, cleared, placed, chained, slots_name}
 use Rattle.core_code.specs.Code as code
 use Rattle.core_code.specs.Code.{Instr, Give, Gather, Pick, Known, Write, CopyInto, Call, Print, Skip, Truth, Element, Next, Other, Start}
 use Rattle.core_code.specs.Code.{Keep}
@@ -162,11 +161,6 @@ abbrev pub long_of : Option Part → ℕ
 long_of None = 0
 long_of (Some p) = p.long
 
--- Where the counter stands: nothing is as before the first index.
-abbrev pub counted : Value → ℕ
-counted (Num (pos n)) = suc n
-counted v = 0
-
 module _ (limit : ℕ) (program : Program) (w : Shared) (p : Process) where
   abbrev pub slots : Slots
   slots = p.frame.slots
@@ -194,13 +188,14 @@ module _ (limit : ℕ) (program : Program) (w : Shared) (p : Process) where
   abbrev pub stores : Place → Value → Does
   stores place v = unless_raised (written program.adts memory place v) (λ m. goes_with w p m slots)
 
-  abbrev pub nexts : (counter passes : ℕ) → Option ℕ → Does
-  nexts counter n None = goes_to w p (suc p.frame.pc + n) (put slots counter empty)
-  nexts counter n (Some i) = goes_on w p (put slots counter (Holds (Num (pos i))))
+  -- A loop goes on to an index, or none is left. What its turns held stays in its chain.
+  abbrev pub nexts : (loop passes : ℕ) → Regions → Option ℕ → Does
+  nexts loop n rs None = goes_to w p (suc p.frame.pc + n) slots
+  nexts loop n rs (Some i) = goes_on w p (put slots loop (Turns (suc i) rs))
 
-  abbrev pub takes : (chain from passes : ℕ) → Regions → Does
-  takes chain from n NoRegion = goes_to w p (suc p.frame.pc + n) (put slots chain empty)
-  takes chain from n (MoreRegions g rs) = goes_on w p (put (placed slots from g) chain (Chain rs))
+  abbrev pub takes : (loop from passes : ℕ) → (next : ℕ) → Regions → Does
+  takes loop from n i NoRegion = goes_to w p (suc p.frame.pc + n) (put slots loop empty)
+  takes loop from n i (MoreRegions g rs) = goes_on w p (put (placed slots from g) loop (Turns i rs))
 
   abbrev pub behind_of : Option ℕ → Option ℕ
   behind_of None = None
@@ -235,16 +230,16 @@ module _ (limit : ℕ) (program : Program) (w : Shared) (p : Process) where
   does (Skip c into d from n) = left_decides into d from n (decides c (slot_value from))
   does (Truth into from) = goes_on w p (put slots into (Holds (truth_of (slot_value from))))
   does (Element t a i from) = part_or_none (part_of (slot_value a)) (λ part. stores (element_at t part i) (slot_value from))
-  does (Next a counter named n) =
-      let i = counted (slot_value counter) in
-      nexts counter n (first_left named (range_with_len i (long_of (part_of (slot_value a)) - i)))
-  does (Other t a counter from) =
-      part_or_none (part_of (slot_value a)) (λ part. stores (element_at t part (number_of (slot_value counter))) (slot_value from))
-  does (Start counter None) = goes_on w p (put slots counter empty)
-  does (Start counter (Some chain)) = goes_on w p (put (put slots chain (Chain NoRegion)) counter empty)
-  does (Keep chain from words) =
-      goes_on w p (put (cleared slots from words) chain (Chain (chained (chain_of (slot slots chain)) (region slots from words))))
-  does (Take chain from words n) = takes chain from n (chain_of (slot slots chain))
+  does (Start loop) = goes_on w p (put slots loop (Turns 0 NoRegion))
+  does (Next a loop named n) =
+      let l = slot slots loop in
+      nexts loop n (chain_of l) (first_left named (range_with_len (next_of l) (long_of (part_of (slot_value a)) - next_of l)))
+  does (Other t a loop from) =
+      part_or_none (part_of (slot_value a)) (λ part. stores (element_at t part (pos (index_of (slot slots loop)))) (slot_value from))
+  does (Keep loop from words) =
+      let l = slot slots loop in
+      goes_on w p (put (cleared slots from words) loop (Turns (next_of l) (chained (chain_of l) (region slots from words))))
+  does (Take loop from words n) = let l = slot slots loop in takes loop from n (next_of l) (chain_of l)
   does (Drop s k) = goes_on w p (put slots s (dropped k (slot slots s)))
   does (Mirror d n) = goes_to w p (suc p.frame.pc + choice (holds (slot_value d)) n 0) slots
   does (Unless s n) = goes_to w p (suc p.frame.pc + choice (holds (slot_value s)) 0 n) slots

@@ -11,7 +11,7 @@ use Rattle.limbo_meaning.specs.Operations.{adt_parts}
 use Rattle.limbo_meaning.specs.Places.{value_part}
 use Rattle.limbo_meaning.specs.Trees.{Operate}
 use Rattle.limbo_meaning.specs.Process.{Shared}
-use Rattle.core_code.specs.Slots.{Slot, Holds, Chain, Region, NoSlot, MoreSlots, Regions, MoreRegions, slot, value_of, region}
+use Rattle.core_code.specs.Slots.{Slot, Holds, Turns, Region, NoSlot, MoreSlots, Regions, MoreRegions, slot, value_of, region}
 use Rattle.core_code.specs.Slots.{Slots, values_of, slot_names, region_names}
 use Rattle.core_code.specs.Code.{Program, Drop, Keep, Take, Pick, Gather}
 use Rattle.core_code.specs.Machine.{Process, does, process_names}
@@ -72,15 +72,15 @@ module _ (limit : ℕ) (program : Program) where
   -- What the turns of an initialiser held stays named while it is in the chain in front of their slots.
   abbrev pub KeepsAll : Type 0
   KeepsAll =
-      (w v : Shared) (p q : Process) (chain from words : ℕ) (rs : Regions) → does limit program w p (Keep chain from words) ≡ Went v q →
-      slot p.frame.slots chain ≡ Chain rs → chain < from → from + words ≤ length p.frame.slots → NamesTheSame w v p q
+      (w v : Shared) (p q : Process) (loop from words next : ℕ) (rs : Regions) → does limit program w p (Keep loop from words) ≡ Went v q →
+      slot p.frame.slots loop ≡ Turns next rs → loop < from → from + words ≤ length p.frame.slots → NamesTheSame w v p q
 
   -- And as it comes back, into slots that name nothing.
   abbrev pub TakesAll : Type 0
   TakesAll =
-      (w v : Shared) (p q : Process) (chain from words passes : ℕ) (g : Region) (rs : Regions) →
-      does limit program w p (Take chain from words passes) ≡ Went v q → slot p.frame.slots chain ≡ Chain (MoreRegions g rs) →
-      chain < from → from + size g ≤ length p.frame.slots → ((n : ℕ) → region_names (region p.frame.slots from (size g)) n ≡ 0) →
+      (w v : Shared) (p q : Process) (loop from words passes next : ℕ) (g : Region) (rs : Regions) →
+      does limit program w p (Take loop from words passes) ≡ Went v q → slot p.frame.slots loop ≡ Turns next (MoreRegions g rs) →
+      loop < from → from + size g ≤ length p.frame.slots → ((n : ℕ) → region_names (region p.frame.slots from (size g)) n ≡ 0) →
       NamesTheSame w v p q
 
   -- A part that is taken out of a value, into a slot that names nothing, is named once, as before.

@@ -2,11 +2,12 @@
 use Rattle.std.specs.Prelude.{ℕ, zero, suc, ◌+◌, ◌-◌, List, [], ◌∷◌, length, nat_lt, slice_set, slice_index_or, if◌then◌else◌, None}
 use Rattle.limbo_meaning.specs.Values.{Value, Num, Chars, Ref, Array, Parts, Values, NoValues, MoreValues, nothing, references, among}
 
--- A slot has a whole value; or the chain of a loop of an initialiser: what the turns held, the oldest first, each as a region of slots.
+-- A slot has a whole value; or a loop of an initialiser: which index comes next, and the chain of what its turns held, the oldest first,
+-- each as a region of slots.
 mutual
   pub data Slot : Type 0 where
     Holds : Value → Slot
-    Chain : Regions → Slot
+    Turns : (next : ℕ) → Regions → Slot
 
   pub data Region : Type 0 where
     NoSlot : Region
@@ -30,11 +31,21 @@ put slots s v = slice_set slots s v
 
 abbrev pub value_of : Slot → Value
 value_of (Holds v) = v
-value_of (Chain rs) = nothing
+value_of (Turns n rs) = nothing
 
 abbrev pub chain_of : Slot → Regions
 chain_of (Holds v) = NoRegion
-chain_of (Chain rs) = rs
+chain_of (Turns n rs) = rs
+
+-- The index that comes next in a loop, and the one that its turn is at, which is in front of that.
+abbrev pub next_of : Slot → ℕ
+next_of (Holds v) = 0
+next_of (Turns n rs) = n
+
+abbrev pub index_of : Slot → ℕ
+index_of (Holds v) = 0
+index_of (Turns zero rs) = 0
+index_of (Turns (suc n) rs) = n
 
 abbrev pub values_of : Slots → List ℕ → List Value
 values_of slots [] = []
@@ -66,7 +77,7 @@ abbrev mutual
 
 abbrev pub dropped : ℕ → Slot → Slot
 dropped k (Holds v) = Holds (without k v)
-dropped k (Chain rs) = Chain rs
+dropped k (Turns n rs) = Turns n rs
 
 -- ---- regions
 
@@ -92,7 +103,7 @@ chained (MoreRegions h rs) g = MoreRegions h (chained rs g)
 abbrev mutual
   pub slot_names : Slot → ℕ → ℕ
   slot_names (Holds v) n = among n (references v)
-  slot_names (Chain rs) n = regions_name rs n
+  slot_names (Turns i rs) n = regions_name rs n
 
   pub region_names : Region → ℕ → ℕ
   region_names NoSlot n = 0

@@ -218,22 +218,21 @@ module _ (defs : List Def) where
   named NoItems = []
   named (MoreItems i t is) = i ∷ named is
 
-  -- A loop of the others' element, which counts in slot `from`: with a chain behind it, and then the element's slots, where the element may
-  -- hold something.
+  -- A loop of the others' element, whose slot is `from`: with a chain, and the element's slots behind it, where the element may hold
+  -- something.
   abbrev pub others : Bool → Ty → (array : ℕ) → List ℤ → (from : ℕ) → Lowered → Lowered
   others true t a zs from e =
-      let turn = e.code ++ (Other t a from e.value ∷ Keep (suc from) (suc (suc from)) (e.free - suc (suc from)) ∷ []) in
+      let turn = e.code ++ (Other t a from e.value ∷ Keep from (suc from) (e.free - suc from) ∷ []) in
       record {
-        code = Start from (Some (suc from)) ∷ Next a from zs (suc (length turn)) ∷ turn ++ Back (suc (length turn)) ∷ [];
-        drops = Take (suc from) (suc (suc from)) (e.free - suc (suc from)) (suc (length e.drops)) ∷ e.drops ++ Back
-            (suc (length e.drops)) ∷ [];
+        code = Start from ∷ Next a from zs (suc (length turn)) ∷ turn ++ Back (suc (length turn)) ∷ [];
+        drops = Take from (suc from) (e.free - suc from) (suc (length e.drops)) ∷ e.drops ++ Back (suc (length e.drops)) ∷ [];
         value = a;
         free = e.free;
       }
   others false t a zs from e =
       let turn = e.code ++ Other t a from e.value ∷ [] in
       record {
-        code = Start from None ∷ Next a from zs (suc (length turn)) ∷ turn ++ Back (suc (length turn)) ∷ [];
+        code = Start from ∷ Next a from zs (suc (length turn)) ∷ turn ++ Back (suc (length turn)) ∷ [];
         drops = [];
         value = a;
         free = suc from;
@@ -313,7 +312,7 @@ module _ (defs : List Def) where
     pub lower_rest : Ty → (array : ℕ) → List ℤ → (shared lo : ℕ) → Terms → Lowered
     lower_rest t a zs shared lo NoTerms = record { code = []; drops = []; value = a; free = lo }
     lower_rest t a zs shared lo (MoreTerms e es) =
-        others (may_hold defs e) t a zs lo (lower (if may_hold defs e then suc (suc lo) else shared) e)
+        others (may_hold defs e) t a zs lo (lower (if may_hold defs e then suc lo else shared) e)
 
     -- Where the shared slots end: the greatest of the elements that hold nothing takes most.
     pub items_end : (shared : ℕ) → Items → ℕ

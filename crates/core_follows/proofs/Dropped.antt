@@ -13,8 +13,8 @@ use Rattle.limbo_meaning.specs.Process as source
 use Rattle.limbo_meaning.specs.Process.{Shared}
 use Rattle.limbo_meaning.specs.Holding.{ends_first}
 use Rattle.limbo_meaning.proofs.Holding.{held_in_order}
-use Rattle.core_code.specs.Slots.{Slot, Holds, Chain, Slots, Region, NoSlot, MoreSlots, NoRegion, MoreRegions, slot, put, empty, value_of}
-use Rattle.core_code.specs.Slots.{without, dropped, placed, chain_of, slot_names, region_names}
+use Rattle.core_code.specs.Slots.{Slot, Holds, Turns, Slots, Region, NoSlot, MoreSlots, NoRegion, MoreRegions, slot, put, empty, value_of}
+use Rattle.core_code.specs.Slots.{without, dropped, placed, next_of, chain_of, slot_names, region_names}
 use Rattle.core_code.specs.Code.{Instr, Drop, Mirror, Take, Back}
 use Rattle.core_code.specs.Machine as machine
 use Rattle.core_code.specs.Machine.{Frame, at, memory_of, choice}
@@ -23,7 +23,7 @@ use Rattle.core_code.specs.Statements.{code_of}
 use Rattle.core_code.proofs.Names.{names_put, long_placed, placed_below, names_placed}
 use Rattle.core_follows.specs.Drops as drops
 use Rattle.core_follows.specs.Drops.{AllSpare, Clean, Between, Beside, Apart, AllTouch, AllMiss, HasAt, Dropping, none, enters, passes}
-use Rattle.core_follows.specs.Drops.{takes, Turns, last, more}
+use Rattle.core_follows.specs.Drops.{takes, HasTurns, last, more}
 use Rattle.core_follows.specs.Stands.{SlotsName, coded, sourced, beside, sstep, obeys, Stands, Going, going, obeying, goes, rests, place_at}
 use Rattle.core_follows.proofs.Slots.{put_same, put_other, put_long, total, total_same, total_clean, clean_total, slots_split, among_join}
 use Rattle.core_follows.proofs.Drops.{after_drop, dropped_names, touch_back, dropping_kept, dropping_behind}
@@ -92,7 +92,7 @@ without_number k (Parts vs) = refl
 
 dropped_number : (k : ℕ) (x : Slot) → number_of (value_of (dropped k x)) ≡ number_of (value_of x)
 dropped_number k (Holds v) = without_number k v
-dropped_number k (Chain rs) = refl
+dropped_number k (Turns i rs) = refl
 
 drop_number : (slots : Slots) (s k r : ℕ) → slot_number (put slots s (dropped k (slot slots s))) r ≡ slot_number slots r
 drop_number slots s k r = ⊎_elim
@@ -176,10 +176,10 @@ module _ (limit : ℕ) (program : Program) (g : Frame) (todo : Block) (ends : en
       (λ slots2 long same names2 numbers. pc_is limit program g g.into (pc + suc (length body)) (suc pc + length skipped + length is)
       g.variables slots2 later todo (omega arith)
       (k slots2 long same names2 (λ s z. numbers s (spare_back s skipped is (subst (AllSpare s) f z.1))))))))
-  drops_go zero lo hi pc slots ds held later l (takes c from words n es is NoRegion turned rest e lt wl cl te tj last x f ln h) t m has
+  drops_go zero lo hi pc slots ds held later l (takes c from words n i es is NoRegion turned rest e lt wl cl te tj last x f ln h) t m has
       names k =
       absurd (let z = ap length h in omega arith)
-  drops_go (suc fuel) lo hi pc slots ds held later l (takes {rest = body} c from words n es is NoRegion turned rest e lt wl cl te tj last
+  drops_go (suc fuel) lo hi pc slots ds held later l (takes {rest = body} c from words n i es is NoRegion turned rest e lt wl cl te tj last
       x f ln h) t m has names k =
       let slots1 = put slots c empty in
       let c_in : c < length slots = let b = t.0.0 in omega (arith, b.1, m) in
@@ -190,7 +190,8 @@ module _ (limit : ℕ) (program : Program) (g : Frame) (todo : Block) (ends : en
       let names1 : SlotsName slots (None ∷ (rest ++ later)) = subst (λ (hs : List (Option ℕ)). SlotsName slots (hs ++ later)) h names in
       subst (λ (hs : List (Option ℕ)). Stands limit program (here pc slots) (hs ++ later) todo) (sym h)
       (going (one_less pc (suc pc + n) slots slots1 None (rest ++ later) (Take c from words n) has.0 names1
-      (λ w q below p. ap (λ (y : Slot). machine.takes limit (code_of program) w (coded q (here pc slots) below p) c from n (chain_of y)) e)
+      (λ w q below p. ap (λ (y : Slot). machine.takes limit (code_of program) w (coded q (here pc slots) below p) c from n (next_of y)
+      (chain_of y)) e)
       (pc_is limit program g g.into (suc (suc pc + length es)) (suc pc + n) g.variables slots1 (rest ++ later) todo z
       (drops_go fuel lo hi (suc (suc pc + length es)) slots1 is rest later (let y = ap length h in omega arith)
       (dropping_kept (Apart c from words) slots slots1 is rest tj (λ s b. put_other slots c s empty b.0) x) u.1
@@ -205,17 +206,17 @@ module _ (limit : ℕ) (program : Program) (g : Frame) (todo : Block) (ends : en
       names2
       (λ s z. numbers s (spare_back s es (Back (suc (length es)) ∷ is) (subst (AllSpare s) f z.1)).1
       ∙ ap (λ (y : Slot). number_of (value_of y)) (put_other slots c s empty z.0.0))))))))
-  drops_go zero lo hi pc slots ds held later l (takes c from words n es is (MoreRegions y rs) turned rest e lt wl cl te tj
+  drops_go zero lo hi pc slots ds held later l (takes c from words n i es is (MoreRegions y rs) turned rest e lt wl cl te tj
       (more hg turned' sz fs nm ts) x f ln h) t m has names k =
       absurd (let z = ap length h in omega arith)
-  drops_go (suc fuel) lo hi pc slots ds held later l (takes {rest = body} c from words n es is (MoreRegions y rs) turned rest e lt wl cl
+  drops_go (suc fuel) lo hi pc slots ds held later l (takes {rest = body} c from words n i es is (MoreRegions y rs) turned rest e lt wl cl
       te tj (more hg turned' sz fs nm ts) x f ln h) t m has names k =
       let back = placed slots from y in
-      let slots1 = put back c (Chain rs) in
+      let slots1 = put back c (Turns i rs) in
       let c_in : c < length slots = let b = t.0.0 in omega (arith, b.1, m) in
       let top : from + words ≤ hi = upto from words hi wl (λ s p q. (t.0.2 s p q).1) in
       let long_back = long_placed slots from y in
-      let long1 : length slots1 ≡ length slots = put_long back c (Chain rs) ∙ long_back in
+      let long1 : length slots1 ≡ length slots = put_long back c (Turns i rs) ∙ long_back in
       let has_es = subst (HasAt g.code (suc pc)) f has.1 in
       let h1 = has_back g.code (suc pc) es (Back (suc (length es)) ∷ is) has_es in
       let more_held : List (Option ℕ) = (turned' ++ rest) ++ later in
@@ -228,22 +229,23 @@ module _ (limit : ℕ) (program : Program) (g : Frame) (todo : Block) (ends : en
       let chain_there = placed_below slots from c y lt in
       let names1 : SlotsName slots1 (hg ++ more_held) = λ o.
       let p = names_placed o slots from y (omega arith) in
-      let q = names_put o back c (Chain rs) (omega arith) in
+      let q = names_put o back c (Turns i rs) (omega arith) in
       let r = ap (λ (s : Slot). slot_names s o) (chain_there ∙ e) in
       let v = clean_back o in
       let v' = ap (λ (j : ℕ). total slots from j o) sz in
       let u = names0 o in omega arith in
       let inner : Dropping slots1 es hg = dropping_kept (Between from (from + words)) back slots1 es hg te
-      (λ s b. put_other back c s (Chain rs) (λ q. absurd (let r = b.0 in omega (arith, q, r, lt)))) (fs slots (omega arith)) in
+      (λ s b. put_other back c s (Turns i rs) (λ q. absurd (let r = b.0 in omega (arith, q, r, lt)))) (fs slots (omega arith)) in
       let region1 : (o : ℕ) → total slots1 from words o ≡ among o hg = λ o.
-      let p = total_same o back slots1 from words (λ s q r. put_other back c s (Chain rs) (λ v. absurd (omega (arith, v, q, lt)))) in
+      let p = total_same o back slots1 from words (λ s q r. put_other back c s (Turns i rs) (λ v. absurd (omega (arith, v, q, lt)))) in
       let q = placed_total o slots from y (omega arith) in
       let r = ap (λ (j : ℕ). total back from j o) sz in
       let v = nm o in omega arith in
       let one_fewer = λ (hs : List (Option ℕ)). Stands limit program (here pc slots) hs todo in
       subst one_fewer (sym eq_held)
       (going (one_less pc (suc pc) slots slots1 None (hg ++ more_held) (Take c from words n) has.0 names0
-      (λ w q below p. ap (λ (z : Slot). machine.takes limit (code_of program) w (coded q (here pc slots) below p) c from n (chain_of z)) e)
+      (λ w q below p. ap (λ (z : Slot). machine.takes limit (code_of program) w (coded q (here pc slots) below p) c from n (next_of z)
+      (chain_of z)) e)
       (drops_go fuel from (from + words) (suc pc) slots1 es hg more_held
       (let z = ap length h in let v = length-append (hg ++ turned') rest in let u = length-append hg turned' in omega arith) inner te
       (omega arith)
@@ -253,7 +255,7 @@ module _ (limit : ℕ) (program : Program) (g : Frame) (todo : Block) (ends : en
       let to_take : pcb - suc (length es) ≡ pc = omega arith in
       let long2 : length slots2 ≡ length slots = long ∙ long1 in
       let same2 : (s : ℕ) → Apart c from words s → slot slots2 s ≡ slot slots s = λ s b. same s (outside from words s b.1)
-      ∙ put_other back c s (Chain rs) b.0 ∙ placed_other slots from words y sz s b.1 in
+      ∙ put_other back c s (Turns i rs) b.0 ∙ placed_other slots from words y sz s b.1 in
       let clean2 : Clean slots2 from (from + words) = total_clean slots2 from words (λ o.
       let p = slots_split o slots1 from (from + words) (omega arith) (omega arith) in
       let q = slots_split o slots2 from (from + words) (omega arith) (omega arith) in
@@ -274,8 +276,8 @@ module _ (limit : ℕ) (program : Program) (g : Frame) (todo : Block) (ends : en
       (drops_go fuel lo hi pc slots2 (Take c from words n ∷ body) (turned' ++ rest) later
       (let z = ap length h in let v = length-append (hg ++ turned') rest in let u = length-append hg turned' in let z' = length-append
       turned' rest in omega arith)
-      (takes c from words n es is rs turned' rest
-      (same c (inl lt) ∙ put_same back c (Chain rs) (omega arith)) lt wl clean2 te tj ts
+      (takes c from words n i es is rs turned' rest
+      (same c (inl lt) ∙ put_same back c (Turns i rs) (omega arith)) lt wl clean2 te tj ts
       (dropping_kept (Apart c from words) slots slots2 is rest tj same2 x) f ln refl)
       t (omega arith) has names2
       (λ slots3 long3 same3 names3 numbers3. k slots3 (long3 ∙ long2)

@@ -5,14 +5,14 @@ use Rattle.std.proofs.lemmas.Bool.{cases_eq, ltb-true, ltb-false}
 use Rattle.std.specs.Prelude.{pos, nat_lt, slice_set, slice_index_or, if◌then◌else◌}
 use Rattle.limbo_meaning.specs.Values.{Value, Num, Chars, Ref, Array, Parts, Values, NoValues, MoreValues, references, all_references}
 use Rattle.limbo_meaning.specs.Values.{one, among}
-use Rattle.core_code.specs.Slots.{Slot, Holds, Chain, Slots, slot, put, without, all_without}
+use Rattle.core_code.specs.Slots.{Slot, Holds, Turns, Slots, slot, put, without, all_without}
 use Rattle.core_code.specs.Slots.{dropped, slot_names}
 use Rattle.core_code.specs.Code.{Instr, Drop, Mirror, Take, Back}
 use Rattle.core_code.specs.Naming.{reference}
 use Rattle.core_follows.specs.Drops as drops
 use Rattle.core_follows.specs.Drops.{Clean, Between, Apart, Touches, AllTouch, Misses, AllMiss, HasAt, Dropping, none, enters, passes}
 use Rattle.core_follows.specs.Drops.{takes}
-use Rattle.core_follows.specs.Drops.{Turns, last, more}
+use Rattle.core_follows.specs.Drops.{HasTurns, last, more}
 use Rattle.core_follows.proofs.Slots.{put_other}
 
 -- ---- one reference of a value goes
@@ -63,12 +63,12 @@ set_names n (r ∷ rs) (suc k) = let a = set_names n rs k in omega arith
 
 pub dropped_names : (n k : ℕ) (x : Slot) → slot_names (dropped k x) n + one n (reference k x) ≡ slot_names x n
 dropped_names n k (Holds v) = let a = set_names n (references v) k in let b = ap (among n) (without_references k v) in omega arith
-dropped_names n k (Chain rs) = omega arith
+dropped_names n k (Turns i rs) = omega arith
 
 dropped_other : (j k : ℕ) (x : Slot) → (j ≡ k → ⊥) → reference j (dropped k x) ≡ reference j x
 dropped_other j k (Holds v) e =
     ap (λ (rs : List (Option ℕ)). slice_index_or rs j None) (without_references k v) ∙ get_or-set_other (references v) k j None None e
-dropped_other j k (Chain rs) e = refl
+dropped_other j k (Turns i rs) e = refl
 
 -- ---- which slots drops touch
 
@@ -122,8 +122,8 @@ dropping_kept own slots slots' is held t same (enters {is = js} {held = rest} d 
 dropping_kept own slots slots' is held t same (passes {held = rest} d n skipped js e f l x) =
     passes d n skipped js (same d t.0 ∙ e) f l
     (dropping_kept own slots slots' js rest (touch_back own skipped js (subst (AllTouch own) f t.1)) same x)
-dropping_kept own slots slots' is held t same (takes c from words n es js rs turned later e l wl cl te tj ts x f ln h) =
-    takes c from words n es js rs turned later (same c t.0.0 ∙ e) l wl
+dropping_kept own slots slots' is held t same (takes c from words n i es js rs turned later e l wl cl te tj ts x f ln h) =
+    takes c from words n i es js rs turned later (same c t.0.0 ∙ e) l wl
     (λ s p q k. ap (λ (x : Slot). slot_names x k) (same s (t.0.2 s p q)) ∙ cl s p q k) te tj ts
     (dropping_kept own slots slots' js later
     ((touch_back own es (Back (suc (length es)) ∷ js) (subst (AllTouch own) f t.1)).1) same x) f ln h
@@ -142,8 +142,8 @@ dropping_more slots lo mid hi is js held later t u (passes {held = rest} d n ski
     passes d n skipped (xs ++ js) e (ap (λ (zs : List Instr). zs ++ js) f ∙ append_assoc skipped xs js) l
     (dropping_more slots lo mid hi xs js rest later (touch_back (Between lo mid) skipped xs (subst (AllTouch (Between lo mid)) f t.1)) u
     x y)
-dropping_more slots lo mid hi is js held later t u (takes c from words n es xs rs turned rest e l wl cl te tx ts x f ln h) y =
-    takes c from words n es (xs ++ js) rs turned (rest ++ later) e l wl cl te
+dropping_more slots lo mid hi is js held later t u (takes c from words n i es xs rs turned rest e l wl cl te tx ts x f ln h) y =
+    takes c from words n i es (xs ++ js) rs turned (rest ++ later) e l wl cl te
     (touch_more (Apart c from words) xs js tx (touch_others (Between mid hi) (Apart c from words) js
     (λ s b. (
       λ e. absurd (let p = b.0 in let q = t.0.0.1 in omega (arith, p, q, e)),
@@ -206,7 +206,7 @@ dropping_behind slots s k is held m (enters {is = js} {held = rest} d n e x) =
 dropping_behind slots s k is held m (passes {held = rest} d n skipped js e f l x) =
     passes d n skipped js (keeps_number slots s k d (Holds (Num (pos 1))) refl e) f l
     (dropping_behind slots s k js rest (miss_back s k skipped js (subst (AllMiss s k) f m.1)) x)
-dropping_behind slots s k is held m (takes c from words n es js rs turned later e l wl cl te tj ts x f ln h) =
-    takes c from words n es js rs turned later (keeps_number slots s k c (Chain rs) refl e) l wl
+dropping_behind slots s k is held m (takes c from words n i es js rs turned later e l wl cl te tj ts x f ln h) =
+    takes c from words n i es js rs turned later (keeps_number slots s k c (Turns i rs) refl e) l wl
     (λ d p q o. keeps_clean slots s k d o (cl d p q o)) te tj ts
     (dropping_behind slots s k js later ((miss_back s k es (Back (suc (length es)) ∷ js) (subst (AllMiss s k) f m.1)).1) x) f ln h

@@ -1,6 +1,6 @@
 -- All expressions: what the code of a tree does is what the tree does, whatever comes behind.
 use Rattle.std.proofs.Common.{◌≡◌, ℕ, ℤ, suc, ◌+◌, ◌-◌, ◌<◌, ◌≤◌, Bool, true, false, List, [], ◌∷◌, ◌++◌, length, Option, Some}
-use Rattle.std.proofs.Common.{None, refl, sym, ap, subst, ◌∙◌, arith, append-nil, append_assoc, length-append, inl, inr, ◌⊎◌}
+use Rattle.std.proofs.Common.{refl, sym, ap, subst, ◌∙◌, arith, append-nil, append_assoc, length-append, inl, inr, ◌⊎◌}
 use Rattle.std.specs.Prelude.{slice_get, if◌then◌else◌}
 use Rattle.limbo_types.specs.Types.{Ty}
 use Rattle.limbo_meaning.specs.Values.{Value}
@@ -12,7 +12,7 @@ use Rattle.limbo_meaning.specs.Evaluation.{passes_on, got_by, work_refers, refer
 use Rattle.limbo_meaning.specs.Evaluation.{changes}
 use Rattle.limbo_meaning.specs.Evaluation.{given_by}
 use Rattle.limbo_meaning.specs.Program.{Program}
-use Rattle.core_code.specs.Slots.{Slot, Holds, Slots, slot, put, value_of, slot_names}
+use Rattle.core_code.specs.Slots.{Holds, Slots, slot, put}
 use Rattle.core_code.specs.Code.{Instr, Give}
 use Rattle.core_code.specs.Machine.{Frame, at}
 use Rattle.core_code.specs.Terms.{Lowered}
@@ -37,9 +37,8 @@ use Rattle.limbo_typed.specs.declared.operation.Operation.TheVariants as operati
 use Rattle.limbo_meaning.specs.Values.{Array, Part}
 use Rattle.limbo_meaning.specs.Trees.{Filling, Items, NoItems, MoreItems}
 use Rattle.limbo_meaning.specs.Evaluation.{element_at, others_of, left_of, fill_rest, fill_on, fills}
-use Rattle.core_code.specs.Slots.{Chain, NoRegion, empty}
+use Rattle.core_code.specs.Slots.{Turns, NoRegion}
 use Rattle.core_code.specs.Code.{Drop, Element, Start}
-use Rattle.core_code.specs.Machine.{counted}
 use Rattle.core_code.specs.Terms.{others, named, lower_items, lower_rest, items_end, rest_end}
 use Rattle.core_code.proofs.Used.{either_up, end_up, items_up, rest_up}
 use Rattle.core_follows.specs.Drops.{last}
@@ -162,61 +161,50 @@ module _ (limit : ℕ) (program : Program) where
   others_go : (b : Bool) (t : Ty) (e : Term) (es : Terms) (a : ℕ) (is : Items) (shared from lo : ℕ) → may_hold program.adts e ≡ b
       → from ≤ lo
       → (if b then shared else (lower program.adts shared e).free) ≤ from → ((at : ℕ) → GoesBy limit program at e (lower program.adts at e))
-      → Valued (suc (suc lo)) (lower program.adts (suc (suc lo)) e)
+      → Valued (suc lo) (lower program.adts (suc lo) e)
       → RestBy t a is shared from lo (MoreTerms e es)
-      (others program.adts b t a (named program.adts is) lo (lower program.adts (if b then suc (suc lo) else shared) e))
+      (others program.adts b t a (named program.adts is) lo (lower program.adts (if b then suc lo else shared) e))
   others_go true t e es a is shared from lo eh f m ge v p C c g held hi has space l below array k =
-      let x = lower program.adts (suc (suc lo)) e in
-      let one = put g.slots (suc lo) (Chain NoRegion) in
-      let two = put one lo empty in
+      let x = lower program.adts (suc lo) e in
+      let begun = Turns 0 NoRegion in
+      let one = put g.slots lo begun in
       let low = space.low in
       let mid = space.mid in
       let fits = space.fits in
       let v0 = v.between.0 in
       let v1 = v.between.1 in
-      let long1 = put_long g.slots (suc lo) (Chain NoRegion) in
-      let long2 = put_long one lo empty in
+      let long1 = put_long g.slots lo begun in
       let clean_lo : Clean g.slots lo x.free = clean_within g.slots lo hi lo x.free (omega arith) l space.clean in
-      let counter : slot two lo ≡ empty = put_same one lo empty (omega arith) in
-      let chain : slot two (suc lo) ≡ Chain NoRegion = put_other one lo (suc lo) empty (λ q. absurd (omega (arith, q)))
-      ∙ put_same g.slots (suc lo) (Chain NoRegion) (omega arith) in
-      let apart : (s : ℕ) → (s ≡ lo → ⊥) → (s ≡ suc lo → ⊥) → slot two s ≡ slot g.slots s = λ s q r. put_other one lo s empty q
-      ∙ put_other g.slots (suc lo) s (Chain NoRegion) r in
       let own : Own limit program C g t e x a lo (suc g.pc) is = record {
         carries = c;
-        element = ge (suc (suc lo));
+        element = ge (suc lo);
         holds = eh;
         below = omega arith;
         value = v.between;
-        touches = drops_within program.adts (suc (suc lo)) e;
+        touches = drops_within program.adts (suc lo) e;
         has = has.1;
       } in
-      let b : Between_turns limit program g.slots two t p x a lo is (others_of is p.long) NoRegion held held [] = record {
-        long = long2 ∙ long1;
-        same = λ s d. apart s (λ q. absurd (elim d [ inl y ↦ omega (arith, y, q) | inr y ↦ omega (arith, y, q, v0, v1) ]))
-            (λ q. absurd (elim d [ inl y ↦ omega (arith, y, q) | inr y ↦ omega (arith, y, q, v0, v1) ]));
+      let b : Between_turns limit program g.slots one t p x a lo 0 is (others_of is p.long) NoRegion held held [] = record {
+        long = long1;
+        same = λ s d. put_other g.slots lo s begun (λ q. absurd (elim d [
+          | inl y ↦ omega (arith, y, q)
+          | inr y ↦ omega
+              (arith, y, q, v0, v1)
+        ]));
         fits = omega arith;
-        array = apart a (λ q. absurd (omega (arith, q, below, low, mid))) (λ q. absurd (omega (arith, q, below, low, mid))) ∙ array;
-        chain = chain;
+        array = put_other g.slots lo a begun (λ q. absurd (omega (arith, q, below, low, mid))) ∙ array;
+        loop = put_same g.slots lo begun (omega arith);
         turns = last;
-        counter = λ n. ap (λ (s : Slot). slot_names s n) counter;
-        left = let z : p.long - 0 ≡ p.long = omega arith in
-            subst (λ (s : Slot). others_of is p.long ≡ left_of is
-            (range_with_len (counted (value_of s)) (p.long - counted (value_of s)))) (sym counter)
-            (ap (λ (y : ℕ). left_of is (range_with_len 0 y)) (sym z));
-        clean = clean_same g.slots two (suc (suc lo)) x.free (λ s q r. apart s (λ y. absurd (omega (arith, y, q)))
-            (λ y. absurd (omega (arith, y, q))))
-            (clean_within g.slots lo x.free (suc (suc lo)) x.free (omega arith) (omega arith) clean_lo);
-        names = put_names limit program one lo empty held (omega arith)
-            (λ n. ap (λ (s : Slot). slot_names s n) (put_other g.slots (suc lo) lo (Chain NoRegion) (λ q. absurd (omega (arith, q))))
-            ∙ clean_lo lo (omega arith) (omega arith) n) (λ n. refl)
-            (put_names limit program g.slots (suc lo) (Chain NoRegion) held (omega arith) (clean_lo (suc lo) (omega arith) (omega arith))
-            (λ n. refl) space.names);
+        left = let z : p.long - 0 ≡ p.long = omega arith in ap (λ (y : ℕ). left_of is (range_with_len 0 y)) (sym z);
+        clean = clean_same g.slots one (suc lo) x.free (λ s q r. put_other g.slots lo s begun (λ y. absurd (omega (arith, y, q))))
+            (clean_within g.slots lo x.free (suc lo) x.free (omega arith) (omega arith) clean_lo);
+        names = put_names limit program g.slots lo begun held (omega arith) (clean_lo lo (omega arith) (omega arith)) (λ n. refl)
+            space.names;
         is_held = sym (append-nil held);
       } in
-      going (obeying (Start lo (Some (suc lo))) space.names has.0 (λ w. rests (suc g.pc) two (λ n below2 q. refl)
+      going (obeying (Start lo) space.names has.0 (λ w. rests (suc g.pc) one (λ n below2 q. refl)
       (subst (λ (o : Option Instr). 0 < place_at o) (sym has.1.0) (omega arith))
-      (going (turns_own limit program C g t e x a lo (suc g.pc) is p own (others_of is p.long) g.slots two NoRegion held held [] g.into
+      (going (turns_own limit program C g t e x a lo (suc g.pc) is p own (others_of is p.long) g.slots one 0 NoRegion held held [] g.into
       g.variables b
       (λ j variables slots got held' h eq.
       let loop = length (loop_own limit program t a lo (named program.adts is) x) in
@@ -225,12 +213,12 @@ module _ (limit : ℕ) (program : Program) where
       h) eq))))))
   others_go false t e es a is shared from lo eh f m ge v p C c g held hi has space l below array k =
       let x = lower program.adts shared e in
-      let one = put g.slots lo empty in
+      let begun = Turns 0 NoRegion in
+      let one = put g.slots lo begun in
       let low = space.low in
       let mid = space.mid in
       let fits = space.fits in
       let in_slots : lo < length g.slots = omega arith in
-      let counter : slot one lo ≡ empty = put_same g.slots lo empty in_slots in
       let own : Shares limit program C g t e x a shared from lo (suc g.pc) is = record {
         carries = c;
         element = ge shared;
@@ -242,23 +230,20 @@ module _ (limit : ℕ) (program : Program) where
         mid = mid;
         has = has.1;
       } in
-      let b : Between_shared limit program g.slots one p a shared from lo is (others_of is p.long) held = record {
-        long = put_long g.slots lo empty;
-        same = λ s d q. put_other g.slots lo s empty (λ r. absurd (elim q [ inl y ↦ omega (arith, y, r) | inr y ↦ omega (arith, y, r) ]));
-        fits = let q = put_long g.slots lo empty in omega arith;
-        shares = clean_same g.slots one shared from (λ s q r. put_other g.slots lo s empty (λ y. absurd (omega (arith, y, r, mid))))
+      let b : Between_shared limit program g.slots one p a shared from lo 0 is (others_of is p.long) held = record {
+        long = put_long g.slots lo begun;
+        same = λ s d q. put_other g.slots lo s begun (λ r. absurd (elim q [ inl y ↦ omega (arith, y, r) | inr y ↦ omega (arith, y, r) ]));
+        fits = let q = put_long g.slots lo begun in omega arith;
+        shares = clean_same g.slots one shared from (λ s q r. put_other g.slots lo s begun (λ y. absurd (omega (arith, y, r, mid))))
             space.shares;
-        array = put_other g.slots lo a empty (λ q. absurd (omega (arith, q, below, low, mid))) ∙ array;
-        counter = λ n. ap (λ (s : Slot). slot_names s n) counter;
-        left = let z : p.long - 0 ≡ p.long = omega arith in
-            subst (λ (s : Slot). others_of is p.long ≡ left_of is
-            (range_with_len (counted (value_of s)) (p.long - counted (value_of s)))) (sym counter)
-            (ap (λ (y : ℕ). left_of is (range_with_len 0 y)) (sym z));
-        names = put_names limit program g.slots lo empty held in_slots (space.clean lo (omega arith) (omega arith)) (λ n. refl) space.names;
+        array = put_other g.slots lo a begun (λ q. absurd (omega (arith, q, below, low, mid))) ∙ array;
+        loop = put_same g.slots lo begun in_slots;
+        left = let z : p.long - 0 ≡ p.long = omega arith in ap (λ (y : ℕ). left_of is (range_with_len 0 y)) (sym z);
+        names = put_names limit program g.slots lo begun held in_slots (space.clean lo (omega arith) (omega arith)) (λ n. refl) space.names;
       } in
-      going (obeying (Start lo None) space.names has.0 (λ w. rests (suc g.pc) one (λ n below2 q. refl)
+      going (obeying (Start lo) space.names has.0 (λ w. rests (suc g.pc) one (λ n below2 q. refl)
       (subst (λ (o : Option Instr). 0 < place_at o) (sym has.1.0) (omega arith))
-      (going (turns_shared limit program C g t e x a shared from lo (suc g.pc) is p own (others_of is p.long) g.slots one held g.into
+      (going (turns_shared limit program C g t e x a shared from lo (suc g.pc) is p own (others_of is p.long) g.slots one 0 held g.into
       g.variables b
       (λ j variables slots grown.
       let loop = length (loop_shared limit program t a lo (named program.adts is) x) in
@@ -484,4 +469,4 @@ module _ (limit : ℕ) (program : Program) where
         (k g.into g.variables g.slots [] held (grown_none g.slots shared from lo space.shares) (sym (append-nil held)))
     rest_go (MoreTerms e es) h t a is shared from lo f m p C c g held hi has space l below array k =
         others_go (may_hold program.adts e) t e es a is shared from lo refl f m (λ at. value_goes e h at)
-        (value_stands program.adts e h (suc (suc lo))) p C c g held hi has space l below array k
+        (value_stands program.adts e h (suc lo)) p C c g held hi has space l below array k

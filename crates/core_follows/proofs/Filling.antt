@@ -11,7 +11,7 @@ use Rattle.system_model.specs.Prints.{Writing}
 use Rattle.limbo_types.specs.Types as ty
 use Rattle.limbo_types.specs.Types.{Ty}
 use Rattle.limbo_typed.specs.declared.operation.Operation.TheVariants as operation
-use Rattle.limbo_meaning.specs.Values.{Value, Num, Array, Part, part_of, number_of, zero_of, references, among}
+use Rattle.limbo_meaning.specs.Values.{Value, Array, Part, part_of, number_of, zero_of, references, among}
 use Rattle.limbo_meaning.specs.Memory.{Memory}
 use Rattle.limbo_meaning.specs.Exceptions.{Raising}
 use Rattle.limbo_meaning.specs.Operations.{length_for, new_array, new_elements}
@@ -23,18 +23,19 @@ use Rattle.limbo_meaning.specs.Evaluation.{Progress, Stepped, Raises, unless_rai
 use Rattle.limbo_meaning.specs.Evaluation.{element_at, names_index, left_of, others_of, leaves, fills}
 use Rattle.limbo_meaning.specs.Program.{Program}
 use Rattle.limbo_meaning.specs.Process.{Shared}
-use Rattle.core_code.specs.Slots.{Slot, Holds, Chain, Slots, Region, Regions, MoreRegions, empty, slot, put}
-use Rattle.core_code.specs.Slots.{value_of, chain_of, region, cleared, placed, chained, slot_names, region_names, regions_name, slots_name}
+use Rattle.core_code.specs.Slots.{Slot, Holds, Turns, Slots, Region, Regions, NoRegion, MoreRegions, empty, slot, put}
+use Rattle.core_code.specs.Slots.{value_of, chain_of, next_of, index_of, region, cleared, placed, chained, slot_names, region_names}
+use Rattle.core_code.specs.Slots.{regions_name, slots_name}
 use Rattle.core_code.specs.Code.{Instr, Give, Element, Next, Other, Keep, Take, Drop, Back}
 use Rattle.core_code.specs.Machine as machine
-use Rattle.core_code.specs.Machine.{Frame, at, memory_of, counted, first_left, is_named}
+use Rattle.core_code.specs.Machine.{Frame, at, memory_of, first_left, is_named}
 use Rattle.core_code.specs.Naming.{size}
 use Rattle.core_code.specs.Terms.{Lowered, named}
 use Rattle.core_code.specs.Statements.{code_of}
 use Rattle.limbo_layout.specs.Adts.{Def}
 use Rattle.core_code.proofs.Names.{long_placed, names_put, long_cleared, cleared_below, names_cleared, names_chained}
 use Rattle.core_follows.specs.Drops as drops
-use Rattle.core_follows.specs.Drops.{Clean, Name, Between, Beside, Apart, AllTouch, HasAt, Dropping, none, takes, Turns, last, more}
+use Rattle.core_follows.specs.Drops.{Clean, Name, Between, Beside, Apart, AllTouch, HasAt, Dropping, none, takes, HasTurns, last, more}
 use Rattle.core_follows.specs.Drops.{Holding}
 use Rattle.core_follows.specs.Stands as stands
 use Rattle.core_follows.specs.Stands.{SlotsName, coded, sourced, beside, obeys, Stands, Going, going, obeying, goes, rests, raises}
@@ -279,16 +280,16 @@ cleared_clean slots a (suc k) l s p q n =
     ∙ cleared_clean slots (suc a) k (omega arith) s (omega (arith, e)) (omega arith) n)
     (cases_eq s a)
 
-turns_add : (from words : ℕ) (es : List Instr) (rs : Regions) (turned now : List (Option ℕ)) (g : Region) → Turns from words es rs turned
+turns_add : (from words : ℕ) (es : List Instr) (rs : Regions) (turned now : List (Option ℕ)) (g : Region) → HasTurns from words es rs turned
     → size g ≡ words → ((slots : Slots) → from + words ≤ length slots → Dropping (placed slots from g) es now)
-    → ((n : ℕ) → region_names g n ≡ among n now) → Turns from words es (chained rs g) (turned ++ (now ++ None ∷ []))
+    → ((n : ℕ) → region_names g n ≡ among n now) → HasTurns from words es (chained rs g) (turned ++ (now ++ None ∷ []))
 turns_add from words es rs turned now g last e f h = more now (None ∷ []) e f h last
 turns_add from words es rs turned now g (more {g = g'} {rs = rs'} held later e' f' h' ts) e f h =
-    subst (λ (x : List (Option ℕ)). Turns from words es (MoreRegions g' (chained rs' g)) (None ∷ x))
+    subst (λ (x : List (Option ℕ)). HasTurns from words es (MoreRegions g' (chained rs' g)) (None ∷ x))
     (sym (append_assoc held later (now ++ None ∷ [])))
     (more held (later ++ (now ++ None ∷ [])) e' f' h' (turns_add from words es rs' later now g ts e f h))
 
-turns_names : (n from words : ℕ) (es : List Instr) (rs : Regions) (turned : List (Option ℕ)) → Turns from words es rs turned
+turns_names : (n from words : ℕ) (es : List Instr) (rs : Regions) (turned : List (Option ℕ)) → HasTurns from words es rs turned
     → regions_name rs n ≡ among n turned
 turns_names n from words es rs turned last = refl
 turns_names n from words es rs turned (more {rs = rs'} held later e f h ts) =
@@ -302,7 +303,7 @@ no_more_held slots ds got e none = refl
 no_more_held slots ds got e (drops.one s k r x m d) = absurd cc
 no_more_held slots ds got e (drops.enters d n x y) = absurd cc
 no_more_held slots ds got e (drops.passes d n skipped is x f l y) = absurd cc
-no_more_held slots ds got e (takes c from words n es is rs turned later x l wl cl te tj ts y f ln h) = absurd cc
+no_more_held slots ds got e (takes c from words n i es is rs turned later x l wl cl te tj ts y f ln h) = absurd cc
 
 module _ (limit : ℕ) (program : Program) where
   -- ---- the new array
@@ -375,38 +376,40 @@ module _ (limit : ℕ) (program : Program) where
 
   other_goes : (C : Term → Block) → Carries limit program (next program.adts) fill C → (g : Frame) (held : List (Option ℕ)) (t : Ty)
       (p : Part)
-      (k : ℕ) (v : Value) (u u' : Term) (a counter from : ℕ) → slice_get g.code g.pc ≡ Some (Other t a counter from) → SlotsName g.slots
-      held
-      → slot g.slots a ≡ Holds (Array (Some p)) → slot g.slots counter ≡ Holds (Num (pos k)) → slot g.slots from ≡ Holds v
+      (k : ℕ) (v : Value) (u u' : Term) (a loop from : ℕ) (rs : Regions) → slice_get g.code g.pc ≡ Some (Other t a loop from)
+      → SlotsName g.slots held
+      → slot g.slots a ≡ Holds (Array (Some p)) → slot g.slots loop ≡ Turns (suc k) rs → slot g.slots from ≡ Holds v
       → ((m : Memory) → next program.adts m u ≡ evaluation.stores program.adts m (element_at t p (pos k)) v u')
       → ((variables : List Value) → Stands limit program (spot g g.into (suc g.pc) variables g.slots) held (C u'))
       → Going limit program g held (C u)
-  other_goes C c g held t p k v u u' a counter from i names e h f steps done =
-      store_goes limit program C c g held u u' (Other t a counter from) i names (λ w. written program.adts (memory_of w g)
+  other_goes C c g held t p k v u u' a loop from rs i names e h f steps done =
+      store_goes limit program C c g held u u' (Other t a loop from) i names (λ w. written program.adts (memory_of w g)
       (element_at t p (pos k)) v)
       (λ w n below q.
       ap (λ (y : Slot). machine.part_or_none limit (code_of program) w (coded n g below q) (part_of (value_of y))
       (λ part. machine.stores limit (code_of program) w (coded n g below q)
-      (element_at t part (number_of (value_of (slot g.slots counter))))
+      (element_at t part (pos (index_of (slot g.slots loop))))
       (value_of (slot g.slots from)))) e
-      ∙ ap (λ (y : Slot). machine.stores limit (code_of program) w (coded n g below q) (element_at t p (number_of (value_of y)))
+      ∙ ap (λ (y : Slot). machine.stores limit (code_of program) w (coded n g below q) (element_at t p (pos (index_of y)))
       (value_of (slot g.slots from))) h
       ∙ ap (λ (y : Slot). machine.stores limit (code_of program) w (coded n g below q) (element_at t p (pos k)) (value_of y)) f)
       (λ w. steps (memory_of w g)) done
 
   -- ---- the next index, or no more
 
-  next_does : (g : Frame) (p : Part) (a counter n : ℕ) (is : Items) (o : Option ℕ) → slot g.slots a ≡ Holds (Array (Some p))
-      → first_left (named program.adts is) (range_with_len (counted (value_of (slot g.slots counter)))
-      (p.long - counted (value_of (slot g.slots counter)))) ≡ o
+  next_does : (g : Frame) (p : Part) (a loop n i : ℕ) (is : Items) (rs : Regions) (o : Option ℕ)
+      → slot g.slots a ≡ Holds (Array (Some p)) → slot g.slots loop ≡ Turns i rs
+      → first_left (named program.adts is) (range_with_len i (p.long - i)) ≡ o
       → (w : Shared) (q : ℕ) (below : List Frame) (r : Option Writing)
-      → obeys limit program w (coded q g below r) (Next a counter (named program.adts is) n)
-      ≡ machine.nexts limit (code_of program) w (coded q g below r) counter n o
-  next_does g p a counter n is o e f w q below r =
-      let i = counted (value_of (slot g.slots counter)) in
-      ap (λ (y : Slot). machine.nexts limit (code_of program) w (coded q g below r) counter n
-      (first_left (named program.adts is) (range_with_len i (machine.long_of (part_of (value_of y)) - i)))) e
-      ∙ ap (λ (y : Option ℕ). machine.nexts limit (code_of program) w (coded q g below r) counter n y) f
+      → obeys limit program w (coded q g below r) (Next a loop (named program.adts is) n)
+      ≡ machine.nexts limit (code_of program) w (coded q g below r) loop n rs o
+  next_does g p a loop n i is rs o e l f w q below r =
+      ap (λ (y : Slot). machine.nexts limit (code_of program) w (coded q g below r) loop n (chain_of (slot g.slots loop))
+      (first_left (named program.adts is) (range_with_len (next_of (slot g.slots loop))
+      (machine.long_of (part_of (value_of y)) - next_of (slot g.slots loop))))) e
+      ∙ ap (λ (y : Slot). machine.nexts limit (code_of program) w (coded q g below r) loop n (chain_of y)
+      (first_left (named program.adts is) (range_with_len (next_of y) (p.long - next_of y)))) l
+      ∙ ap (λ (y : Option ℕ). machine.nexts limit (code_of program) w (coded q g below r) loop n rs y) f
 
   -- The way back, which no step of the program stands for.
   back_rests : (g : Frame) (held : List (Option ℕ)) (todo : Block) (n pc : ℕ) (i : Instr) → slice_get g.code g.pc ≡ Some (Back n)
@@ -422,79 +425,68 @@ module _ (limit : ℕ) (program : Program) where
   -- ---- the turns of an element that holds something
 
   abbrev pub turn_own : (t : Ty) (a lo : ℕ) → Lowered → List Instr
-  turn_own t a lo x = x.code ++ (Other t a lo x.value ∷ Keep (suc lo) (suc (suc lo)) (x.free - suc (suc lo)) ∷ [])
+  turn_own t a lo x = x.code ++ (Other t a lo x.value ∷ Keep lo (suc lo) (x.free - suc lo) ∷ [])
 
   abbrev pub loop_own : (t : Ty) (a lo : ℕ) → List ℤ → Lowered → List Instr
   loop_own t a lo zs x = (Next a lo zs (suc (length (turn_own t a lo x))) ∷ turn_own t a lo x) ++
       (Back (suc (length (turn_own t a lo x))) ∷ [])
 
   abbrev pub drops_own : (lo : ℕ) → Lowered → List Instr
-  drops_own lo x = (Take (suc lo) (suc (suc lo)) (x.free - suc (suc lo)) (suc (length x.drops)) ∷ x.drops) ++
+  drops_own lo x = (Take lo (suc lo) (x.free - suc lo) (suc (length x.drops)) ∷ x.drops) ++
       (Back (suc (length x.drops)) ∷ [])
 
   -- What is fixed in all turns: the array, the element, its code and where it goes.
   pub record Own (C : Term → Block) (g : Frame) (t : Ty) (e : Term) (x : Lowered) (a lo pc : ℕ) (is : Items) : Type 0 where
     pub carries : Carries limit program (next program.adts) fill C
-    pub element : GoesBy limit program (suc (suc lo)) e x
+    pub element : GoesBy limit program (suc lo) e x
     pub holds : may_hold program.adts e ≡ true
     pub below : a < lo
-    pub value : Between (suc (suc lo)) x.free x.value
-    pub touches : AllTouch (Between (suc (suc lo)) x.free) x.drops
+    pub value : Between (suc lo) x.free x.value
+    pub touches : AllTouch (Between (suc lo) x.free) x.drops
     pub has : HasAt g.code pc (loop_own t a lo (named program.adts is) x)
 
   -- In front of the decision whether another turn follows.
-  pub record Between_turns (before slots : Slots) (t : Ty) (p : Part) (x : Lowered) (a lo : ℕ) (is : Items) (ns : List ℕ) (rs : Regions)
+  pub record Between_turns (before slots : Slots) (t : Ty) (p : Part) (x : Lowered) (a lo i : ℕ) (is : Items) (ns : List ℕ) (rs : Regions)
       (held start so_far : List (Option ℕ)) : Type 0 where
     pub long : length slots ≡ length before
     pub same : (s : ℕ) → Beside lo x.free s → slot slots s ≡ slot before s
     pub fits : x.free ≤ length slots
     pub array : slot slots a ≡ Holds (Array (Some p))
-    pub chain : slot slots (suc lo) ≡ Chain rs
-    pub turns : Turns (suc (suc lo)) (x.free - suc (suc lo)) x.drops rs (so_far ++ None ∷ [])
-    pub counter : (n : ℕ) → slot_names (slot slots lo) n ≡ 0
-    pub left : ns ≡ left_of is (range_with_len (counted (value_of (slot slots lo))) (p.long - counted (value_of (slot slots lo))))
-    pub clean : Clean slots (suc (suc lo)) x.free
+    pub loop : slot slots lo ≡ Turns i rs
+    pub turns : HasTurns (suc lo) (x.free - suc lo) x.drops rs (so_far ++ None ∷ [])
+    pub left : ns ≡ left_of is (range_with_len i (p.long - i))
+    pub clean : Clean slots (suc lo) x.free
     pub names : SlotsName slots held
     pub is_held : held ≡ start ++ so_far
 
   -- the drops of what the turns held
-  own_holding : (before slots : Slots) (t : Ty) (p : Part) (x : Lowered) (a lo : ℕ) (is : Items) (ns : List ℕ) (rs : Regions)
-      (held start so_far : List (Option ℕ)) → Between (suc (suc lo)) x.free x.value → AllTouch (Between (suc (suc lo)) x.free) x.drops
-      → Between_turns before slots t p x a lo is ns rs held start so_far
-      → Holding before (put slots lo empty) lo x.free (drops_own lo x) (so_far ++ None ∷ [])
-  own_holding before slots t p x a lo is ns rs held start so_far v te b =
-      let from : ℕ = suc (suc lo) in
+  own_holding : (before slots : Slots) (t : Ty) (p : Part) (x : Lowered) (a lo i : ℕ) (is : Items) (ns : List ℕ) (rs : Regions)
+      (held start so_far : List (Option ℕ)) → Between (suc lo) x.free x.value → AllTouch (Between (suc lo) x.free) x.drops
+      → Between_turns before slots t p x a lo i is ns rs held start so_far
+      → Holding before slots lo x.free (drops_own lo x) (so_far ++ None ∷ [])
+  own_holding before slots t p x a lo i is ns rs held start so_far v te b =
+      let from : ℕ = suc lo in
       let words : ℕ = x.free - from in
-      let one = put slots lo empty in
       let T = so_far ++ None ∷ [] in
       let v0 = v.0 in
       let v1 = v.1 in
       let fin : from + words ≡ x.free = omega arith in
-      let other : (s : ℕ) → suc lo ≤ s → slot one s ≡ slot slots s = λ s l. put_other slots lo s empty
-      (λ e. absurd (omega (arith, e, l))) in
-      let clean_one : Clean one from x.free = clean_same slots one from x.free (λ s p q. other s (omega arith)) b.clean in
       record {
-        long = put_long slots lo empty ∙ b.long;
-        same = λ s d. put_other slots lo s empty (λ e. absurd
-            (elim d [ inl y ↦ omega (arith, y, e) | inr y ↦ (let u = v0 in let z = v1 in omega (arith, y, e, u, z)) ]))
-            ∙ b.same s d;
-        dropping = takes (suc lo) from words (suc (length x.drops)) x.drops [] rs T [] (other (suc lo) (omega arith) ∙ b.chain)
-            (omega arith) (omega arith)
-            (subst (Clean one from) (sym fin) clean_one) (touch_others (Between from x.free) (Between from (from + words)) x.drops
+        long = b.long;
+        same = b.same;
+        dropping = takes lo from words (suc (length x.drops)) i x.drops [] rs T [] b.loop (omega arith) (omega arith)
+            (subst (Clean slots from) (sym fin) b.clean) (touch_others (Between from x.free) (Between from (from + words)) x.drops
             (λ s d. (d.0, let y = d.1 in omega (arith, y, fin))) te) tt b.turns none refl refl (sym (append-nil T));
-        within = touch_more (Between lo x.free) (Take (suc lo) from words (suc (length x.drops)) ∷ x.drops)
+        within = touch_more (Between lo x.free) (Take lo from words (suc (length x.drops)) ∷ x.drops)
             (Back (suc (length x.drops)) ∷ []) (
               ((omega arith, omega arith), omega arith, λ s p q. (omega arith, omega arith)),
               touch_others (Between from x.free) (Between lo x.free) x.drops (λ s d. (let y = d.0 in omega (arith, y), d.1)) te,
             ) (tt, tt);
         names = λ n.
-            let e1 = total_upto n one lo (suc lo) x.free (omega arith) (omega arith) in
-            let e2 = total_upto n one (suc lo) from x.free (omega arith) (omega arith) in
-            let z0 = name_at one lo [] (λ m. ap (λ (s : Slot). slot_names s m) (put_same slots lo empty (let f = b.fits in omega arith)))
-            n in
-            let z1 = name_at one (suc lo) T (λ m. ap (λ (s : Slot). slot_names s m) (other (suc lo) (omega arith) ∙ b.chain)
+            let e = total_upto n slots lo from x.free (omega arith) (omega arith) in
+            let y = name_at slots lo T (λ m. ap (λ (s : Slot). slot_names s m) b.loop
             ∙ turns_names m from words x.drops rs T b.turns) n in
-            let z2 = total_zero n one from x.free (omega arith) clean_one in
+            let z = total_zero n slots from x.free (omega arith) b.clean in
             omega arith;
       }
 
@@ -521,24 +513,24 @@ module _ (limit : ℕ) (program : Program) where
       (x.0, x.1 ∙ ap (λ (l : ℕ). left_of is (range_with_len (suc k) l)) z)
 
   -- A turn is over, and its slots are kept in the chain.
-  kept_turn : (before slots slots2 : Slots) (t : Ty) (p : Part) (x : Lowered) (a lo k : ℕ) (is : Items) (ns : List ℕ) (rs : Regions)
-      (held start so_far got held2 : List (Option ℕ)) → a < lo → Between (suc (suc lo)) x.free x.value
-      → Between_turns before slots t p x a lo is (k ∷ ns) rs held start so_far
-      → AllTouch (Between (suc (suc lo)) x.free) x.drops
-      → Holding (put slots lo (Holds (Num (pos k)))) slots2 (suc (suc lo)) x.free x.drops got → held2 ≡ (held ++ None ∷ []) ++ got
+  kept_turn : (before slots slots2 : Slots) (t : Ty) (p : Part) (x : Lowered) (a lo i k : ℕ) (is : Items) (ns : List ℕ) (rs : Regions)
+      (held start so_far got held2 : List (Option ℕ)) → a < lo → Between (suc lo) x.free x.value
+      → Between_turns before slots t p x a lo i is (k ∷ ns) rs held start so_far
+      → AllTouch (Between (suc lo) x.free) x.drops
+      → Holding (put slots lo (Turns (suc k) rs)) slots2 (suc lo) x.free x.drops got → held2 ≡ (held ++ None ∷ []) ++ got
       → SlotsName slots2 held2
-      → Between_turns before (put (cleared slots2 (suc (suc lo)) (x.free - suc (suc lo))) (suc lo)
-      (Chain (chained rs (region slots2 (suc (suc lo)) (x.free - suc (suc lo)))))) t p x a lo is ns
-      (chained rs (region slots2 (suc (suc lo)) (x.free - suc (suc lo)))) held2 start ((so_far ++ None ∷ []) ++ got)
-  kept_turn before slots slots2 t p x a lo k is ns rs held start so_far got held2 la v b te h eq names2 =
-      let from : ℕ = suc (suc lo) in
+      → Between_turns before (put (cleared slots2 (suc lo) (x.free - suc lo)) lo
+      (Turns (suc k) (chained rs (region slots2 (suc lo) (x.free - suc lo))))) t p x a lo (suc k) is ns
+      (chained rs (region slots2 (suc lo) (x.free - suc lo))) held2 start ((so_far ++ None ∷ []) ++ got)
+  kept_turn before slots slots2 t p x a lo i k is ns rs held start so_far got held2 la v b te h eq names2 =
+      let from : ℕ = suc lo in
       let words : ℕ = x.free - from in
       let g = region slots2 from words in
-      let z = Holds (Num (pos k)) in
+      let z = Turns (suc k) rs in
       let one = put slots lo z in
       let wiped = cleared slots2 from words in
-      let chain = Chain (chained rs g) in
-      let three = put wiped (suc lo) chain in
+      let loop = Turns (suc k) (chained rs g) in
+      let three = put wiped lo loop in
       let T = so_far ++ None ∷ [] in
       let v0 = v.0 in
       let v1 = v.1 in
@@ -548,38 +540,33 @@ module _ (limit : ℕ) (program : Program) where
       let long2 : length slots2 ≡ length slots = h.long ∙ long1 in
       let long3 : length wiped ≡ length slots2 = long_cleared slots2 from words in
       let in_slots : from + words ≤ length slots2 = omega arith in
-      let low : (s : ℕ) → s < suc lo → slot three s ≡ slot one s = λ s l.
-      put_other wiped (suc lo) s chain (λ e. absurd (omega (arith, e, l))) ∙ cleared_below slots2 from words s (omega arith)
-      ∙ h.same s (inl (omega arith)) in
-      let counter3 : slot three lo ≡ z = low lo (omega arith) ∙ put_same slots lo z (omega arith) in
-      let chain2 : slot slots2 (suc lo) ≡ Chain rs = h.same (suc lo) (inl (omega arith)) ∙ put_other slots lo (suc lo) z
-      (λ e. absurd (omega (arith, e))) ∙ b.chain in
-      let left2 = (left_behind is (counted (value_of (slot slots lo))) p.long k ns b.left).1 in
+      let low : (s : ℕ) → s < lo → slot three s ≡ slot slots s = λ s l.
+      put_other wiped lo s loop (λ e. absurd (omega (arith, e, l))) ∙ cleared_below slots2 from words s (omega arith)
+      ∙ h.same s (inl (omega arith)) ∙ put_other slots lo s z (λ e. absurd (omega (arith, e, l))) in
+      let loop2 : slot slots2 lo ≡ z = h.same lo (inl (omega arith)) ∙ put_same slots lo z (omega arith) in
       record {
-        long = put_long wiped (suc lo) chain ∙ long3 ∙ long2 ∙ b.long;
+        long = put_long wiped lo loop ∙ long3 ∙ long2 ∙ b.long;
         same = λ s d. elim d [
-          | inl y ↦ low s (omega arith) ∙ put_other slots lo s z (λ e. absurd (omega (arith, e, y))) ∙ b.same s (inl y)
-          | inr y ↦ put_other wiped (suc lo) s chain (λ e. absurd (omega (arith, e, y))) ∙ cleared_above slots2 from words s (omega arith)
+          | inl y ↦ low s y ∙ b.same s (inl y)
+          | inr y ↦ put_other wiped lo s loop (λ e. absurd (omega (arith, e, y))) ∙ cleared_above slots2 from words s (omega arith)
               ∙ h.same s (inr y) ∙ put_other slots lo s z (λ e. absurd (omega (arith, e, y))) ∙ b.same s (inr y)
         ];
-        fits = let q = put_long wiped (suc lo) chain in omega arith;
-        array = low a (omega arith) ∙ put_other slots lo a z (λ e. absurd (omega (arith, e, la))) ∙ b.array;
-        chain = put_same wiped (suc lo) chain (omega arith);
-        turns = subst (Turns from words x.drops (chained rs g)) (sym (append_assoc T got (None ∷ [])))
+        fits = let q = put_long wiped lo loop in omega arith;
+        array = low a la ∙ b.array;
+        loop = put_same wiped lo loop (omega arith);
+        turns = subst (HasTurns from words x.drops (chained rs g)) (sym (append_assoc T got (None ∷ [])))
             (turns_add from words x.drops rs T got g b.turns (region_size slots2 from words)
             (λ base l. dropping_kept (Between from x.free) slots2 (placed base from g) x.drops got te
             (λ s d. placed_region base slots2 from words s l d.0 (let y = d.1 in omega (arith, y, fin))) h.dropping)
             h.names);
-        counter = λ n. ap (λ (s : Slot). slot_names s n) counter3;
-        left = subst (λ (s : Slot). ns ≡ left_of is (range_with_len (counted (value_of s)) (p.long - counted (value_of s))))
-            (sym counter3) left2;
-        clean = clean_same wiped three from x.free (λ s q r. put_other wiped (suc lo) s chain (λ e. absurd (omega (arith, e, q))))
+        left = (left_behind is i p.long k ns b.left).1;
+        clean = clean_same wiped three from x.free (λ s q r. put_other wiped lo s loop (λ e. absurd (omega (arith, e, q))))
             (subst (Clean wiped from) fin (cleared_clean slots2 from words in_slots));
         names = λ n.
             let c1 = names_cleared n slots2 from words in_slots in
-            let c2 = names_put n wiped (suc lo) chain (omega arith) in
+            let c2 = names_put n wiped lo loop (omega arith) in
             let c3 = names_chained n rs g in
-            let c4 = ap (λ (s : Slot). slot_names s n) (cleared_below slots2 from words (suc lo) (omega arith) ∙ chain2) in
+            let c4 = ap (λ (s : Slot). slot_names s n) (cleared_below slots2 from words lo (omega arith) ∙ loop2) in
             let c5 = names2 n in
             omega arith;
         is_held = eq ∙ ap (λ (y : List (Option ℕ)). (y ++ None ∷ []) ++ got) b.is_held
@@ -588,49 +575,48 @@ module _ (limit : ℕ) (program : Program) where
 
   pub turns_own : (C : Term → Block) (g : Frame) (t : Ty) (e : Term) (x : Lowered) (a lo pc : ℕ) (is : Items) (p : Part)
       → Own C g t e x a lo pc is
-      → (ns : List ℕ) (before slots : Slots) (rs : Regions) (held start so_far : List (Option ℕ)) (j : ℕ) (variables : List Value)
-      → Between_turns before slots t p x a lo is ns rs held start so_far
+      → (ns : List ℕ) (before slots : Slots) (i : ℕ) (rs : Regions) (held start so_far : List (Option ℕ)) (j : ℕ) (variables : List Value)
+      → Between_turns before slots t p x a lo i is ns rs held start so_far
       → ((j : ℕ) (variables : List Value) (slots : Slots) (got held' : List (Option ℕ)) → Holding before slots lo x.free (drops_own lo x)
       got
       → held' ≡ start ++ got
       → Stands limit program (spot g j (pc + length (loop_own t a lo (named program.adts is) x)) variables slots) held'
       (C (Evaluated (Array (Some p)))))
       → Going limit program (spot g j pc variables slots) held (C (Turning t p ns e))
-  turns_own C g t e x a lo pc is p own [] before slots rs held start so_far j variables b k =
+  turns_own C g t e x a lo pc is p own [] before slots i rs held start so_far j variables b k =
       let gN = spot g j pc variables slots in
       let turn = turn_own t a lo x in
       let n : ℕ = suc (length turn) in
-      let i : ℕ = counted (value_of (slot slots lo)) in
       let o = none_by is i (p.long - i) _ _ (next_is program.adts is (p.long - i) i) b.left in
       let m = length-append turn (Back n ∷ []) in
       gives_always limit program C own.carries gN held (None ∷ []) (Turning t p [] e) (Evaluated (Array (Some p)))
       (Next a lo (named program.adts is) n)
-      (suc pc + n) (put slots lo empty) own.has.0 b.names (λ w q below r. next_does gN p a lo n is None b.array o w q below r)
+      (suc pc + n) slots own.has.0 b.names (λ w q below r. next_does gN p a lo n i is rs None b.array b.loop o w q below r)
       (λ w. ap (λ (h : Bool). Stepped (memory_of w gN) (note h) (Evaluated (Array (Some p)))) own.holds)
-      (pc_is limit program g j (pc + length (loop_own t a lo (named program.adts is) x)) (suc pc + n) variables (put slots lo empty)
+      (pc_is limit program g j (pc + length (loop_own t a lo (named program.adts is) x)) (suc pc + n) variables slots
       (held ++ (None ∷ []))
       (C (Evaluated (Array (Some p)))) (omega arith)
-      (k j variables (put slots lo empty) (so_far ++ None ∷ []) (held ++ (None ∷ []))
-      (own_holding before slots t p x a lo is [] rs held start so_far own.value own.touches b)
+      (k j variables slots (so_far ++ None ∷ []) (held ++ (None ∷ []))
+      (own_holding before slots t p x a lo i is [] rs held start so_far own.value own.touches b)
       (ap (λ (y : List (Option ℕ)). y ++ (None ∷ [])) b.is_held ∙ append_assoc start so_far (None ∷ []))))
-  turns_own C g t e x a lo pc is p own (i ∷ ns) before slots rs held start so_far j variables b k =
+  turns_own C g t e x a lo pc is p own (z ∷ ns) before slots i rs held start so_far j variables b k =
       let gN = spot g j pc variables slots in
       let turn = turn_own t a lo x in
       let n : ℕ = suc (length turn) in
-      let from : ℕ = suc (suc lo) in
+      let from : ℕ = suc lo in
       let words : ℕ = x.free - from in
-      let o = (left_behind is (counted (value_of (slot slots lo))) p.long i ns b.left).0 in
-      let z = Holds (Num (pos i)) in
-      let one = put slots lo z in
+      let o = (left_behind is i p.long z ns b.left).0 in
+      let at_z = Turns (suc z) rs in
+      let one = put slots lo at_z in
       let held1 : List (Option ℕ) = held ++ (None ∷ []) in
       let c = own.carries in
       let v0 = own.value.0 in
       let v1 = own.value.1 in
       let fits = b.fits in
       let la = own.below in
-      let long1 = put_long slots lo z in
+      let long1 = put_long slots lo at_z in
       let store = Other t a lo x.value in
-      let keep = Keep (suc lo) from words in
+      let keep = Keep lo from words in
       let has_turn = has_front g.code (suc pc) turn (Back n ∷ []) own.has.1 in
       let has_back_way = has_back g.code (suc pc) turn (Back n ∷ []) own.has.1 in
       let has_store = has_back g.code (suc pc) x.code (store ∷ keep ∷ []) has_turn in
@@ -638,46 +624,47 @@ module _ (limit : ℕ) (program : Program) where
       let room1 : Room one from x.free held1 = record {
         order = omega arith;
         fits = omega arith;
-        clean = clean_same slots one from x.free (λ s q r. put_other slots lo s z (λ f. absurd (omega (arith, f, q)))) b.clean;
-        names = λ q. let y1 = names_put q slots lo z (omega arith) in let y2 = b.counter q in let y3 = b.names q in let y4 = among_join q
-            held (None ∷ []) in
+        clean = clean_same slots one from x.free (λ s q r. put_other slots lo s at_z (λ f. absurd (omega (arith, f, q)))) b.clean;
+        names = λ q.
+            let y1 = names_put q slots lo at_z (omega arith) in
+            let y2 = ap (λ (s : Slot). slot_names s q) b.loop in
+            let y3 = b.names q in
+            let y4 = among_join q held (None ∷ []) in
             omega arith;
       } in
-      gives_always limit program C c gN held (None ∷ []) (Turning t p (i ∷ ns) e) (Repeating t p i ns e e)
+      gives_always limit program C c gN held (None ∷ []) (Turning t p (z ∷ ns) e) (Repeating t p z ns e e)
       (Next a lo (named program.adts is) n)
-      (suc pc) one own.has.0 b.names (λ w q below r. next_does gN p a lo n is (Some i) b.array o w q below r)
-      (λ w. ap (λ (h : Bool). Stepped (memory_of w gN) (note h) (Repeating t p i ns e e)) own.holds)
-      (going (own.element (λ y. C (Repeating t p i ns e y))
-      (carry limit program (next program.adts) fill (next program.adts) fill C c (Repeating t p i ns e)
-      (λ m' v. evaluation.stores program.adts m' (element_at t p (pos i)) v (Turning t p ns e)) (λ m' y. refl) (λ v y. refl))
+      (suc pc) one own.has.0 b.names (λ w q below r. next_does gN p a lo n i is rs (Some z) b.array b.loop o w q below r)
+      (λ w. ap (λ (h : Bool). Stepped (memory_of w gN) (note h) (Repeating t p z ns e e)) own.holds)
+      (going (own.element (λ y. C (Repeating t p z ns e y))
+      (carry limit program (next program.adts) fill (next program.adts) fill C c (Repeating t p z ns e)
+      (λ m' v. evaluation.stores program.adts m' (element_at t p (pos z)) v (Turning t p ns e)) (λ m' y. refl) (λ v y. refl))
       (spot g j (suc pc) variables one) held1 (has_front g.code (suc pc) x.code (store ∷ keep ∷ []) has_turn) room1
       (λ j2 variables2 slots2 v got held2 h ev bv eq.
       let pc2 : ℕ = suc pc + length x.code in
       let room2 = room_behind one slots2 from x.free x.free x.drops held1 got held2 (omega arith) (omega arith) room1 h eq in
       let names2 = room2.names in
-      let array2 : slot slots2 a ≡ Holds (Array (Some p)) = h.same a (inl (omega arith)) ∙ put_other slots lo a z
+      let array2 : slot slots2 a ≡ Holds (Array (Some p)) = h.same a (inl (omega arith)) ∙ put_other slots lo a at_z
       (λ f. absurd (omega (arith, f, la))) ∙ b.array in
-      let counter2 : slot slots2 lo ≡ z = h.same lo (inl (omega arith)) ∙ put_same slots lo z (omega arith) in
-      let chain2 : slot slots2 (suc lo) ≡ Chain rs = h.same (suc lo) (inl (omega arith)) ∙ put_other slots lo (suc lo) z
-      (λ f. absurd (omega (arith, f))) ∙ b.chain in
+      let loop2 : slot slots2 lo ≡ at_z = h.same lo (inl (omega arith)) ∙ put_same slots lo at_z (omega arith) in
       let rs3 = chained rs (region slots2 from words) in
-      let three = put (cleared slots2 from words) (suc lo) (Chain rs3) in
-      let b3 = kept_turn before slots slots2 t p x a lo i is ns rs held start so_far got held2 la own.value b own.touches h eq names2 in
-      going (other_goes C c (spot g j2 pc2 variables2 slots2) held2 t p i v (Repeating t p i ns e (Evaluated v)) (Turning t p ns e) a lo
-      x.value
-      has_store.0 names2 array2 counter2 ev (λ m'. refl)
+      let three = put (cleared slots2 from words) lo (Turns (suc z) rs3) in
+      let b3 = kept_turn before slots slots2 t p x a lo i z is ns rs held start so_far got held2 la own.value b own.touches h eq names2 in
+      going (other_goes C c (spot g j2 pc2 variables2 slots2) held2 t p z v (Repeating t p z ns e (Evaluated v)) (Turning t p ns e) a lo
+      x.value rs
+      has_store.0 names2 array2 loop2 ev (λ m'. refl)
       (λ variables3.
       let g3 = spot g j2 (suc pc2) variables3 slots2 in
       let to_back : suc pc + length turn ≡ suc (suc pc2) = omega arith in
       let at_back = subst (λ (q : ℕ). slice_get g.code q ≡ Some (Back n)) to_back has_back_way.0 in
       going (obeying keep names2 has_store.1.0 (λ w. rests (suc (suc pc2)) three
       (λ q below r. ap (λ (s : Slot). machine.goes_on w (coded q g3 below r)
-      (put (cleared slots2 from words) (suc lo) (Chain (chained (chain_of s) (region slots2 from words))))) chain2)
+      (put (cleared slots2 from words) lo (Turns (next_of s) (chained (chain_of s) (region slots2 from words))))) loop2)
       (subst (λ (y : Option Instr). 0 < place_at y) (sym at_back) (omega arith))
       (going (back_rests (spot g j2 (suc (suc pc2)) variables3 three) held2 (C (Turning t p ns e)) n pc
       (Next a lo (named program.adts is) n) at_back
       (omega arith) own.has.0 (omega arith) b3.names
-      (going (turns_own C g t e x a lo pc is p own ns before three rs3 held2 start ((so_far ++ None ∷ []) ++ got) j2 variables3 b3
+      (going (turns_own C g t e x a lo pc is p own ns before three (suc z) rs3 held2 start ((so_far ++ None ∷ []) ++ got) j2 variables3 b3
       k)))))))))))
 
   -- ---- the turns of an element that holds nothing
@@ -700,15 +687,15 @@ module _ (limit : ℕ) (program : Program) where
     pub mid : from ≤ lo
     pub has : HasAt g.code pc (loop_shared t a lo (named program.adts is) x)
 
-  pub record Between_shared (before slots : Slots) (p : Part) (a shared from lo : ℕ) (is : Items) (ns : List ℕ)
+  pub record Between_shared (before slots : Slots) (p : Part) (a shared from lo i : ℕ) (is : Items) (ns : List ℕ)
       (held : List (Option ℕ)) : Type 0 where
     pub long : length slots ≡ length before
     pub same : (s : ℕ) → Beside shared from s → Beside lo (suc lo) s → slot slots s ≡ slot before s
     pub fits : lo < length slots
     pub shares : Clean slots shared from
     pub array : slot slots a ≡ Holds (Array (Some p))
-    pub counter : (n : ℕ) → slot_names (slot slots lo) n ≡ 0
-    pub left : ns ≡ left_of is (range_with_len (counted (value_of (slot slots lo))) (p.long - counted (value_of (slot slots lo))))
+    pub loop : slot slots lo ≡ Turns i NoRegion
+    pub left : ns ≡ left_of is (range_with_len i (p.long - i))
     pub names : SlotsName slots held
 
   pub put_names : (slots : Slots) (s : ℕ) (v : Slot) (held : List (Option ℕ)) → s < length slots
@@ -718,74 +705,70 @@ module _ (limit : ℕ) (program : Program) where
       let a = names_put n slots s v l in let b = z n in let c = y n in let d = names n in omega arith
 
   pub turns_shared : (C : Term → Block) (g : Frame) (t : Ty) (e : Term) (x : Lowered) (a shared from lo pc : ℕ) (is : Items) (p : Part)
-      → Shares C g t e x a shared from lo pc is → (ns : List ℕ) (before slots : Slots) (held : List (Option ℕ)) (j : ℕ)
+      → Shares C g t e x a shared from lo pc is → (ns : List ℕ) (before slots : Slots) (i : ℕ) (held : List (Option ℕ)) (j : ℕ)
       (variables : List Value)
-      → Between_shared before slots p a shared from lo is ns held
+      → Between_shared before slots p a shared from lo i is ns held
       → ((j : ℕ) (variables : List Value) (slots : Slots) → Grown before slots shared from lo (suc lo) [] []
       → Stands limit program (spot g j (pc + length (loop_shared t a lo (named program.adts is) x)) variables slots) held
       (C (Evaluated (Array (Some p)))))
       → Going limit program (spot g j pc variables slots) held (C (Turning t p ns e))
-  turns_shared C g t e x a shared from lo pc is p own [] before slots held j variables b k =
+  turns_shared C g t e x a shared from lo pc is p own [] before slots i held j variables b k =
       let gN = spot g j pc variables slots in
       let turn = turn_shared t a lo x in
       let n : ℕ = suc (length turn) in
-      let i : ℕ = counted (value_of (slot slots lo)) in
       let o = none_by is i (p.long - i) _ _ (next_is program.adts is (p.long - i) i) b.left in
       let m = length-append turn (Back n ∷ []) in
-      let one = put slots lo empty in
-      let mid = own.mid in
       gives_always limit program C own.carries gN held [] (Turning t p [] e) (Evaluated (Array (Some p)))
       (Next a lo (named program.adts is) n)
-      (suc pc + n) one own.has.0 b.names (λ w q below r. next_does gN p a lo n is None b.array o w q below r)
+      (suc pc + n) slots own.has.0 b.names (λ w q below r. next_does gN p a lo n i is NoRegion None b.array b.loop o w q below r)
       (λ w. ap (λ (h : Bool). Stepped (memory_of w gN) (note h) (Evaluated (Array (Some p)))) own.holds)
-      (subst (λ (hs : List (Option ℕ)). Stands limit program (spot g j (suc pc + n) variables one) hs (C (Evaluated (Array (Some p)))))
+      (subst (λ (hs : List (Option ℕ)). Stands limit program (spot g j (suc pc + n) variables slots) hs (C (Evaluated (Array (Some p)))))
       (sym (append-nil held))
-      (pc_is limit program g j (pc + length (loop_shared t a lo (named program.adts is) x)) (suc pc + n) variables one held
+      (pc_is limit program g j (pc + length (loop_shared t a lo (named program.adts is) x)) (suc pc + n) variables slots held
       (C (Evaluated (Array (Some p)))) (omega arith)
-      (k j variables one (record {
-        long = put_long slots lo empty ∙ b.long;
-        same = λ s d f. put_other slots lo s empty (λ q. absurd (elim f [ inl y ↦ omega (arith, y, q) | inr y ↦ omega (arith, y, q) ]))
-            ∙ b.same s d f;
-        shares = clean_same slots one shared from (λ s q r. put_other slots lo s empty (λ f. absurd (omega (arith, f, r, mid)))) b.shares;
+      (k j variables slots (record {
+        long = b.long;
+        same = b.same;
+        shares = b.shares;
         dropping = none;
         within = tt;
-        names = name_at one lo [] (λ q. ap (λ (s : Slot). slot_names s q) (put_same slots lo empty b.fits));
+        names = name_at slots lo [] (λ q. ap (λ (s : Slot). slot_names s q) b.loop);
       }))))
-  turns_shared C g t e x a shared from lo pc is p own (i ∷ ns) before slots held j variables b k =
+  turns_shared C g t e x a shared from lo pc is p own (z ∷ ns) before slots i held j variables b k =
       let gN = spot g j pc variables slots in
       let turn = turn_shared t a lo x in
       let n : ℕ = suc (length turn) in
-      let both = left_behind is (counted (value_of (slot slots lo))) p.long i ns b.left in
-      let z = Holds (Num (pos i)) in
-      let one = put slots lo z in
+      let both = left_behind is i p.long z ns b.left in
+      let at_z = Turns (suc z) NoRegion in
+      let one = put slots lo at_z in
       let c = own.carries in
       let fits = b.fits in
       let la = own.below in
       let up = own.up in
       let end = own.end in
       let mid = own.mid in
-      let long1 = put_long slots lo z in
+      let long1 = put_long slots lo at_z in
       let store = Other t a lo x.value in
       let has_turn = has_front g.code (suc pc) turn (Back n ∷ []) own.has.1 in
       let has_back_way = has_back g.code (suc pc) turn (Back n ∷ []) own.has.1 in
       let has_store = has_back g.code (suc pc) x.code (store ∷ []) has_turn in
       let m = length-append x.code (store ∷ []) in
       let shares1 : Clean one shared from = clean_same slots one shared from
-      (λ s q r. put_other slots lo s z (λ f. absurd (omega (arith, f, r, mid)))) b.shares in
+      (λ s q r. put_other slots lo s at_z (λ f. absurd (omega (arith, f, r, mid)))) b.shares in
       let room1 : Room one shared x.free held = record {
         order = up;
         fits = omega arith;
         clean = clean_within one shared from shared x.free (omega arith) end shares1;
-        names = put_names slots lo z held fits b.counter (λ q. refl) b.names;
+        names = put_names slots lo at_z held fits (λ q. ap (λ (s : Slot). slot_names s q) b.loop) (λ q. refl) b.names;
       } in
-      gives_always limit program C c gN held [] (Turning t p (i ∷ ns) e) (Repeating t p i ns e e) (Next a lo (named program.adts is) n)
-      (suc pc) one own.has.0 b.names (λ w q below r. next_does gN p a lo n is (Some i) b.array both.0 w q below r)
-      (λ w. ap (λ (h : Bool). Stepped (memory_of w gN) (note h) (Repeating t p i ns e e)) own.holds)
-      (subst (λ (hs : List (Option ℕ)). Stands limit program (spot g j (suc pc) variables one) hs (C (Repeating t p i ns e e)))
+      gives_always limit program C c gN held [] (Turning t p (z ∷ ns) e) (Repeating t p z ns e e) (Next a lo (named program.adts is) n)
+      (suc pc) one own.has.0 b.names (λ w q below r. next_does gN p a lo n i is NoRegion (Some z) b.array b.loop both.0 w q below r)
+      (λ w. ap (λ (h : Bool). Stepped (memory_of w gN) (note h) (Repeating t p z ns e e)) own.holds)
+      (subst (λ (hs : List (Option ℕ)). Stands limit program (spot g j (suc pc) variables one) hs (C (Repeating t p z ns e e)))
       (sym (append-nil held))
-      (going (own.element (λ y. C (Repeating t p i ns e y))
-      (carry limit program (next program.adts) fill (next program.adts) fill C c (Repeating t p i ns e)
-      (λ m' v. evaluation.stores program.adts m' (element_at t p (pos i)) v (Turning t p ns e)) (λ m' y. refl) (λ v y. refl))
+      (going (own.element (λ y. C (Repeating t p z ns e y))
+      (carry limit program (next program.adts) fill (next program.adts) fill C c (Repeating t p z ns e)
+      (λ m' v. evaluation.stores program.adts m' (element_at t p (pos z)) v (Turning t p ns e)) (λ m' y. refl) (λ v y. refl))
       (spot g j (suc pc) variables one) held (has_front g.code (suc pc) x.code (store ∷ []) has_turn) room1
       (λ j2 variables2 slots2 v got held2 h ev bv eq.
       let pc2 : ℕ = suc pc + length x.code in
@@ -796,31 +779,28 @@ module _ (limit : ℕ) (program : Program) where
       let grown = grown_shared one slots2 shared from x.free lo up end mid shares1 h' in
       let room2 = room_behind one slots2 shared x.free x.free x.drops held got held2 up (omega arith) room1 h eq in
       let names2 = subst (SlotsName slots2) same_held room2.names in
-      let high : (s : ℕ) → x.free ≤ s → (s ≡ lo → ⊥) → slot slots2 s ≡ slot slots s = λ s q f. h.same s (inr q) ∙ put_other slots lo s z
-      f in
-      let array2 : slot slots2 a ≡ Holds (Array (Some p)) = h.same a (inl la) ∙ put_other slots lo a z
+      let array2 : slot slots2 a ≡ Holds (Array (Some p)) = h.same a (inl la) ∙ put_other slots lo a at_z
       (λ f. absurd (omega (arith, f, la, up, end, mid))) ∙ b.array in
-      let counter2 : slot slots2 lo ≡ z = h.same lo (inr (omega arith)) ∙ put_same slots lo z fits in
+      let loop2 : slot slots2 lo ≡ at_z = h.same lo (inr (omega arith)) ∙ put_same slots lo at_z fits in
       subst (λ (hs : List (Option ℕ)). Stands limit program (spot g j2 pc2 variables2 slots2) hs
-      (C (Repeating t p i ns e (Evaluated v)))) (sym same_held)
-      (going (other_goes C c (spot g j2 pc2 variables2 slots2) held t p i v (Repeating t p i ns e (Evaluated v)) (Turning t p ns e) a lo
-      x.value
-      has_store.0 names2 array2 counter2 ev (λ m'. refl)
+      (C (Repeating t p z ns e (Evaluated v)))) (sym same_held)
+      (going (other_goes C c (spot g j2 pc2 variables2 slots2) held t p z v (Repeating t p z ns e (Evaluated v)) (Turning t p ns e) a lo
+      x.value NoRegion
+      has_store.0 names2 array2 loop2 ev (λ m'. refl)
       (λ variables3.
       let to_back : suc pc + length turn ≡ suc pc2 = omega arith in
       going (back_rests (spot g j2 (suc pc2) variables3 slots2) held (C (Turning t p ns e)) n pc (Next a lo (named program.adts is) n)
       (subst (λ (q : ℕ). slice_get g.code q ≡ Some (Back n)) to_back has_back_way.0)
       (omega arith) own.has.0 (omega arith) names2
-      (going (turns_shared C g t e x a shared from lo pc is p own ns before slots2 held j2 variables3
+      (going (turns_shared C g t e x a shared from lo pc is p own ns before slots2 (suc z) held j2 variables3
       (record {
         long = h.long ∙ long1 ∙ b.long;
         same = λ s d f. h.same s (elim d [ inl y ↦ inl y | inr y ↦ inr (omega arith) ])
-            ∙ put_other slots lo s z (λ q. absurd (elim f [ inl y ↦ omega (arith, y, q) | inr y ↦ omega (arith, y, q) ])) ∙ b.same s d f;
+            ∙ put_other slots lo s at_z (λ q. absurd (elim f [ inl y ↦ omega (arith, y, q) | inr y ↦ omega (arith, y, q) ])) ∙ b.same s d f;
         fits = let q = h.long in omega arith;
         shares = grown.shares;
         array = array2;
-        counter = λ q. ap (λ (s : Slot). slot_names s q) counter2;
-        left = subst (λ (s : Slot). ns ≡ left_of is (range_with_len (counted (value_of s)) (p.long - counted (value_of s))))
-            (sym counter2) both.1;
+        loop = loop2;
+        left = both.1;
         names = names2;
       }) k))))))))))

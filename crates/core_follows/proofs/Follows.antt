@@ -116,7 +116,7 @@ place_small (Some i) = small i
   where
     small : (i : Instr) → place i < 3
     small (code.Known v s) = omega arith
-    small (code.Start c chain) = omega arith
+    small (code.Start c) = omega arith
     small (code.Keep c from words) = omega arith
     small (code.Back n) = omega arith
     small _ = omega arith

@@ -162,10 +162,10 @@ move_dropping v slots slots' ds got g u sp si (passes {rest = body} {held = rest
     (ap (drops_after v) f ∙ after_more v skipped is) (l ∙ sym (after_long v skipped))
     (move_dropping v slots slots' is rest g (under_tail v.into v.at skipped is (subst (AllUnder v.into v.at) f u.1))
     (spare_tail v.slot skipped is (subst (AllSpare v.slot) f sp.1)) (spare_tail v.into skipped is (subst (AllSpare v.into) f si.1)) x)
-move_dropping v slots slots' ds got g u sp si (takes {rest = body} c from words n es is rs turned later e l wl cl te tj ts x f ln h) =
+move_dropping v slots slots' ds got g u sp si (takes {rest = body} c from words n i es is rs turned later e l wl cl te tj ts x f ln h) =
     let same_es = after_apart v from (from + words) es (λ p q. sp.0.1 p q) te in
     let back = Back (suc (length es)) ∷ is in
-    takes c from words n es (drops_after v is) rs turned later (g.others c (λ q. sp.0.0 (sym q)) (λ q. si.0.0 (sym q)) ∙ e) l wl
+    takes c from words n i es (drops_after v is) rs turned later (g.others c (λ q. sp.0.0 (sym q)) (λ q. si.0.0 (sym q)) ∙ e) l wl
     (λ s p q k. ap (λ (y : Slot). slot_names y k)
     (g.others s (λ r. sp.0.1 (omega (arith, r, p)) (omega (arith, r, q))) (λ r. si.0.1 (omega (arith, r, p)) (omega (arith, r, q))))
     ∙ cl s p q k)

@@ -189,15 +189,15 @@ module _ (defs : List Def) where
   either_within false a b lo s e eh l m f = subst (AllTouch (Between a b)) (sym (no_drops s e eh)) tt
 
   others_within : (h : Bool) (a b : ℕ) (t : Ty) (array : ℕ) (zs : List ℤ) (lo s : ℕ) (e : Term) → a ≤ lo
-      → (others defs h t array zs lo (lower defs (if h then suc (suc lo) else s) e)).free ≤ b
-      → suc (suc lo) ≤ (lower defs (suc (suc lo)) e).free
-      → AllTouch (Between (suc (suc lo)) (lower defs (suc (suc lo)) e).free) (lower defs (suc (suc lo)) e).drops
-      → AllTouch (Between a b) (others defs h t array zs lo (lower defs (if h then suc (suc lo) else s) e)).drops
+      → (others defs h t array zs lo (lower defs (if h then suc lo else s) e)).free ≤ b
+      → suc lo ≤ (lower defs (suc lo) e).free
+      → AllTouch (Between (suc lo) (lower defs (suc lo) e).free) (lower defs (suc lo) e).drops
+      → AllTouch (Between a b) (others defs h t array zs lo (lower defs (if h then suc lo else s) e)).drops
   others_within true a b t array zs lo s e l m u f =
-      let x = lower defs (suc (suc lo)) e in (
+      let x = lower defs (suc lo) e in (
         ((omega arith, omega arith), omega arith, λ r p q. (omega arith, omega arith)),
         touch_more (Between a b) x.drops (Back (suc (length x.drops)) ∷ [])
-            (touch_wide (suc (suc lo)) x.free a b x.drops (omega arith) m f) (tt, tt),
+            (touch_wide (suc lo) x.free a b x.drops (omega arith) m f) (tt, tt),
       )
   others_within false a b t array zs lo s e l m u f = tt
 
@@ -271,7 +271,7 @@ module _ (defs : List Def) where
         → (lower_rest defs t array zs s lo ts).free ≤ b → AllTouch (Between a b) (lower_rest defs t array zs s lo ts).drops
     rest_within a b t array zs s lo NoTerms l m = tt
     rest_within a b t array zs s lo (MoreTerms e es) l m =
-        others_within (may_hold defs e) a b t array zs lo s e l m (term_up defs (suc (suc lo)) e) (drops_within (suc (suc lo)) e)
+        others_within (may_hold defs e) a b t array zs lo s e l m (term_up defs (suc lo) e) (drops_within (suc lo) e)
 
   pub values_counted : (lo : ℕ) (ts : Terms) → length (lower_all defs lo ts).values ≡ count ts
   values_counted lo NoTerms = refl

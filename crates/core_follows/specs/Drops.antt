@@ -1,7 +1,7 @@
 -- What the drops at the end of a statement let go, read off the slots.
 use Rattle.std.specs.Prelude.{◌≡◌, ℕ, suc, pos, ◌+◌, ◌-◌, ◌<◌, ◌≤◌, ◌⊎◌, List, [], ◌∷◌, ◌++◌, length, Option, Some, None, slice_get}
 use Rattle.limbo_meaning.specs.Values.{Num, among}
-use Rattle.core_code.specs.Slots.{Holds, Chain, Region, Regions, NoRegion, MoreRegions, Slots, slot, placed, region, slot_names}
+use Rattle.core_code.specs.Slots.{Holds, Turns, Region, Regions, NoRegion, MoreRegions, Slots, slot, placed, region, slot_names}
 use Rattle.core_code.specs.Slots.{region_names}
 use Rattle.core_code.specs.Code.{Instr, Drop, Mirror, Take, Back}
 use Rattle.core_code.specs.Naming.{reference, size}
@@ -26,11 +26,11 @@ Between a b s = (a ≤ s) × (s < b)
 abbrev pub Beside : (from to : ℕ) → ℕ → Type 0
 Beside a b s = (s < a) ⊎ (b ≤ s)
 
--- Neither the chain nor one of so many slots of its turns.
-abbrev pub Apart : (chain from words : ℕ) → ℕ → Type 0
+-- Neither the loop's slot nor one of so many slots of its turns.
+abbrev pub Apart : (loop from words : ℕ) → ℕ → Type 0
 Apart c from words s = (s ≡ c → ⊥) × (from ≤ s → s < from + words → ⊥)
 
--- A drop reads and changes only slots of these; a chain stands below the region of its turns.
+-- A drop reads and changes only slots of these; a loop's slot stands below the region of its turns.
 abbrev pub Touches : (ℕ → Type 0) → Instr → Type 0
 Touches own (Drop s k) = own s
 Touches own (Mirror d n) = own d
@@ -62,7 +62,7 @@ AllSpare s (i ∷ is) = Spares s i × AllSpare s is
 
 mutual
   -- Drops in a row let these go, in this order: a reference of a slot; nothing, where it is read again what was decided, whether the drops
-  -- behind follow or are passed; what the turns held that a chain has.
+  -- behind follow or are passed; what the turns held that a loop's chain has.
   pub data Dropping : Slots → List Instr → List (Option ℕ) → Type 0 where
     none : {slots : Slots} → Dropping slots [] []
     one : {slots : Slots} {is : List Instr} {held : List (Option ℕ)} (s k : ℕ) (r : Option ℕ) → reference k (slot slots s) ≡ r
@@ -72,20 +72,21 @@ mutual
     passes : {slots : Slots} {rest : List Instr} {held : List (Option ℕ)} (d n : ℕ) (skipped is : List Instr)
         → slot slots d ≡ Holds (Num (pos 1)) → rest ≡ skipped ++ is → n ≡ length skipped → Dropping slots is held
         → Dropping slots (Mirror d n ∷ rest) (None ∷ held)
-    takes : {slots : Slots} {rest : List Instr} {held : List (Option ℕ)} (c from words n : ℕ) (es is : List Instr) (rs : Regions)
-        (turned later : List (Option ℕ)) → slot slots c ≡ Chain rs → c < from → 0 < words → Clean slots from (from + words)
-        → AllTouch (Between from (from + words)) es → AllTouch (Apart c from words) is → Turns from words es rs turned
-        → Dropping slots is later → rest ≡ es ++ (Back (suc (length es)) ∷ is) → n ≡ suc (length es) → held ≡ turned ++ later
+    takes : {slots : Slots} {rest : List Instr} {held : List (Option ℕ)} (c from words n next : ℕ) (es is : List Instr)
+        (rs : Regions) (turned later : List (Option ℕ)) → slot slots c ≡ Turns next rs → c < from → 0 < words
+        → Clean slots from (from + words) → AllTouch (Between from (from + words)) es → AllTouch (Apart c from words) is
+        → HasTurns from words es rs turned → Dropping slots is later → rest ≡ es ++ (Back (suc (length es)) ∷ is)
+        → n ≡ suc (length es) → held ≡ turned ++ later
         → Dropping slots (Take c from words n ∷ rest) held
 
   -- A chain has these turns: wherever a region of it comes back into the slots, the drops of a turn let go what that held. That there is
   -- one turn more, or none, is told in front of each.
-  pub data Turns : (from words : ℕ) → List Instr → Regions → List (Option ℕ) → Type 0 where
-    last : {from words : ℕ} {es : List Instr} → Turns from words es NoRegion (None ∷ [])
+  pub data HasTurns : (from words : ℕ) → List Instr → Regions → List (Option ℕ) → Type 0 where
+    last : {from words : ℕ} {es : List Instr} → HasTurns from words es NoRegion (None ∷ [])
     more : {from words : ℕ} {es : List Instr} {g : Region} {rs : Regions} (held turned : List (Option ℕ)) → size g ≡ words
         → ((slots : Slots) → from + words ≤ length slots → Dropping (placed slots from g) es held)
-        → ((n : ℕ) → region_names g n ≡ among n held) → Turns from words es rs turned
-        → Turns from words es (MoreRegions g rs) (None ∷ (held ++ turned))
+        → ((n : ℕ) → region_names g n ≡ among n held) → HasTurns from words es rs turned
+        → HasTurns from words es (MoreRegions g rs) (None ∷ (held ++ turned))
 
 -- What an evaluation left in its slots, from one on and below another: as many slots as before, all others as they were, and drops for all
 -- that these name.

@@ -41,8 +41,8 @@ SlotsName slots held = (n : ℕ) → slots_name slots n ≡ among n held
 -- way back behind that. The others stand for one; of three in a row one is such.
 abbrev pub place : Instr → ℕ
 place (Known v s) = 0
-place (Start c chain) = 0
-place (Keep chain from words) = 0
+place (Start loop) = 0
+place (Keep loop from words) = 0
 place (Back n) = 1
 place i = 2
 

@@ -10,6 +10,7 @@ use Rattle.limbo_layout.specs.Adts.{Def}
 use Rattle.limbo_values.specs.declared.number.Kind.TheVariants as kind
 use Rattle.limbo_values.specs.declared.operator.Operator.TheVariants as operator
 use Rattle.limbo_values.specs.declared.operator.Unary.TheVariants as unary
+use Rattle.limbo_typed.specs.declared.operation.Connective.TheVariants as connective
 use Rattle.limbo_typed.specs.declared.operation.Given.TheVariants as given
 use Rattle.limbo_typed.specs.declared.operation.Operation.{Operation}
 use Rattle.limbo_typed.specs.declared.operation.Operation.TheVariants as operation
@@ -365,3 +366,117 @@ converts :
     ∷ Prints (codes "7") ∷ Stops Ended ∷ Frees (0 ∷ 1 ∷ []) ∷ []
 unfolding conversions int_wrap digits lib.Utf8.encode Rattle.std.specs.Str.chars
 converts = refl
+
+-- ---- f(): int { sys->print("%d", 7); return 1; }  a := array[1] of {1 => f()};  and  a := array[1] of int; a[1] = f();  the value is
+-- evaluated before the element is looked for that it is stored into
+
+abbrev pub printing_one : Function
+printing_one = function [] Int [] (print_number (num 7) ∷ Return (Some (num 1)) ∷ [])
+
+unfoldable pub filling_first : Module
+filling_first = made_of [] [] (function [] Nothing (ints ∷ [])
+    (set (var ints 0) (Of ints (Filled (Present (num 1)) (items ((1, Of Int (Call 1 NoExprs)) ∷ [])) Absent))
+    ∷ []) ∷ printing_one ∷ [])
+
+fills_behind : outcome 100 filling_first [] ≡ Prints (codes "7") ∷ Stops (Broken (codes "array bounds error")) ∷ Frees (0 ∷ 1 ∷ []) ∷ []
+unfolding filling_first int_wrap digits lib.Utf8.encode
+fills_behind = refl
+
+unfoldable pub storing_first : Module
+storing_first = made_of [] [] (function [] Nothing (ints ∷ [])
+    (set (var ints 0) (apply ints operation.NewArray (num 1 ∷ []))
+    ∷ set (item Int (read (var ints 0)) (num 1)) (Of Int (Call 1 NoExprs))
+    ∷ []) ∷ printing_one ∷ [])
+
+stores_behind : outcome 100 storing_first [] ≡ Prints (codes "7") ∷ Stops (Broken (codes "array bounds error")) ∷ Frees (0 ∷ 1 ∷ []) ∷ []
+unfolding storing_first int_wrap digits lib.Utf8.encode
+stores_behind = refl
+
+-- ---- f(): (array of int, array of int) { return (array[1] of int, array[2] of int); }  f(); sys->print("%d", 0);  the two that nobody
+-- names go in two steps
+
+abbrev pub two_arrays : Ty
+two_arrays = ty.Tuple (MoreTys ints (MoreTys ints NoTys))
+
+abbrev pub new_ints : ℕ → Expr
+new_ints n = apply ints operation.NewArray (num n ∷ [])
+
+unfoldable pub dropping : Module
+dropping = made_of [] [] (function [] Nothing []
+    (Eval (Of two_arrays (Call 1 NoExprs))
+    ∷ print_number (num 0)
+    ∷ [])
+    ∷ function [] two_arrays [] (Return (Some (apply two_arrays operation.Tuple (new_ints 1 ∷ new_ints 2 ∷ []))) ∷ [])
+    ∷ [])
+
+drops_singly : outcome 100 dropping [] ≡ Frees (1 ∷ []) ∷ Frees (2 ∷ []) ∷ Prints (codes "0") ∷ Stops Ended ∷ Frees (0 ∷ []) ∷ []
+unfolding dropping int_wrap digits lib.Utf8.encode
+drops_singly = refl
+
+-- ---- y := 2; f(): int { y = 10; return 1; }  y += f(); sys->print("%d", y);  y is read before f is called
+
+unfoldable pub adding : Module
+adding = made_of [] (Int ∷ []) (function [] Nothing []
+    (set (glob Int 0) (num 2)
+    ∷ more (operation.Arithmetic operator.Add kind.Int) (glob Int 0) (Of Int (Call 1 NoExprs))
+    ∷ print_number (read (glob Int 0))
+    ∷ [])
+    ∷ function [] Int [] (set (glob Int 0) (num 10) ∷ Return (Some (num 1)) ∷ [])
+    ∷ [])
+
+adds_to_old : outcome 100 adding [] ≡ Prints (codes "3") ∷ Stops Ended ∷ Frees (0 ∷ []) ∷ []
+unfolding adding int_wrap digits lib.Utf8.encode
+adds_to_old = refl
+
+-- ---- t: string;  s := "ab"; t = s; a := array[1] of string; a[0] = s; s[1] = 'x'; .. s, t, a[0]; t[0] = 'y'; .. s, t, a[0];
+-- a[0][0] = 'z'; .. s, t, a[0]  a character changes in the string of its variable, or element, alone
+
+abbrev pub shared_text : Place
+shared_text = glob ty.Chars 0
+
+abbrev pub first_text : Place
+first_text = item ty.Chars (read (var (ArrayOf ty.Chars) 1)) (num 0)
+
+abbrev pub print_three : List Stmt → List Stmt
+print_three ss = print_string (read (text 0)) ∷ print_string (read shared_text) ∷ print_string (read first_text) ∷ ss
+
+unfoldable pub three_texts : Module
+three_texts = made_of [] (ty.Chars ∷ []) (function [] Nothing (ty.Chars ∷ ArrayOf ty.Chars ∷ [])
+    (set (text 0) (chars (codes "ab"))
+    ∷ set shared_text (read (text 0))
+    ∷ set (var (ArrayOf ty.Chars) 1) (apply (ArrayOf ty.Chars) operation.NewArray (num 1 ∷ []))
+    ∷ set first_text (read (text 0))
+    ∷ set (char_at (text 0) (num 1)) (num 120)
+    ∷ print_three (set (char_at shared_text (num 0)) (num 121)
+    ∷ print_three (set (char_at first_text (num 0)) (num 122)
+    ∷ print_three []))) ∷ [])
+
+texts_kept_apart :
+    outcome 400 three_texts [] ≡
+    Prints (codes "ax") ∷ Prints (codes "ab") ∷ Prints (codes "ab") ∷ Prints (codes "ax") ∷ Prints (codes "yb") ∷ Prints (codes "ab")
+    ∷ Prints (codes "ax") ∷ Prints (codes "yb") ∷ Prints (codes "zb") ∷ Stops Ended ∷ Frees (0 ∷ 1 ∷ []) ∷ []
+unfolding three_texts int_wrap digits lib.Utf8.encode
+texts_kept_apart = refl
+
+-- ---- y: int;  f(): int { y += 1; return 5; }  0 && f(), y, 7 || f(), y, 2 && f(), y, 0 || f(), y: f is called only where its answer
+-- decides, and that is then 1
+
+abbrev pub call_one : Expr
+call_one = Of Int (Call 1 NoExprs)
+
+unfoldable pub deciding : Module
+deciding = made_of [] (Int ∷ []) (function [] Nothing []
+    (print_number (Of Int (Lazy connective.And (num 0) call_one)) ∷ print_number (read (glob Int 0))
+    ∷ print_number (Of Int (Lazy connective.Or (num 7) call_one)) ∷ print_number (read (glob Int 0))
+    ∷ print_number (Of Int (Lazy connective.And (num 2) call_one)) ∷ print_number (read (glob Int 0))
+    ∷ print_number (Of Int (Lazy connective.Or (num 0) call_one)) ∷ print_number (read (glob Int 0))
+    ∷ [])
+    ∷ function [] Int [] (more (operation.Arithmetic operator.Add kind.Int) (glob Int 0) (num 1) ∷ Return (Some (num 5)) ∷ [])
+    ∷ [])
+
+decides_first :
+    outcome 400 deciding [] ≡
+    Prints (codes "0") ∷ Prints (codes "0") ∷ Prints (codes "1") ∷ Prints (codes "0") ∷ Prints (codes "1") ∷ Prints (codes "1")
+    ∷ Prints (codes "1") ∷ Prints (codes "2") ∷ Stops Ended ∷ Frees (0 ∷ []) ∷ []
+unfolding deciding int_wrap digits lib.Utf8.encode
+decides_first = refl

@@ -1,0 +1,4 @@
+pub mod Extent
+pub mod Parts
+pub mod Laws
+pub mod Made
