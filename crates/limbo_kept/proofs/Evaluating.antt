@@ -92,7 +92,7 @@ module _ (s : Scope) (store : Store) where
   fit_drop (suc n) (u ∷ us) [] f = absurd f
   fit_drop (suc n) (u ∷ us) (v ∷ vs) f = fit_drop n us vs f.1
 
-  operand_is : (us : List Ty) (vs : List Value) (n : ℕ) (u : Ty) → FitAll us vs → slice_get us n ≡ Some u → FitsA u (operand n vs)
+  pub operand_is : (us : List Ty) (vs : List Value) (n : ℕ) (u : Ty) → FitAll us vs → slice_get us n ≡ Some u → FitsA u (operand n vs)
   operand_is us vs n u f e = operand_fits s.adts store us vs n u f e
 
   -- ---- places
@@ -111,7 +111,7 @@ module _ (s : Scope) (store : Store) where
       of_reference (ty.RefPick k j) n v e g = named_by s.adts store (ty.RefPick k j) (Adts n) v (ap Adts (sym e)) g
       of_reference _ n v e g = absurd e
 
-  way_there : (w : Way) (us : List Ty) (vs : List Value) (t : Ty) → FitAll us vs → WayIs s w us t
+  pub way_there : (w : Way) (us : List Ty) (vs : List Value) (t : Ty) → FitAll us vs → WayIs s w us t
       → PlaceIs s.adts s.globals store s.variables (record { type = t; way = w; operands = vs })
   way_there w us vs t f is = record {
     root = is.root;
@@ -122,7 +122,7 @@ module _ (s : Scope) (store : Store) where
     ends = is.ends;
   }
 
-  pendings : (aims : List Aim) (us : List Ty) (vs : List Value) (u : Ty) (v : Value) → FitAll us vs → AimsAre s aims us u
+  pub pendings : (aims : List Aim) (us : List Ty) (vs : List Value) (u : Ty) (v : Value) → FitAll us vs → AimsAre s aims us u
       → HasRoom s.adts u → FitsA u v → PendingAre s store (pending_for aims vs v)
   pendings [] us vs u v f a r g = tt
   pendings (x ∷ aims) us vs u v f a r g = (
@@ -254,7 +254,7 @@ module _ (s : Scope) (store : Store) (m : Memory) (mem : MemoryIsOf s.adts s.glo
 
   -- ---- copies
 
-  elements_are : (i : Ty) (p : Option Part) → Refers store (ItemsOf i) (array_named p) → EachIsOf s.adts store i (elements_of m p)
+  pub elements_are : (i : Ty) (p : Option Part) → Refers store (ItemsOf i) (array_named p) → EachIsOf s.adts store i (elements_of m p)
   elements_are i None a = tt
   elements_are i (Some p) a = go (at m.heap p.array) refl
     where
@@ -396,7 +396,7 @@ module _ (s : Scope) (store : Store) (m : Memory) (mem : MemoryIsOf s.adts s.glo
 
   -- ---- variables that are declared without a value
 
-  declared_pending : (aims : List Aim) → DeclaresAll s aims → PendingAre s store (pending_for aims (nothing ∷ []) nothing)
+  pub declared_pending : (aims : List Aim) → DeclaresAll s aims → PendingAre s store (pending_for aims (nothing ∷ []) nothing)
   declared_pending [] d = tt
   declared_pending (x ∷ aims) d =
       subst (λ (k : ℕ). PendingAre s store (
@@ -409,7 +409,7 @@ module _ (s : Scope) (store : Store) (m : Memory) (mem : MemoryIsOf s.adts s.glo
         declared_pending aims d.1,
       )
 
-  none_for : (aims : List Aim) → DeclaresAll s aims → operands_for aims ≡ 0
+  pub none_for : (aims : List Aim) → DeclaresAll s aims → operands_for aims ≡ 0
   none_for [] d = refl
   none_for (x ∷ aims) d = let e = none_for aims d.1 in let f = d.0.1 in omega arith
 
@@ -470,7 +470,7 @@ module _ (s : Scope) (store : Store) (m : Memory) (mem : MemoryIsOf s.adts s.glo
             (items_on s store l.later l.grows None is i k) (rest_on s store l.later l.grows rest i r);
       })
 
-  element_place : (i t : Ty) (p : Part) (z : ℤ) → FillsFor s store i p.array t
+  pub element_place : (i t : Ty) (p : Part) (z : ℤ) → FillsFor s store i p.array t
       → PlaceIs s.adts s.globals store s.variables (element_at i p z)
   element_place i t p z h = record {
     root = i;

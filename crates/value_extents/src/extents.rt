@@ -64,6 +64,13 @@ impl<'a> Extents<'a> {
         Ok(Extents { defs, table })
     }
 
+    /// The definitions of the adts.
+    pub fn defs(&self) -> &'a [AdtDef]
+        ensures { result.now ≡ self.now }
+    {
+        self.defs
+    }
+
     // What is told of a type.
     fn extent(&self, t: &Ty) -> Extent
         ensures { result ≡ told (room (rooms_in (view_defs self.now)) (view_ty t.now)) (count_of (view_defs self.now) (view_ty t.now)) }

@@ -1,0 +1,9 @@
+pub mod Collected
+pub mod Forms
+pub mod Typing
+pub mod Numbered
+pub mod Nodes
+pub mod Small
+pub mod Lowerings
+pub mod Stored
+pub mod Locals

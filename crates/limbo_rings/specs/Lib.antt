@@ -1,0 +1,4 @@
+pub mod Rings
+pub mod Storing
+pub mod Permitting
+pub mod Stepping
