@@ -14,14 +14,14 @@ use Rattle.limbo_kept.specs.Trees.{Scope, AnswerIs, PendingAre, FillsFor, TermIs
 use Rattle.limbo_kept.proofs.Fitted.{fits_later, refers_later, stands_fits}
 
 module _ (s : Scope) (store later : Store) (grows : Grows store later) where
-  begins_on : (r : Root) (vs : List Value) (t : Ty) → Begins s.adts s.globals store s.variables r vs t
+  pub begins_on : (r : Root) (vs : List Value) (t : Ty) → Begins s.adts s.globals store s.variables r vs t
       → Begins s.adts s.globals later s.variables r vs t
   begins_on (Local x) vs t b = b
   begins_on (Global x) vs t b = b
   begins_on Element vs t b = fits_later s.adts store later grows (ty.ArrayOf t) (operand 0 vs) b
   begins_on Target vs t b = (b.0, b.1, refers_later s.adts store later grows (Adts b.0) (name_of (operand 0 vs)) b.2)
 
-  pub place_on : (p : Place) → PlaceIs s.adts s.globals store s.variables p → PlaceIs s.adts s.globals later s.variables p
+  abbrev pub place_on : (p : Place) → PlaceIs s.adts s.globals store s.variables p → PlaceIs s.adts s.globals later s.variables p
   place_on p is = record {
     root = is.root;
     room = is.room;
@@ -34,7 +34,7 @@ module _ (s : Scope) (store later : Store) (grows : Grows store later) where
   pub pending_on : (ps : List Pending) → PendingAre s store ps → PendingAre s later ps
   pending_on [] h = tt
   pending_on (p ∷ ps) h =
-      ((place_on p.place h.0.0, fits_later s.adts store later grows p.place.type p.value h.0.1), pending_on ps h.1)
+      ((place_on p.place h.0.0, h.0.1, fits_later s.adts store later grows p.place.type p.value h.0.2), pending_on ps h.1)
 
   pub each_fits_on : (t : Ty) (vs : List Value) → EachFits s.adts store t vs → EachFits s.adts later t vs
   each_fits_on t [] h = tt
@@ -63,8 +63,9 @@ module _ (s : Scope) (store later : Store) (grows : Grows store later) where
       h.6,
       h.7,
       h.8,
+      h.9,
     )
-    term_move v w k (Change o g p ts) t h = (h.0, terms_move v w k ts (p.type ∷ h.0) h.1, place_on p h.2, h.3, h.4, h.5, h.6)
+    term_move v w k (Change o g p ts) t h = (h.0, terms_move v w k ts (p.type ∷ h.0) h.1, place_on p h.2, h.3, h.4, h.5, h.6, h.7)
     term_move v w k (Put ps x) t h = (pending_on ps h.0, fits_later s.adts store later grows t x h.1)
     term_move v w k (Linking i vs r) t h = (h.0, each_fits_on i vs h.1, refers_later s.adts store later grows (Cells i) r h.2, h.3)
     term_move v w k (Fill i l is rest) t h = (
@@ -126,8 +127,8 @@ module _ (s : Scope) (store : Store) (a : Ty) (v : Value) (fit : Fits s.adts sto
         (h.0, all_filled ts h.0 h.1, elim h.2 [ inl k ↦ inl k | inr k ↦ inr (declares_filled o ts t k) ])
     filled (Lazy c l r) t h = (filled l ty.Int h.0, h.1, h.2)
     filled (Deciding r) t h = (filled r ty.Int h.0, h.1)
-    filled (Update o g p way ts us) t h = (h.0, h.1, all_filled ts h.0 h.2, h.3, h.4, h.5, h.6, h.7, h.8)
-    filled (Change o g p ts) t h = (h.0, all_filled ts (p.type ∷ h.0) h.1, h.2, h.3, h.4, h.5, h.6)
+    filled (Update o g p way ts us) t h = (h.0, h.1, all_filled ts h.0 h.2, h.3, h.4, h.5, h.6, h.7, h.8, h.9)
+    filled (Change o g p ts) t h = (h.0, all_filled ts (p.type ∷ h.0) h.1, h.2, h.3, h.4, h.5, h.6, h.7)
     filled (Put ps u) t h = h
     filled (Linking i vs r) t h = h
     filled (Fill i l is rest) t h = (h.0, filled l ty.Int h.1, h.2, h.3, h.4)

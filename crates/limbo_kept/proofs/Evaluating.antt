@@ -2,7 +2,7 @@
 use Rattle.std.proofs.Common.{◌≡◌, ℕ, ℤ, zero, suc, pos, negsuc, ◌+◌, ◌-◌, Bool, true, false, List, [], ◌∷◌, ◌++◌, length, Option, Some}
 use Rattle.std.proofs.Common.{None}
 use Rattle.std.proofs.Common.{Ok, Err, refl, sym, ap, subst, ◌∙◌, arith, inl, inr, take, drop, reverse}
-use Rattle.std.specs.Prelude.{slice_get, slice_range, Result}
+use Rattle.std.specs.Prelude.{slice_get, slice_range, Result, if◌then◌else◌}
 use Rattle.inf_text.specs.Steps.{◌>>=◌}
 use Rattle.heap_model.specs.Heap.{at}
 use Rattle.limbo_types.specs.Types as ty
@@ -26,7 +26,7 @@ use Rattle.limbo_meaning.specs.Values.{array_named, fitted, references}
 use Rattle.limbo_meaning.specs.Memory.{HeapValue, Elements, Cell, Channel, Memory, next_name, elements_in}
 use Rattle.limbo_meaning.specs.Exceptions.{Raising, with_text}
 use Rattle.limbo_meaning.specs.Places.{Root, Local, Global, Element, Target, Way, Place, operand, operands_of, read, written, not_longer}
-use Rattle.limbo_meaning.specs.Places.{value_part}
+use Rattle.limbo_meaning.specs.Places.{count_of, value_part}
 use Rattle.limbo_meaning.specs.Places.{part_at}
 use Rattle.limbo_meaning.specs.Operations.{result_of, new_array, copied, copied_into, overwritten, elements_of, long_of, item_of}
 use Rattle.limbo_meaning.specs.Operations.{constant_value, decides, truth_of}
@@ -49,6 +49,7 @@ use Rattle.limbo_kept.specs.Values.{EachFits}
 use Rattle.limbo_kept.specs.Stores.{Contains, MemoryIsOf, Grows}
 use Rattle.limbo_kept.specs.Operating.{HasRoom, IsLeft}
 use Rattle.limbo_kept.specs.Places.{Begins, PlaceIs}
+use Rattle.limbo_kept.specs.Permitting.{MayStore, holder, MayWrite}
 use Rattle.limbo_kept.specs.Trees.{Scope, BeginsAt, WayIs, AimsAre, DeclaresAll, IsWritten, IsTold, AreTold, WorkIs, DeclaresFor}
 use Rattle.limbo_kept.specs.Trees.{PendingAre, FillsFor, TermIs, TermsAre, ItemsAre, RestIs}
 use Rattle.limbo_kept.specs.Stepping.{Keeps, TreesKeepTypes}
@@ -66,7 +67,7 @@ use Rattle.limbo_kept.proofs.Carrying.{fills_on, place_on, each_fits_on, term_on
 text_room : (s : Scope) → HasRoom s.adts ty.Chars
 text_room s = (layout.reference, layout.is_alone ty.Chars layout.reference refl)
 
-array_room : (s : Scope) (i : Ty) → HasRoom s.adts (ty.ArrayOf i)
+pub array_room : (s : Scope) (i : Ty) → HasRoom s.adts (ty.ArrayOf i)
 array_room s i = (layout.reference, layout.is_alone (ty.ArrayOf i) layout.reference refl)
 
 -- ---- operands
@@ -97,7 +98,7 @@ module _ (s : Scope) (store : Store) where
 
   -- ---- places
 
-  begins_there : (r : Root) (us : List Ty) (vs : List Value) (t : Ty) → FitAll us vs → BeginsAt s r us t
+  pub begins_there : (r : Root) (us : List Ty) (vs : List Value) (t : Ty) → FitAll us vs → BeginsAt s r us t
       → Begins s.adts s.globals store s.variables r vs t
   begins_there (Local x) us vs t f b = b
   begins_there (Global x) us vs t f b = b
@@ -111,7 +112,7 @@ module _ (s : Scope) (store : Store) where
       of_reference (ty.RefPick k j) n v e g = named_by s.adts store (ty.RefPick k j) (Adts n) v (ap Adts (sym e)) g
       of_reference _ n v e g = absurd e
 
-  pub way_there : (w : Way) (us : List Ty) (vs : List Value) (t : Ty) → FitAll us vs → WayIs s w us t
+  abbrev pub way_there : (w : Way) (us : List Ty) (vs : List Value) (t : Ty) → FitAll us vs → WayIs s w us t
       → PlaceIs s.adts s.globals store s.variables (record { type = t; way = w; operands = vs })
   way_there w us vs t f is = record {
     root = is.root;
@@ -128,9 +129,10 @@ module _ (s : Scope) (store : Store) where
   pendings (x ∷ aims) us vs u v f a r g = (
     (
       way_there x.way (take (operands_of x.way) us) (take (operands_of x.way) vs) x.type (fit_take (operands_of x.way) us vs f) a.0,
-      stands_fits s.adts store a.1.0 x.type (part_at x.part v) a.1.2 (part_fits_at s.adts store x.part u a.1.0 v r a.1.1 g),
+      a.1,
+      stands_fits s.adts store a.2.0 x.type (part_at x.part v) a.2.2 (part_fits_at s.adts store x.part u a.2.0 v r a.2.1 g),
     ),
-    pendings aims (drop (operands_of x.way) us) (drop (operands_of x.way) vs) u v (fit_drop (operands_of x.way) us vs f) a.2 r g,
+    pendings aims (drop (operands_of x.way) us) (drop (operands_of x.way) vs) u v (fit_drop (operands_of x.way) us vs f) a.3 r g,
   )
 
   -- ---- formats
@@ -163,7 +165,7 @@ module _ (s : Scope) (store : Store) where
       of_number _ i = absurd i
   constant_fits u (constant.Chars cs) i w = subst (λ (x : Ty). FitsA x (Chars cs)) (sym i) (text_fits s.adts store cs w)
 
-  each_fits_item : (us : List Ty) (vs : List Value) (i : Ty) → EachStands us i → FitAll us vs → EachFits s.adts store i vs
+  pub each_fits_item : (us : List Ty) (vs : List Value) (i : Ty) → EachStands us i → FitAll us vs → EachFits s.adts store i vs
   each_fits_item [] [] i e f = tt
   each_fits_item [] (v ∷ vs) i e f = absurd f
   each_fits_item (u ∷ us) [] i e f = absurd f
@@ -173,7 +175,7 @@ module _ (s : Scope) (store : Store) where
   each_more i [] ws f g = g
   each_more i (v ∷ vs) ws f g = (f.0, each_more i vs ws f.1 g)
 
-  each_reverse : (i : Ty) (vs : List Value) → EachFits s.adts store i vs → EachFits s.adts store i (reverse vs)
+  pub each_reverse : (i : Ty) (vs : List Value) → EachFits s.adts store i vs → EachFits s.adts store i (reverse vs)
   each_reverse i [] f = tt
   each_reverse i (v ∷ vs) f =
       subst (λ (us : List Value). EachFits s.adts store i us) (sym (reverse-cons v vs))
@@ -250,7 +252,7 @@ module _ (s : Scope) (store : Store) (m : Memory) (mem : MemoryIsOf s.adts s.glo
 
   writes_kept : (ps : List Pending) (v : Value) (t : Ty) → PendingAre s store ps → Fits s.adts store t v → Kept t (writes s.adts m ps v)
   writes_kept [] v t h f = still t [] (Evaluated v) f
-  writes_kept (p ∷ ps) v t h f = written_one p.place p.value t (put_rest ps v) h.0.0 h.0.1 (rest_put store ps v t h.1 f)
+  writes_kept (p ∷ ps) v t h f = written_one p.place p.value t (put_rest ps v) h.0.0 h.0.2 (rest_put store ps v t h.1 f)
 
   -- ---- copies
 
@@ -367,7 +369,7 @@ module _ (s : Scope) (store : Store) (m : Memory) (mem : MemoryIsOf s.adts s.glo
         later = store;
         grows = λ n q e. e;
         memory = k;
-        left = stands_fits s.adts store (ty.ArrayOf w.0) t (operand 2 vs) w.3 b;
+        left = stands_fits s.adts store (ty.ArrayOf w.0) t (operand 2 vs) w.4 b;
       })
   performed_kept u t Link us vs f w =
       subst (λ (x : Ty). Kept t (links s.adts m x (reverse vs) None)) (sym (ap item_of w.1))
@@ -396,6 +398,19 @@ module _ (s : Scope) (store : Store) (m : Memory) (mem : MemoryIsOf s.adts s.glo
 
   -- ---- variables that are declared without a value
 
+  -- no heap object holds a place that has no operands
+  variables_may : (w : Way) (root t : Ty) → operands_of w ≡ 0 → MayWrite s.stores s.adts w.root root t
+  variables_may w root t e object held = go w.root w.character e held
+    where
+      go : (r : Root) (c : Bool) → (if c then count_of r + 1 else count_of r) ≡ 0 → holder r root ≡ Some object
+          → MayStore s.stores s.adts object t
+      go (Local x) c e h = absurd cc
+      go (Global x) c e h = absurd cc
+      go Element true e h = absurd (omega arith)
+      go Element false e h = absurd (omega arith)
+      go Target true e h = absurd (omega arith)
+      go Target false e h = absurd (omega arith)
+
   pub declared_pending : (aims : List Aim) → DeclaresAll s aims → PendingAre s store (pending_for aims (nothing ∷ []) nothing)
   declared_pending [] d = tt
   declared_pending (x ∷ aims) d =
@@ -404,6 +419,7 @@ module _ (s : Scope) (store : Store) (m : Memory) (mem : MemoryIsOf s.adts s.glo
       ∷ pending_for aims (drop k (nothing ∷ [])) nothing)) (sym d.0.1) (
         (
           way_there s store x.way [] [] x.type tt d.0.0,
+          variables_may x.way d.0.0.root x.type d.0.1,
           subst (λ (ns : List ℕ). Fits s.adts store x.type (part_at ns nothing)) (sym d.0.2) (zero_fits s.adts store x.type d.0.3),
         ),
         declared_pending aims d.1,
@@ -493,14 +509,15 @@ module _ (s : Scope) (store : Store) (m : Memory) (mem : MemoryIsOf s.adts s.glo
   -- ---- updates
 
   reads_kept : (o : Operation) (g : Given) (p : Place) (us : Terms) (t : Ty) (qs : List Ty)
-      → PlaceIs s.adts s.globals store s.variables p → TermsAre s store None us qs → Gives s.adts o (p.type ∷ qs) p.type
+      → (is : PlaceIs s.adts s.globals store s.variables p) → MayWrite s.stores s.adts p.way.root is.root p.type
+      → TermsAre s store None us qs → Gives s.adts o (p.type ∷ qs) p.type
       → HasRoom s.adts p.type → HasRoom s.adts (item_of p.type) → Stands p.type t → Kept t (reads_first s.adts m o g p us)
-  reads_kept o g p us t qs is k gives room item st =
+  reads_kept o g p us t qs is may k gives room item st =
       kept_unless (Fits s.adts store p.type) t (read m p)
       (λ v. Stepped m (references (fitted s.adts p.type v)) (Change o g p (MoreTerms (Evaluated (fitted s.adts p.type v)) us)))
       (read_fits s.adts s.globals store s.variables m mem p is)
       (λ v f. still t (references (fitted s.adts p.type v)) (Change o g p (MoreTerms (Evaluated (fitted s.adts p.type v)) us))
-      (qs, (is_fit s.adts store p.type (fitted s.adts p.type v) room f, k), is, gives, room, item, st))
+      (qs, (is_fit s.adts store p.type (fitted s.adts p.type v) room f, k), is, may, gives, room, item, st))
 
   given_is : (later : Store) (g : Given) (u t : Ty) (old new : Value) → Stands u t → Fits s.adts later u old → Fits s.adts later u new
       → Fits s.adts later t (given_by g old new)
@@ -508,9 +525,10 @@ module _ (s : Scope) (store : Store) (m : Memory) (mem : MemoryIsOf s.adts s.glo
   given_is later given.New u t old new st f h = stands_fits s.adts later u t new st h
 
   changes_kept : (o : Operation) (g : Given) (p : Place) (vs : List Value) (t : Ty) (qs : List Ty)
-      → PlaceIs s.adts s.globals store s.variables p → AllFit s.adts store (p.type ∷ qs) vs → Gives s.adts o (p.type ∷ qs) p.type
+      → (is : PlaceIs s.adts s.globals store s.variables p) → MayWrite s.stores s.adts p.way.root is.root p.type
+      → AllFit s.adts store (p.type ∷ qs) vs → Gives s.adts o (p.type ∷ qs) p.type
       → HasRoom s.adts p.type → HasRoom s.adts (item_of p.type) → Stands p.type t → Kept t (changes s.adts m o g p vs)
-  changes_kept o g p vs t qs is f gives room item st =
+  changes_kept o g p vs t qs is may f gives room item st =
       kept_unless (IsLeft s.adts s.globals store s.variables p.type) t (result_of s.adts m p.type o vs)
       (λ r. Stepped r.memory (got_by o (fitted s.adts p.type r.value))
       (Put (record { place = p; value = fitted s.adts p.type r.value } ∷ []) (given_by g (operand 0 vs) (fitted s.adts p.type r.value))))
@@ -523,7 +541,7 @@ module _ (s : Scope) (store : Store) (m : Memory) (mem : MemoryIsOf s.adts s.glo
         grows = l.grows;
         memory = l.memory;
         left = (
-          ((place_on s store l.later l.grows p is, new), tt),
+          ((place_on s store l.later l.grows p is, may, new), tt),
           given_is l.later g p.type t (operand 0 vs) (fitted s.adts p.type r.value) st old new,
         );
       })
@@ -566,13 +584,13 @@ module _ (s : Scope) (store : Store) (m : Memory) (mem : MemoryIsOf s.adts s.glo
         kept_after (all_fit h.0) (many h.0) (fits t) (one t) (next_all s.adts m ts)
         (λ vs. reads_first s.adts m o g (record { type = p; way = way; operands = vs }) us) (λ ts. Update o g p way ts us)
         (all_kept ts h.0 h.2)
-        (λ vs f. reads_kept o g (record { type = p; way = way; operands = vs }) us t h.1 (way_there s store way h.0 vs p f h.4) h.3 h.5 h.6
-        h.7 h.8)
-        (λ later w x gr y. (h.0, h.1, y, terms_on s store later gr None us h.1 h.3, h.4, h.5, h.6, h.7, h.8))
+        (λ vs f. reads_kept o g (record { type = p; way = way; operands = vs }) us t h.1 (way_there s store way h.0 vs p f h.4) h.5 h.3 h.6
+        h.7 h.8 h.9)
+        (λ later w x gr y. (h.0, h.1, y, terms_on s store later gr None us h.1 h.3, h.4, h.5, h.6, h.7, h.8, h.9))
     kept (Change o g p ts) t h =
         kept_after (all_fit (p.type ∷ h.0)) (many (p.type ∷ h.0)) (fits t) (one t) (next_all s.adts m ts) (changes s.adts m o g p)
-        (Change o g p) (all_kept ts (p.type ∷ h.0) h.1) (λ vs f. changes_kept o g p vs t h.0 h.2 f h.3 h.4 h.5 h.6)
-        (λ later w x gr y. (h.0, y, place_on s store later gr p h.2, h.3, h.4, h.5, h.6))
+        (Change o g p) (all_kept ts (p.type ∷ h.0) h.1) (λ vs f. changes_kept o g p vs t h.0 h.2 h.3 f h.4 h.5 h.6 h.7)
+        (λ later w x gr y. (h.0, y, place_on s store later gr p h.2, h.3, h.4, h.5, h.6, h.7))
     kept (Put ps v) t h = writes_kept ps v t h.0 h.1
     kept (Linking i vs r) t h = links_kept i t vs r h.0 h.1 h.2 h.3
     kept (Fill i l is rest) t h =

@@ -1,23 +1,28 @@
--- A module of whose runs each configuration is well-typed: it meets all that is asked of modules.
+-- A module of whose runs each configuration is well-typed: it meets all that is asked of modules, and stores nothing that leads back. And
+-- a store that does.
 use Rattle.std.specs.Prelude.{slice_get}
-use Rattle.std.proofs.Common.{◌≡◌, ℕ, zero, suc, pos, List, [], ◌∷◌, Some, None, refl, sym, subst, inl, inr, codes, rules, arith, ◌≤◌}
+use Rattle.std.proofs.Common.{◌≡◌, ℕ, zero, suc, pos, List, [], ◌∷◌, Some, None, refl, sym, subst, inl, inr, codes, rules, arith}
+use Rattle.std.proofs.Common.{◌≤◌}
 use Rattle.limbo_types.specs.Types as ty
 use Rattle.limbo_types.specs.Types.{Ty, Int, Nothing, ArrayOf, ListOf, RefAdt, Adt}
 use Rattle.limbo_layout.specs.Adts.{Def, Has, field_types, Names, AreNamed}
 use Rattle.limbo_layout.specs.Layout.{is_alone, of_adt, none_laid, more_laid, reference, in_order}
 use Rattle.limbo_typed.specs.declared.operation.Operation.TheVariants as operation
 use Rattle.limbo_typed.specs.declared.operation.Sequence.TheVariants as sequence
+use Rattle.limbo_adts.specs.Reaches.{reaches_itself}
 use Rattle.limbo_typed.specs.Fitting.{IsNumber}
 use Rattle.limbo_typed.specs.Sound.{IsSound, SoundExpr, SoundStmts}
-use Rattle.limbo_typed.specs.Typed.{Expr, Of, Filled, Absent, Stmt, Stmts, Var, Function, Module}
+use Rattle.limbo_typed.specs.Typed.{Expr, Of, Node, Filled, Absent, Place, Stmt, Stmts, Var, Function, Module}
 use Rattle.limbo_typed.specs.Typed as typed
 use Rattle.limbo_meaning.specs.Program.{Routine, routine_of, program_of}
 use Rattle.limbo_meaning.proofs.Examples.{num, chars, nil, apply, read, var, item, field, set, more, items, function, made_of, cons, plus}
 use Rattle.limbo_meaning.proofs.Examples.{variable}
 use Rattle.process_model.specs.Source.{Turn}
 use Rattle.limbo_meaning.specs.Runs.{Meaning, MeaningRun}
+use Rattle.limbo_kept.specs.Permitting.{Anything, NeverBack}
 use Rattle.limbo_kept.specs.Processes.{IsTyped}
-use Rattle.limbo_kept.specs.Modules.{BlockWritten, TextsAreWritten, AdtsAreLaid, WordsAre, TakesWords, outline_of}
+use Rattle.limbo_kept.specs.Storing.{StoresWell, StoresAllowed}
+use Rattle.limbo_kept.specs.Modules.{BlockWritten, TextsAreWritten, AdtsAreLaid, WordsAre, TakesWords, outline_with, outline_of}
 use Rattle.limbo_kept.proofs.Opening.{modules_keep_types}
 
 -- ---- Note: adt { text: string; marks: list of int; };  s := "ab"; a := array[2] of {0 => 1, 1 => 2}; l := 1 :: nil;
@@ -59,7 +64,7 @@ abbrev pub notes : Module
 notes = made_of (note ∷ []) [] (main ∷ [])
 
 -- the texts in it are of characters
-notes_written : TextsAreWritten notes
+pub notes_written : TextsAreWritten notes
 notes_written = record { initials = tt; routines = go }
   where
     go : (f : ℕ) (r : Routine) → slice_get (program_of notes).routines f ≡ Some r → BlockWritten r.body
@@ -67,7 +72,7 @@ notes_written = record { initials = tt; routines = go }
     go (suc f) r e = absurd cc
 
 -- its adt has a layout
-notes_laid : AdtsAreLaid notes.adts
+pub notes_laid : AdtsAreLaid notes.adts
 notes_laid zero d e = (
   in_order (reference ∷ reference ∷ []),
   of_adt 0 note (reference ∷ reference ∷ []) refl
@@ -159,7 +164,7 @@ notes_named zero d t e h =
     ]
 notes_named (suc n) d t e h = absurd cc
 
-notes_sound : IsSound notes
+pub notes_sound : IsSound notes
 notes_sound = record {
   adts = notes_named;
   modules = refl;
@@ -173,7 +178,7 @@ notes_sound = record {
 }
 
 -- Its function takes what `init` takes.
-notes_words : (r : Routine) → slice_get (program_of notes).routines 0 ≡ Some r → TakesWords r
+pub notes_words : (r : Routine) → slice_get (program_of notes).routines 0 ≡ Some r → TakesWords r
 notes_words r e =
     let same : routine_of main ≡ r = cc in
     subst TakesWords same (record { adt = 0; more = ty.Chars ∷ ints ∷ marks ∷ RefAdt 0 ∷ []; variables = refl })
@@ -182,4 +187,26 @@ notes_words r e =
 pub notes_keep_types : (ws : List (List ℕ)) → WordsAre ws → (turns : List Turn) (c : Meaning) → MeaningRun notes ws 0 turns c
     → IsTyped (outline_of notes) c
 notes_keep_types ws are turns c run =
-    modules_keep_types.runs notes notes_sound notes_laid notes_written ws are 0 turns c run (notes_words run.first run.there)
+    modules_keep_types.runs Anything notes notes_sound notes_laid notes_written (modules_keep_types.anything notes) ws are 0 turns c run
+    (notes_words run.first run.there)
+
+-- ---- and nothing that it stores leads back, which is kept too
+
+pub notes_never_back : StoresAllowed NeverBack notes
+notes_never_back = (search rules, tt)
+
+notes_keep_stores : (ws : List (List ℕ)) → WordsAre ws → (turns : List Turn) (c : Meaning) → MeaningRun notes ws 0 turns c
+    → IsTyped (outline_with NeverBack notes) c
+notes_keep_stores ws are turns c run =
+    modules_keep_types.runs NeverBack notes notes_sound notes_laid notes_written notes_never_back ws are 0 turns c run
+    (notes_words run.first run.there)
+
+-- Where an adt has a `ref` of itself, a store there leads back: it is refused, and only where it is asked.
+abbrev link : Place
+link = field (Adt 0) (read (var (RefAdt 0) 0)) (RefAdt 0) 0
+
+link_leads_back : (defs : List Def) (e : Expr) → StoresWell NeverBack defs (typed.Assign (typed.ToPlace link) e) → ⊥
+link_leads_back defs e h = h.places link refl (RefAdt 0) refl (reaches_itself (RefAdt 0) (RefAdt 0) refl)
+
+link_is_anything : (defs : List Def) (e : Expr) → StoresWell Anything defs (typed.Assign (typed.ToPlace link) e)
+link_is_anything defs e = search rules

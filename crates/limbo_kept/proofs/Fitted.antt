@@ -17,7 +17,7 @@ use Rattle.limbo_meaning.specs.Values.{text_of, name_of, part_of, parts_of, arra
 use Rattle.limbo_meaning.specs.Places.{value_part}
 use Rattle.core_code.specs.Whole.{with_parts}
 use Rattle.core_code.proofs.Whole.{values_are_whole}
-use Rattle.limbo_kept.specs.Values.{Standing, Items, Cells, Adts, Channels, Instances, Store, AreCharacters, IsText}
+use Rattle.limbo_kept.specs.Values.{Standing, Items, Cells, Adts, Channels, Store, AreCharacters, IsText}
 use Rattle.limbo_kept.specs.Values.{Refers, IsReferenceTo, IsPartOf, IsAlone, IsOf, is_alone, of_tuple, of_adt, AllAreOf, none_of, more_of}
 use Rattle.limbo_kept.specs.Values.{Fits, AllFit, EachIsOf}
 use Rattle.limbo_kept.specs.Stores.{Grows}
@@ -115,7 +115,7 @@ module _ (defs : List Def) (store : Store) where
   zero_alone (ty.Adt n) r e = absurd cc
   zero_alone (ty.RefAdt n) r e = tt
   zero_alone (ty.RefPick n k) r e = tt
-  zero_alone (ty.Module n) r e = tt
+  zero_alone (ty.Module n) r e = refl
 
   mutual
     zero_is : (t : Ty) (r : Room) → Laid defs t r → Fits defs store t nothing
@@ -151,7 +151,7 @@ module _ (defs : List Def) (store : Store) where
   again_alone (ty.Adt n) v a = absurd a
   again_alone (ty.RefAdt n) v a = name_kept store (Adts n) v a
   again_alone (ty.RefPick n k) v a = name_kept store (Adts n) v a
-  again_alone (ty.Module n) v a = name_kept store Instances v a
+  again_alone (ty.Module n) v a = ap (λ (x : Value). Ref (name_of x)) a
 
   -- the parts of a whole value, brought to their types
   whole_parts : (ts : List Ty) (v : Value) (vs : List Value) → v ≡ Parts (row vs)
@@ -205,7 +205,6 @@ module _ (defs : List Def) (store : Store) where
   RefersTo (ty.ChanOf t) s = s ≡ Channels t
   RefersTo (ty.RefAdt n) s = s ≡ Adts n
   RefersTo (ty.RefPick n k) s = s ≡ Adts n
-  RefersTo (ty.Module n) s = s ≡ Instances
   RefersTo _ s = ⊥
 
   pub reference_fits : (t : Ty) (s : Standing) (v : Value) → RefersTo t s → Refers store s (name_of v) → Fits defs store t v
@@ -217,8 +216,6 @@ module _ (defs : List Def) (store : Store) where
       is_alone (ty.RefAdt n) (Ref (name_of v)) (subst (λ (x : Standing). Refers store x (name_of v)) e a)
   reference_fits (ty.RefPick n k) s v e a =
       is_alone (ty.RefPick n k) (Ref (name_of v)) (subst (λ (x : Standing). Refers store x (name_of v)) e a)
-  reference_fits (ty.Module n) s v e a =
-      is_alone (ty.Module n) (Ref (name_of v)) (subst (λ (x : Standing). Refers store x (name_of v)) e a)
   reference_fits _ s v e a = absurd e
 
   pub named_by : (t : Ty) (s : Standing) (v : Value) → RefersTo t s → Fits defs store t v → Refers store s (name_of v)
@@ -227,7 +224,6 @@ module _ (defs : List Def) (store : Store) where
   named_by (ty.RefAdt n) s v e f = subst (λ (x : Standing). Refers store x (name_of v)) (sym e) (inside (ty.RefAdt n) (Ref (name_of v)) f)
   named_by (ty.RefPick n k) s v e f =
       subst (λ (x : Standing). Refers store x (name_of v)) (sym e) (inside (ty.RefPick n k) (Ref (name_of v)) f)
-  named_by (ty.Module n) s v e f = subst (λ (x : Standing). Refers store x (name_of v)) (sym e) (inside (ty.Module n) (Ref (name_of v)) f)
   named_by _ s v e f = absurd e
 
   pub part_fits : (t : Ty) (v : Value) → Refers store (Items t) (array_named (part_of v)) → Fits defs store (ty.ArrayOf t) v
@@ -365,7 +361,7 @@ module _ (defs : List Def) (store later : Store) (grows : Grows store later) whe
   alone_later (ty.Adt n) v a = absurd a
   alone_later (ty.RefAdt n) v a = reference_later (Adts n) v a
   alone_later (ty.RefPick n k) v a = reference_later (Adts n) v a
-  alone_later (ty.Module n) v a = reference_later Instances v a
+  alone_later (ty.Module n) v a = a
 
   mutual
     pub is_later : (t : Ty) (v : Value) → IsOf defs store t v → IsOf defs later t v

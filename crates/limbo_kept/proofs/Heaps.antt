@@ -26,7 +26,7 @@ last_says [] s (suc n) e = absurd (omega (arith, e))
 last_says (x ∷ store) s zero e = absurd (omega (arith, e))
 last_says (x ∷ store) s (suc n) e = last_says store s n (omega arith)
 
-at_more : (h : Heap HeapValue) (u : HeapValue) (n : ℕ) (v : HeapValue) → at (h ++ Some u ∷ []) n ≡ Some v
+pub at_more : (h : Heap HeapValue) (u : HeapValue) (n : ℕ) (v : HeapValue) → at (h ++ Some u ∷ []) n ≡ Some v
     → (at h n ≡ Some v) ⊎ ((length h ≡ n) × (u ≡ v))
 at_more [] u zero v e = inr (refl, cc)
 at_more [] u (suc n) v e = absurd cc

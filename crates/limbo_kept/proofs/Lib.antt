@@ -8,5 +8,6 @@ pub mod Carrying
 pub mod Evaluating
 pub mod Processes
 pub mod Modules
+pub mod Storing
 pub mod Opening
-mod Examples
+pub mod Examples

@@ -15,16 +15,19 @@ use Rattle.limbo_typed.specs.declared.print.Printed.TheVariants as printed
 use Rattle.limbo_typed.specs.declared.print.Hole.TheVariants as hole
 use Rattle.limbo_typed.specs.declared.print.Piece.{Piece}
 use Rattle.limbo_typed.specs.declared.print.Piece.TheVariants as piece
-use Rattle.limbo_typed.specs.Fitting.{Stands, Gives, HasPart}
+use Rattle.limbo_typed.specs.Fitting.{Stands, Gives, HasPart, IsRefOf}
 use Rattle.limbo_typed.specs.Sound as sound
 use Rattle.limbo_typed.specs.Sound.{IsNamed, HasVariable, SoundExpr, SoundNode, SoundExprs, SoundInt, SoundOptional, SoundItems}
 use Rattle.limbo_typed.specs.Sound.{SoundPlaceNode}
 use Rattle.limbo_typed.specs.Sound.{SoundPattern, SoundPatterns, SoundStmt, SoundStmts, SoundDeclared, SoundCondition, SoundOption}
 use Rattle.limbo_typed.specs.Sound.{SoundFunction, Each, type_of, types_of, type_at, holes, type_of_hole}
 use Rattle.limbo_typed.specs.Typed as typed
-use Rattle.limbo_typed.specs.Typed.{Expr, Of, Exprs, NoExprs, MoreExprs, Optional, Absent, Present, PlaceNode, At, Pattern, Patterns, Stmt}
-use Rattle.limbo_typed.specs.Typed.{Stmts}
-use Rattle.limbo_typed.specs.Typed.{Var, Module}
+use Rattle.limbo_typed.specs.Typed.{Expr, Of, Exprs, NoExprs, MoreExprs, Optional, Absent, Present, Place, PlaceNode, At, Pattern, Patterns}
+use Rattle.limbo_typed.specs.Typed.{Stmt, Stmts, Var, Module}
+use Rattle.limbo_adts.specs.Reaches.{plain}
+use Rattle.limbo_stores.specs.Stores as stores
+use Rattle.limbo_stores.specs.Stores.{HasPlace, SomeHasPlace}
+use Rattle.limbo_stores.proofs.Reaching.{reaches_alike}
 use Rattle.limbo_meaning.specs.Values.{Num, nothing}
 use Rattle.limbo_meaning.specs.Places.{Root, Way, Local, Global, Element, Target, operands_of, count_of}
 use Rattle.limbo_meaning.specs.Operations.{item_of}
@@ -39,11 +42,14 @@ use Rattle.limbo_meaning.specs.Program.{is_load, evaluated, optional, local, dec
 use Rattle.limbo_meaning.specs.Program.{program_of}
 use Rattle.limbo_kept.specs.Operating.{HasRoom}
 use Rattle.limbo_kept.specs.Places.{Leads, Ends}
+use Rattle.limbo_kept.specs.Permitting.{Stores, Anything, NeverBack, MayStore, MayWrite}
+use Rattle.limbo_kept.specs.Nodes.{AllNodes, InEach, InOptional, InItems, InPlaceNode, InPattern, InPatterns, InOption, InStmt, InStmts}
+use Rattle.limbo_kept.specs.Storing.{StoresWell, StoresAllowed}
 use Rattle.limbo_kept.specs.Trees.{Signature, Scope, BeginsAt, WayIs, AimsAre, DeclaresAll, AreTold, WorkIs, TermIs, TermsAre, ItemsAre}
 use Rattle.limbo_kept.specs.Trees.{RestIs}
 use Rattle.limbo_kept.specs.Processes.{TermIfAny, TestIs, StmIs, BlockIs, scope_of, AllHaveRooms, RoutineIs, ProgramIs}
 use Rattle.limbo_kept.specs.Modules.{PiecesWritten, Written, AllWritten, ItemsWritten, WrittenIf, StmWritten, BlockWritten}
-use Rattle.limbo_kept.specs.Modules.{TextsAreWritten, AdtsAreLaid, signature_of, outline_of}
+use Rattle.limbo_kept.specs.Modules.{TextsAreWritten, AdtsAreLaid, signature_of, outline_with}
 use Rattle.limbo_kept.proofs.Fitted.{int_fits}
 
 -- ---- lists
@@ -231,13 +237,31 @@ aims_both s [] ys us v h k = k
 aims_both s (a ∷ xs) ys us v h k = (
   h.0,
   h.1,
-  aims_both s xs ys (drop (operands_of a.way) us) v h.2
+  h.2,
+  aims_both s xs ys (drop (operands_of a.way) us) v h.3
       (subst (λ (ts : List Ty). AimsAre s ys ts v) (drop_more (operands_of a.way) (operands_for xs) us) k),
 )
 
-module _ (m : Module) (laid : AdtsAreLaid m.adts) (variables : List Var) where
+-- ---- what may be stored
+
+ref_plain : (r : Ty) (n : ℕ) → IsRefOf n r → plain (ty.RefAdt n) ≡ plain r
+ref_plain (ty.RefAdt m) n e = ap ty.RefAdt (sym e)
+ref_plain (ty.RefPick m v) n e = ap ty.RefAdt (sym e)
+ref_plain _ n e = absurd e
+
+-- what may be stored into an object may be stored into one of the same type, but for variants
+may_alike : (r : Stores) (defs : List Def) (object held part : Ty) → plain object ≡ plain held → MayStore r defs held part
+    → MayStore r defs object part
+may_alike Anything defs object held part e h = tt
+may_alike NeverBack defs object held part e h = λ reach. h (reaches_alike defs part object held reach e)
+
+module _ (r : Stores) (m : Module) (laid : AdtsAreLaid m.adts) (variables : List Var) where
   abbrev scope : Scope
-  scope = scope_of (outline_of m) (map (λ (v : Var). v.ty) variables)
+  scope = scope_of (outline_with r m) (map (λ (v : Var). v.ty) variables)
+
+  -- the nodes in a tree store what may be stored
+  abbrev Well : typed.Node → Type 0
+  Well n = StoresWell r m.adts n
 
   pub room : (t : Ty) → IsNamed m t → HasRoom m.adts t
   room t h = room_of m.adts laid (length m.interfaces) t h.0
@@ -261,7 +285,7 @@ module _ (m : Module) (laid : AdtsAreLaid m.adts) (variables : List Var) where
   text_ends true i u c e = absurd (let f : u ≡ ty.Int = e.1 in cc)
   text_ends false i u c e = (refl, e ∙ c)
 
-  target_way : (t : Ty) (e : Expr) → IsNamed m t → sound.IsTarget (type_of e) t
+  abbrev target_way : (t : Ty) (e : Expr) → IsNamed m t → sound.IsTarget (type_of e) t
       → WayIs scope (record { root = Target; parts = []; character = false }) (type_of e ∷ []) t
   target_way (ty.Adt n) e h g = record {
     root = ty.Adt n;
@@ -273,7 +297,7 @@ module _ (m : Module) (laid : AdtsAreLaid m.adts) (variables : List Var) where
   }
   target_way _ e h g = absurd g
 
-  place_way : (t : Ty) (p : PlaceNode) → IsNamed m t → SoundPlaceNode m variables t p → WayIs scope (way_of p) (place_types p) t
+  abbrev place_way : (t : Ty) (p : PlaceNode) → IsNamed m t → SoundPlaceNode m variables t p → WayIs scope (way_of p) (place_types p) t
   place_way t (typed.Local x) h s = record {
     root = t;
     room = room t h;
@@ -320,6 +344,28 @@ module _ (m : Module) (laid : AdtsAreLaid m.adts) (variables : List Var) where
       }
   place_way t (typed.Target e) h s = target_way t e h s.1
 
+  -- what may be stored into the object that holds a place may be written there
+  abbrev IntoHolder : PlaceNode → Ty → Type 0
+  IntoHolder p part = (object : Ty) → stores.holder_of p ≡ Some object → MayStore r m.adts object part
+
+  target_may : (t : Ty) (e : Expr) (h : IsNamed m t) (g : sound.IsTarget (type_of e) t) (part : Ty) → MayStore r m.adts (type_of e) part
+      → MayWrite r m.adts Target (target_way t e h g).root part
+  target_may (ty.Adt n) e h g part may object held =
+      let same : ty.RefAdt n ≡ object = let f : Some (ty.RefAdt n) ≡ Some object = held in cc in
+      may_alike r m.adts object (type_of e) part (sym (ap plain same) ∙ ref_plain (type_of e) n g) may
+  target_may _ e h g part may object held = absurd g
+
+  place_may : (t : Ty) (p : PlaceNode) (h : IsNamed m t) (s : SoundPlaceNode m variables t p) (part : Ty) → IntoHolder p part
+      → MayWrite r m.adts (way_of p).root (place_way t p h s).root part
+  place_may t (typed.Local x) h s part may object held = absurd cc
+  place_may t (typed.Global x) h s part may object held = absurd cc
+  place_may t (typed.Field (At u p) n) h s part may object held = place_may u p s.0.0 s.0.1 part may object held
+  place_may t (typed.Element a i) h s part may object held =
+      let same : ty.ArrayOf t ≡ object = let f : Some (ty.ArrayOf t) ≡ Some object = held in cc in
+      subst (λ (x : Ty). MayStore r m.adts x part) (s.2 ∙ same) (may (type_of a) refl)
+  place_may t (typed.Character (At u p) i) h s part may object held = place_may u p s.0.0 s.0.1 part may object held
+  place_may t (typed.Target e) h s part may object held = target_may t e h s.1 part (may (type_of e) refl) object held
+
   -- how many operands a place has
   places_count : (t : Ty) (p : PlaceNode) → SoundPlaceNode m variables t p → IsNamed m t → length (place_types p) ≡ operands_of (way_of p)
   places_count t (typed.Local x) s h = refl
@@ -365,27 +411,30 @@ module _ (m : Module) (laid : AdtsAreLaid m.adts) (variables : List Var) where
   parts_next all k t ts h j u e =
       subst (λ (n : ℕ). slice_get all n ≡ Some u) (let f : k + suc j ≡ suc k + j = omega arith in f) (h (suc j) u e)
 
+  -- into each of these places what is of its type may be stored
+  abbrev IntoAll : (Place → Type 0) → Type 0
+  IntoAll Here = (p : Place) → Here p → (object : Ty) → stores.holder p ≡ Some object → MayStore r m.adts object (type_at p)
+
   mutual
     pattern_aims : (p : Pattern) (t v : Ty) (ns : List ℕ) (more : List Ty) → SoundPattern m variables p t → Leads m.adts v ns t
-        → AimsAre scope (aims_in ns p) (pattern_types p ++ more) v
-    pattern_aims (typed.ToPlace (At u p)) t v ns more s l =
-        let k = places_count u p s.0.1 s.0.0 in (
-          subst (λ (ts : List Ty). WayIs scope (way_of p) ts u) (sym (take_front (place_types p) more (operands_of (way_of p)) k))
-              (place_way u p s.0.0 s.0.1),
-          (t, l, s.1),
-          tt,
-        )
-    pattern_aims typed.ToNothing t v ns more s l = tt
-    pattern_aims (typed.ToParts ps) t v ns more s l =
+        → IntoAll (HasPlace p) → AimsAre scope (aims_in ns p) (pattern_types p ++ more) v
+    pattern_aims (typed.ToPlace (At u p)) t v ns more s l may =
+        let k = places_count u p s.0.1 s.0.0 in
+        let w = subst (λ (ts : List Ty). (is : WayIs scope (way_of p) ts u) × MayWrite r m.adts (way_of p).root is.root u)
+        (sym (take_front (place_types p) more (operands_of (way_of p)) k))
+        (place_way u p s.0.0 s.0.1, place_may u p s.0.0 s.0.1 u (may (At u p) refl)) in
+        (w.0, w.1, (t, l, s.1), tt)
+    pattern_aims typed.ToNothing t v ns more s l may = tt
+    pattern_aims (typed.ToParts ps) t v ns more s l may =
         patterns_aims ps s.0 v ns 0 (listed s.0) more s.2 (subst (λ (x : Ty). Leads m.adts v ns x) s.1 l)
-        (λ j u e. subst (λ (n : ℕ). slice_get (listed s.0) n ≡ Some u) (let f : j ≡ 0 + j = omega arith in f) e)
+        (λ j u e. subst (λ (n : ℕ). slice_get (listed s.0) n ≡ Some u) (let f : j ≡ 0 + j = omega arith in f) e) may
 
     patterns_aims : (ps : Patterns) (all : Tys) (v : Ty) (ns : List ℕ) (k : ℕ) (ts more : List Ty) → SoundPatterns m variables ps ts
-        → Leads m.adts v ns (ty.Tuple all) → Parts_from (listed all) k ts
+        → Leads m.adts v ns (ty.Tuple all) → Parts_from (listed all) k ts → IntoAll (SomeHasPlace ps)
         → AimsAre scope (aims_among ns k ps) (patterns_types ps ++ more) v
-    patterns_aims typed.NoPatterns all v ns k ts more s l h = tt
-    patterns_aims (typed.MorePatterns p ps) all v ns k [] more s l h = absurd s
-    patterns_aims (typed.MorePatterns p ps) all v ns k (t ∷ ts) more s l h =
+    patterns_aims typed.NoPatterns all v ns k ts more s l h may = tt
+    patterns_aims (typed.MorePatterns p ps) all v ns k [] more s l h may = absurd s
+    patterns_aims (typed.MorePatterns p ps) all v ns k (t ∷ ts) more s l h may =
         let there : slice_get (listed all) k ≡ Some t =
         subst (λ (n : ℕ). slice_get (listed all) n ≡ Some t) (let f : k + 0 ≡ k = omega arith in f) (h 0 t refl) in
         let xs = aims_in (ns ++ k ∷ []) p in
@@ -393,10 +442,11 @@ module _ (m : Module) (laid : AdtsAreLaid m.adts) (variables : List Var) where
         let e = pattern_count p t (ns ++ k ∷ []) s.0 in
         subst (λ (us : List Ty). AimsAre scope (xs ++ ys) us v) (sym (append_assoc (pattern_types p) (patterns_types ps) more))
         (aims_both scope xs ys (pattern_types p ++ (patterns_types ps ++ more)) v
-        (pattern_aims p t v (ns ++ k ∷ []) (patterns_types ps ++ more) s.0 (leads_more scope ns v (ty.Tuple all) k t l there))
+        (pattern_aims p t v (ns ++ k ∷ []) (patterns_types ps ++ more) s.0 (leads_more scope ns v (ty.Tuple all) k t l there)
+        (λ x here. may x (inl here)))
         (subst (λ (us : List Ty). AimsAre scope ys us v)
         (sym (drop_front (pattern_types p) (patterns_types ps ++ more) (operands_for xs) e))
-        (patterns_aims ps all v ns (suc k) ts more s.1 l (parts_next (listed all) k t ts h))))
+        (patterns_aims ps all v ns (suc k) ts more s.1 l (parts_next (listed all) k t ts h) (λ x here. may x (inr here)))))
 
   -- ---- expressions
 
@@ -446,150 +496,162 @@ module _ (m : Module) (laid : AdtsAreLaid m.adts) (variables : List Var) where
 
   mutual
     node_is : (t : Ty) (n : typed.Node) (u : Ty) → IsNamed m t → SoundNode m variables t n → Stands t u → Written (node_of t n)
-        → Is scope (node_of t n) u
-    node_is t (typed.Number n) u h s st w = ([], tt, inl (s, tt, room t h, st))
-    node_is t (typed.Chars x) u h s st w = ([], tt, inl (s, w.0, room t h, st))
-    node_is t typed.Nil u h s st w = ([], tt, inl (room t h, st))
-    node_is t (typed.Read (At v p)) u h s st w = (
+        → AllNodes Well (Of t n) → Is scope (node_of t n) u
+    node_is t (typed.Number n) u h s st w q = ([], tt, inl (s, tt, room t h, st))
+    node_is t (typed.Chars x) u h s st w q = ([], tt, inl (s, w.0, room t h, st))
+    node_is t typed.Nil u h s st w q = ([], tt, inl (room t h, st))
+    node_is t (typed.Read (At v p)) u h s st w q = (
       place_types p,
-      place_operands v p s.0.1 w.1,
+      place_operands v p s.0.1 w.1 q.1,
       inl (place_way v p s.0.0 s.0.1, room v s.0.0, subst (λ (x : Ty). Stands x u) (sym s.1) st),
     )
-    node_is t (typed.Part (Of v e) n) u h s st w =
-        (v ∷ [], (node_is v e v s.0.0 s.0.1 (inl refl) w.1.0, tt), inl (v, refl, room v s.0.0, s.1, st))
-    node_is t (typed.Apply o es) u h s st w = (types_of es, exprs_are es s.0 w.1, inl (work_of o t (types_of es) u h s.1 st))
-    node_is t (typed.Lazy c (Of v l) (Of x r)) u h s st w = (
-      int_is v (node_of v l) s.0.0 (node_is v l v (int_named v s.0.0) s.0.1 (inl refl) w.0),
-      int_is x (node_of x r) s.1.0 (node_is x r x (int_named x s.1.0) s.1.1 (inl refl) w.1),
+    node_is t (typed.Part (Of v e) n) u h s st w q =
+        (v ∷ [], (node_is v e v s.0.0 s.0.1 (inl refl) w.1.0 q.1, tt), inl (v, refl, room v s.0.0, s.1, st))
+    node_is t (typed.Apply o es) u h s st w q = (types_of es, exprs_are es s.0 w.1 q.1, inl (work_of o t (types_of es) u h s.1 st))
+    node_is t (typed.Lazy c (Of v l) (Of x r)) u h s st w q = (
+      int_is v (node_of v l) s.0.0 (node_is v l v (int_named v s.0.0) s.0.1 (inl refl) w.0 q.1.0),
+      int_is x (node_of x r) s.1.0 (node_is x r x (int_named x s.1.0) s.1.1 (inl refl) w.1 q.1.1),
       subst (λ (y : Ty). Stands y u) s.2 st,
     )
-    node_is t (typed.Assign p (Of v n)) u h s st w =
+    node_is t (typed.Assign p (Of v n)) u h s st w q =
         let us = pattern_types p in (
           us ++ v ∷ [],
           before_is scope (operands_to p) (only_term (node_of v n)) us (v ∷ [])
-              (pattern_operands p v s.1 (written_front (operands_to p) (only_term (node_of v n)) w.1))
-              (node_is v n v s.0.0 s.0.1 (inl refl) (written_back (operands_to p) (only_term (node_of v n)) w.1).0, tt),
+              (pattern_operands p v s.1 (written_front (operands_to p) (only_term (node_of v n)) w.1) q.1.0)
+              (node_is v n v s.0.0 s.0.1 (inl refl) (written_back (operands_to p) (only_term (node_of v n)) w.1).0 q.1.1, tt),
           inl (
             v,
             there_behind us v (operands_for (aims_in [] p)) (pattern_count p v [] s.1),
             room v s.0.0,
-            pattern_aims p v v [] (v ∷ []) s.1 refl,
+            pattern_aims p v v [] (v ∷ []) s.1 refl (λ x here. q.0.places x here),
             stands_on v t u s.2 st,
           ),
         )
-    node_is t (typed.Update o (At v p) (Of x e)) u h s st w = (
+    node_is t (typed.Update o (At v p) (Of x e)) u h s st w q = (
       place_types p,
       x ∷ [],
-      place_operands v p s.0.1 w.0,
-      (node_is x e x s.1.0 s.1.1 (inl refl) w.1.0, tt),
+      place_operands v p s.0.1 w.0 q.1.0,
+      (node_is x e x s.1.0 s.1.1 (inl refl) w.1.0 q.1.1, tt),
       place_way v p s.0.0 s.0.1,
+      place_may v p s.0.0 s.0.1 v (q.0.places (At v p) refl),
       s.2,
       room v s.0.0,
       item_room v s.0.0,
       subst (λ (y : Ty). Stands y u) (sym s.3) st,
     )
-    node_is t (typed.Step o g (At v p)) u h s st w = (
+    node_is t (typed.Step o g (At v p)) u h s st w q = (
       place_types p,
       [],
-      place_operands v p s.0.1 w.0,
+      place_operands v p s.0.1 w.0 q.1,
       tt,
       place_way v p s.0.0 s.0.1,
+      place_may v p s.0.0 s.0.1 v (q.0.places (At v p) refl),
       s.1,
       room v s.0.0,
       item_room v s.0.0,
       subst (λ (y : Ty). Stands y u) (sym s.2) st,
     )
-    node_is t (typed.Copy (Of a e) (Of i f) (Of b g)) u h s st w =
+    node_is t (typed.Copy (Of a e) (Of i f) (Of b g)) u h s st w q =
         let array = array_of t s.3 in (
           a ∷ ty.Int ∷ b ∷ [],
           (
-            node_is a e a s.0.0 s.0.1 (inl refl) w.1.0,
+            node_is a e a s.0.0 s.0.1 (inl refl) w.1.0 q.1.0,
             (
-              int_is i (node_of i f) s.1.0 (node_is i f i (int_named i s.1.0) s.1.1 (inl refl) w.1.1.0),
-              (node_is b g b s.2.0 s.2.1 (inl refl) w.1.1.1.0, tt),
+              int_is i (node_of i f) s.1.0 (node_is i f i (int_named i s.1.0) s.1.1 (inl refl) w.1.1.0 q.1.1),
+              (node_is b g b s.2.0 s.2.1 (inl refl) w.1.1.1.0 q.1.2, tt),
             ),
           ),
-          inl (item_of t, ap Some (s.4 ∙ array), ap Some (s.5 ∙ array), subst (λ (y : Ty). Stands y u) array st),
+          inl (
+            item_of t,
+            ap Some (s.4 ∙ array),
+            ap Some (s.5 ∙ array),
+            q.0.copies (item_of t) (s.4 ∙ array),
+            subst (λ (y : Ty). Stands y u) array st,
+          ),
         )
-    node_is t (typed.Filled l is rest) u h s st w =
+    node_is t (typed.Filled l is rest) u h s st w q =
         let e : s.0 ≡ item_of t = sym (ap item_of s.1) in (
           item_room t h,
-          length_is l is s.2 w.0,
-          subst (ItemsAre scope [] None (items_of is)) e (items_are is s.0 s.3 w.1),
-          subst (RestIs scope [] (terms_if rest)) e (rest_is rest s.0 s.4 w.2),
+          length_is l is s.2 w.0 q.1.0,
+          subst (ItemsAre scope [] None (items_of is)) e (items_are is s.0 s.3 w.1 q.1.1),
+          subst (RestIs scope [] (terms_if rest)) e (rest_is rest s.0 s.4 w.2 q.1.2),
           subst (λ (y : Ty). Stands y u) (s.1 ∙ ap ty.ArrayOf e) st,
         )
-    node_is t (typed.Channel Absent) u h s st w = let c = channel_of t s.0 in ([], tt, inl (c.0, c.1, st))
-    node_is t (typed.Call f es) u h s st w = (types_of es, exprs_are es s.0 w.1, inl (function_there f (types_of es) t u s.1 st))
-    node_is t (typed.Print printed.Print e Absent ps es) u h s st w =
-        (map told_as (types_of es), prints_are es s.3 w.1, inl (subst (λ (y : Ty). Stands y u) s.5 st))
-    node_is t (typed.Print printed.Sprint e Absent ps es) u h s st w =
-        (map told_as (types_of es), prints_are es s.3 w.1, inl (told_are ps (types_of es) s.4 w.0, s.5, st))
-    node_is t (typed.Print printed.Fprint e Absent ps es) u h s st w = tt
-    node_is t (typed.Print which e (Present x) ps es) u h s st w = tt
-    node_is t typed.OpenNil u h s st w = tt
-    node_is t (typed.Channel (Present x)) u h s st w = tt
-    node_is t (typed.CallThrough e n f es) u h s st w = tt
-    node_is t (typed.Load n e) u h s st w = tt
-    node_is t (typed.Send c e) u h s st w = tt
-    node_is t (typed.Receive c) u h s st w = tt
+    node_is t (typed.Channel Absent) u h s st w q = let c = channel_of t s.0 in ([], tt, inl (c.0, c.1, st))
+    node_is t (typed.Call f es) u h s st w q = (types_of es, exprs_are es s.0 w.1 q.1, inl (function_there f (types_of es) t u s.1 st))
+    node_is t (typed.Print printed.Print e Absent ps es) u h s st w q =
+        (map told_as (types_of es), prints_are es s.3 w.1 q.1.2, inl (subst (λ (y : Ty). Stands y u) s.5 st))
+    node_is t (typed.Print printed.Sprint e Absent ps es) u h s st w q =
+        (map told_as (types_of es), prints_are es s.3 w.1 q.1.2, inl (told_are ps (types_of es) s.4 w.0, s.5, st))
+    node_is t (typed.Print printed.Fprint e Absent ps es) u h s st w q = tt
+    node_is t (typed.Print which e (Present x) ps es) u h s st w q = tt
+    node_is t typed.OpenNil u h s st w q = tt
+    node_is t (typed.Channel (Present x)) u h s st w q = tt
+    node_is t (typed.CallThrough e n f es) u h s st w q = tt
+    node_is t (typed.Load n e) u h s st w q = tt
+    node_is t (typed.Send c e) u h s st w q = tt
+    node_is t (typed.Receive c) u h s st w q = tt
 
-    exprs_are : (es : Exprs) → SoundExprs m variables es → AllWritten (terms_of es) → AreAll scope (terms_of es) (types_of es)
-    exprs_are NoExprs s w = tt
-    exprs_are (MoreExprs (Of t n) es) s w = (node_is t n t s.0.0 s.0.1 (inl refl) w.0, exprs_are es s.1 w.1)
+    exprs_are : (es : Exprs) → SoundExprs m variables es → AllWritten (terms_of es) → InEach Well es
+        → AreAll scope (terms_of es) (types_of es)
+    exprs_are NoExprs s w q = tt
+    exprs_are (MoreExprs (Of t n) es) s w q = (node_is t n t s.0.0 s.0.1 (inl refl) w.0 q.0, exprs_are es s.1 w.1 q.1)
 
-    prints_are : (es : Exprs) → SoundExprs m variables es → AllWritten (printed_of es)
+    prints_are : (es : Exprs) → SoundExprs m variables es → AllWritten (printed_of es) → InEach Well es
         → AreAll scope (printed_of es) (map told_as (types_of es))
-    prints_are NoExprs s w = tt
-    prints_are (MoreExprs (Of t n) es) s w =
-        (told_is t (node_of t n) (node_is t n t s.0.0 s.0.1 (inl refl) (written_told t (node_of t n) w.0)), prints_are es s.1 w.1)
+    prints_are NoExprs s w q = tt
+    prints_are (MoreExprs (Of t n) es) s w q = (
+      told_is t (node_of t n) (node_is t n t s.0.0 s.0.1 (inl refl) (written_told t (node_of t n) w.0) q.0),
+      prints_are es s.1 w.1 q.1,
+    )
 
     length_is : (l : Optional) (is : typed.Items) → SoundOptional m variables l ty.Int → Written (length_term l is)
-        → Is scope (length_term l is) ty.Int
-    length_is Absent is s w = int_fits m.adts [] (Num (pos (long_enough is)))
-    length_is (Present (Of t n)) is s w = node_is t n ty.Int s.0.0 s.0.1 s.1 w
+        → InOptional Well l → Is scope (length_term l is) ty.Int
+    length_is Absent is s w q = int_fits m.adts [] (Num (pos (long_enough is)))
+    length_is (Present (Of t n)) is s w q = node_is t n ty.Int s.0.0 s.0.1 s.1 w q
 
-    items_are : (is : typed.Items) (t : Ty) → SoundItems m variables is t → ItemsWritten (items_of is)
+    items_are : (is : typed.Items) (t : Ty) → SoundItems m variables is t → ItemsWritten (items_of is) → InItems Well is
         → ItemsAre scope [] None (items_of is) t
-    items_are typed.NoItems t s w = tt
-    items_are (typed.MoreItems i (Of v n) is) t s w = (node_is v n t s.0.0 s.0.1 s.1 w.0, items_are is t s.2 w.1)
+    items_are typed.NoItems t s w q = tt
+    items_are (typed.MoreItems i (Of v n) is) t s w q = (node_is v n t s.0.0 s.0.1 s.1 w.0 q.0, items_are is t s.2 w.1 q.1)
 
-    rest_is : (e : Optional) (t : Ty) → SoundOptional m variables e t → AllWritten (terms_if e) → RestIs scope [] (terms_if e) t
-    rest_is Absent t s w = tt
-    rest_is (Present (Of v n)) t s w = node_is v n t s.0.0 s.0.1 s.1 w.0
+    rest_is : (e : Optional) (t : Ty) → SoundOptional m variables e t → AllWritten (terms_if e) → InOptional Well e
+        → RestIs scope [] (terms_if e) t
+    rest_is Absent t s w q = tt
+    rest_is (Present (Of v n)) t s w q = node_is v n t s.0.0 s.0.1 s.1 w.0 q
 
     place_operands : (t : Ty) (p : PlaceNode) → SoundPlaceNode m variables t p → AllWritten (operands_at p)
-        → AreAll scope (operands_at p) (place_types p)
-    place_operands t (typed.Local x) s w = tt
-    place_operands t (typed.Global x) s w = tt
-    place_operands t (typed.Field (At v p) n) s w = place_operands v p s.0.1 w
-    place_operands t (typed.Element (Of a e) (Of i f)) s w = (
-      node_is a e a s.0.0 s.0.1 (inl refl) w.0,
-      (int_is i (node_of i f) s.1.0 (node_is i f i (int_named i s.1.0) s.1.1 (inl refl) w.1.0), tt),
+        → InPlaceNode Well p → AreAll scope (operands_at p) (place_types p)
+    place_operands t (typed.Local x) s w q = tt
+    place_operands t (typed.Global x) s w q = tt
+    place_operands t (typed.Field (At v p) n) s w q = place_operands v p s.0.1 w q
+    place_operands t (typed.Element (Of a e) (Of i f)) s w q = (
+      node_is a e a s.0.0 s.0.1 (inl refl) w.0 q.0,
+      (int_is i (node_of i f) s.1.0 (node_is i f i (int_named i s.1.0) s.1.1 (inl refl) w.1.0 q.1), tt),
     )
-    place_operands t (typed.Character (At v p) (Of i f)) s w =
+    place_operands t (typed.Character (At v p) (Of i f)) s w q =
         before_is scope (operands_at p) (only_term (node_of i f)) (place_types p) (ty.Int ∷ [])
-        (place_operands v p s.0.1 (written_front (operands_at p) (only_term (node_of i f)) w)) (
+        (place_operands v p s.0.1 (written_front (operands_at p) (only_term (node_of i f)) w) q.0) (
           int_is i (node_of i f) s.1.0
-              (node_is i f i (int_named i s.1.0) s.1.1 (inl refl) (written_back (operands_at p) (only_term (node_of i f)) w).0),
+              (node_is i f i (int_named i s.1.0) s.1.1 (inl refl) (written_back (operands_at p) (only_term (node_of i f)) w).0 q.1),
           tt,
         )
-    place_operands t (typed.Target (Of v e)) s w = (node_is v e v s.0.0 s.0.1 (inl refl) w.0, tt)
+    place_operands t (typed.Target (Of v e)) s w q = (node_is v e v s.0.0 s.0.1 (inl refl) w.0 q, tt)
 
-    pattern_operands : (p : Pattern) (t : Ty) → SoundPattern m variables p t → AllWritten (operands_to p)
+    pattern_operands : (p : Pattern) (t : Ty) → SoundPattern m variables p t → AllWritten (operands_to p) → InPattern Well p
         → AreAll scope (operands_to p) (pattern_types p)
-    pattern_operands (typed.ToPlace (At v p)) t s w = place_operands v p s.0.1 w
-    pattern_operands typed.ToNothing t s w = tt
-    pattern_operands (typed.ToParts ps) t s w = patterns_operands ps (listed s.0) s.2 w
+    pattern_operands (typed.ToPlace (At v p)) t s w q = place_operands v p s.0.1 w q
+    pattern_operands typed.ToNothing t s w q = tt
+    pattern_operands (typed.ToParts ps) t s w q = patterns_operands ps (listed s.0) s.2 w q
 
     patterns_operands : (ps : Patterns) (ts : List Ty) → SoundPatterns m variables ps ts → AllWritten (operands_among ps)
-        → AreAll scope (operands_among ps) (patterns_types ps)
-    patterns_operands typed.NoPatterns ts s w = tt
-    patterns_operands (typed.MorePatterns p ps) [] s w = absurd s
-    patterns_operands (typed.MorePatterns p ps) (t ∷ ts) s w =
+        → InPatterns Well ps → AreAll scope (operands_among ps) (patterns_types ps)
+    patterns_operands typed.NoPatterns ts s w q = tt
+    patterns_operands (typed.MorePatterns p ps) [] s w q = absurd s
+    patterns_operands (typed.MorePatterns p ps) (t ∷ ts) s w q =
         before_is scope (operands_to p) (operands_among ps) (pattern_types p) (patterns_types ps)
-        (pattern_operands p t s.0 (written_front (operands_to p) (operands_among ps) w))
-        (patterns_operands ps ts s.1 (written_back (operands_to p) (operands_among ps) w))
+        (pattern_operands p t s.0 (written_front (operands_to p) (operands_among ps) w) q.0)
+        (patterns_operands ps ts s.1 (written_back (operands_to p) (operands_among ps) w) q.1)
 
 -- ---- statements
 
@@ -615,15 +677,19 @@ within [] n x e = absurd cc
 within (y ∷ xs) zero x e = omega arith
 within (y ∷ xs) (suc n) x e = let l = within xs n x e in omega arith
 
-module _ (m : Module) (laid : AdtsAreLaid m.adts) (f : typed.Function) (named : Each (λ (v : Var). IsNamed m v.ty) f.variables) where
+module _ (r : Stores) (m : Module) (laid : AdtsAreLaid m.adts) (f : typed.Function)
+    (named : Each (λ (v : Var). IsNamed m v.ty) f.variables) where
   abbrev types : List Ty
   types = types_in f.variables
 
   abbrev here : Scope
-  here = scope m laid f.variables
+  here = scope r m laid f.variables
 
   abbrev gives : Ty
   gives = f.of.answer
+
+  abbrev Fine : typed.Node → Type 0
+  Fine n = StoresWell r m.adts n
 
   abbrev Good : Block → Type 0
   Good b = BlockIs here [] gives None b
@@ -631,7 +697,7 @@ module _ (m : Module) (laid : AdtsAreLaid m.adts) (f : typed.Function) (named : 
   local_way : (x : ℕ) → x < length f.variables → WayIs here (began (Local x)) [] (slice_index_or types x ty.Int)
   local_way x l = let h = some_there m f.variables x l named in record {
     root = slice_index_or types x ty.Int;
-    room = room m laid f.variables (slice_index_or types x ty.Int) h.1;
+    room = room r m laid f.variables (slice_index_or types x ty.Int) h.1;
     begins = h.0;
     inner = slice_index_or types x ty.Int;
     leads = refl;
@@ -645,7 +711,7 @@ module _ (m : Module) (laid : AdtsAreLaid m.adts) (f : typed.Function) (named : 
       local_way x s.0,
       refl,
       refl,
-      room m laid f.variables (slice_index_or types x ty.Int) (some_there m f.variables x s.0 named).1,
+      room r m laid f.variables (slice_index_or types x ty.Int) (some_there m f.variables x s.0 named).1,
     ),
     declares_all xs s.1,
   )
@@ -655,143 +721,152 @@ module _ (m : Module) (laid : AdtsAreLaid m.adts) (f : typed.Function) (named : 
   declared_aims [] t us s = tt
   declared_aims (x ∷ xs) t us s =
       let h = some_there m f.variables x (within f.variables x s.0.1.0 s.0.1.1) named in
-      let g = variable_there m laid f.variables f.variables x s.0.0 s.0.1 in
+      let g = variable_there r m laid f.variables f.variables x s.0.0 s.0.1 in
       let same : s.0.0 ≡ slice_index_or types x ty.Int = let e = h.0 in cc in (
         local_way x (within f.variables x s.0.1.0 s.0.1.1),
+        λ object held. absurd cc,
         (t, refl, subst (λ (u : Ty). Stands t u) same s.0.2),
         declared_aims xs t us s.1,
       )
 
   declared_is : (xs : List ℕ) (e : Option Expr) → SoundDeclared m f.variables xs e
       → Written (Node ty.Int (Assign (map (local types) xs)) (only_term (declared_value types e)))
-      → (t : Ty) × Is here (Node ty.Int (Assign (map (local types) xs)) (only_term (declared_value types e))) t
-  declared_is xs None s w =
+      → InOption Fine e → (t : Ty) × Is here (Node ty.Int (Assign (map (local types) xs)) (only_term (declared_value types e))) t
+  declared_is xs None s w q =
       (ty.Int, (ty.Int ∷ [], (int_fits m.adts [] nothing, tt), inr (refl, declares_all xs s, refl)))
-  declared_is xs (Some (Of t n)) s w = (
+  declared_is xs (Some (Of t n)) s w q = (
     t,
     (
       t ∷ [],
-      (node_is m laid f.variables t n t s.0.0 s.0.1 (inl refl) w.1.0, tt),
+      (node_is r m laid f.variables t n t s.0.0 s.0.1 (inl refl) w.1.0 q, tt),
       inl (
         t,
         subst (λ (k : ℕ). slice_get (t ∷ []) k ≡ Some t) (sym (locals_none types xs)) refl,
-        room m laid f.variables t s.0.0,
+        room r m laid f.variables t s.0.0,
         declared_aims xs t (t ∷ []) s.1,
         inl refl,
       ),
     ),
   )
 
-  eval_is : (t : Ty) (n : typed.Node) → IsNamed m t → SoundNode m f.variables t n → StmWritten (evaluated (Of t n))
-      → StmIs here [] gives None (evaluated (Of t n))
-  eval_is t n h s = elim (load_or n) [
+  eval_is : (t : Ty) (n : typed.Node) → IsNamed m t → SoundNode m f.variables t n → AllNodes Fine (Of t n)
+      → StmWritten (evaluated (Of t n)) → StmIs here [] gives None (evaluated (Of t n))
+  eval_is t n h s q = elim (load_or n) [
     | inl e ↦ subst (λ (o : Option Stm). StmWritten (elim o [ None ↦ Eval (node_of t n) | Some x ↦ x ])
         → StmIs here [] gives None (elim o [ None ↦ Eval (node_of t n) | Some x ↦ x ])) (sym e)
-        (λ w. (t, node_is m laid f.variables t n t h s (inl refl) w))
+        (λ w. (t, node_is r m laid f.variables t n t h s (inl refl) w q))
     | inr e ↦ subst (λ (o : Option Stm). StmWritten (elim o [ None ↦ Eval (node_of t n) | Some x ↦ x ])
         → StmIs here [] gives None (elim o [ None ↦ Eval (node_of t n) | Some x ↦ x ])) (sym e) (λ w. tt)
   ]
 
   -- a condition is an int
-  test_of : (t : Ty) (n : typed.Node) → SoundInt m f.variables (Of t n) → Written (node_of t n) → Is here (node_of t n) ty.Int
-  test_of t n s w =
-      int_is m laid f.variables t (node_of t n) s.0
-      (node_is m laid f.variables t n t (int_named m laid f.variables t s.0) s.1 (inl refl) w)
+  test_of : (t : Ty) (n : typed.Node) → SoundInt m f.variables (Of t n) → Written (node_of t n) → AllNodes Fine (Of t n)
+      → Is here (node_of t n) ty.Int
+  test_of t n s w q =
+      int_is r m laid f.variables t (node_of t n) s.0
+      (node_is r m laid f.variables t n t (int_named r m laid f.variables t s.0) s.1 (inl refl) w q)
 
-  condition_is : (c : Option Expr) → SoundCondition m f.variables c → WrittenIf (optional c) → TestIs here [] gives (optional c)
-  condition_is None s w = tt
-  condition_is (Some (Of t n)) s w = test_of t n s w
+  condition_is : (c : Option Expr) → SoundCondition m f.variables c → WrittenIf (optional c) → InOption Fine c
+      → TestIs here [] gives (optional c)
+  condition_is None s w q = tt
+  condition_is (Some (Of t n)) s w q = test_of t n s w q
 
-  option_is : (c : Option Expr) → SoundOption m f.variables c → WrittenIf (optional c) → TermIfAny here [] gives (optional c)
-  option_is None s w = tt
-  option_is (Some (Of t n)) s w = (t, node_is m laid f.variables t n t s.0 s.1 (inl refl) w)
+  option_is : (c : Option Expr) → SoundOption m f.variables c → InOption Fine c → WrittenIf (optional c)
+      → TermIfAny here [] gives (optional c)
+  option_is None s q w = tt
+  option_is (Some (Of t n)) s q w = (t, node_is r m laid f.variables t n t s.0 s.1 (inl refl) w q)
 
   loop_is : (c : Option Expr) (n : Option Term) (body rest : Block) → BlockWritten (tested (Looping (optional c) n body) rest)
-      → SoundCondition m f.variables c → (WrittenIf n → TermIfAny here [] gives n) → (BlockWritten body → Good body)
+      → SoundCondition m f.variables c → InOption Fine c → (WrittenIf n → TermIfAny here [] gives n) → (BlockWritten body → Good body)
       → (BlockWritten rest → Good rest) → Good (tested (Looping (optional c) n body) rest)
-  loop_is None n body rest w s hn hb hr = ((tt, hn w.0.1, hb w.0.2), hr w.1)
-  loop_is (Some (Of t e)) n body rest w s hn hb hr =
-      ((test_of t e s w.0.0, (test_of t e s w.0.1.0, hn w.0.1.1, hb w.0.1.2)), hr w.1)
+  loop_is None n body rest w s q hn hb hr = ((tt, hn w.0.1, hb w.0.2), hr w.1)
+  loop_is (Some (Of t e)) n body rest w s q hn hb hr =
+      ((test_of t e s w.0.0 q, (test_of t e s w.0.1.0 q, hn w.0.1.1, hb w.0.1.2)), hr w.1)
 
   mutual
-    stmt_is : (around : List Bool) (x : Stmt) (rest : Block) → SoundStmt m f around x → BlockWritten (before types x rest)
+    stmt_is : (around : List Bool) (x : Stmt) (rest : Block) → SoundStmt m f around x → InStmt Fine x → BlockWritten (before types x rest)
         → (BlockWritten rest → Good rest) → Good (before types x rest)
-    stmt_is a typed.Empty rest s w k = (tt, k w.1)
-    stmt_is a (typed.Block ss) rest s w k = stmts_are a ss (Then Over rest) s w (λ q. (tt, k q.1))
-    stmt_is a (typed.Declare xs e) rest s w k = (declared_is xs e s w.0, k w.1)
-    stmt_is a (typed.Eval (Of t n)) rest s w k = (eval_is t n s.0 s.1 w.0, k w.1)
-    stmt_is a (typed.If (Of t c) ss others) rest s w k = (
+    stmt_is a typed.Empty rest s q w k = (tt, k w.1)
+    stmt_is a (typed.Block ss) rest s q w k = stmts_are a ss (Then Over rest) s q w (λ v. (tt, k v.1))
+    stmt_is a (typed.Declare xs e) rest s q w k = (declared_is xs e s w.0 q, k w.1)
+    stmt_is a (typed.Eval (Of t n)) rest s q w k = (eval_is t n s.0 s.1 q w.0, k w.1)
+    stmt_is a (typed.If (Of t c) ss others) rest s q w k = (
       (
-        test_of t c s.0 w.0.0,
-        stmts_are a ss Done s.1 w.0.1 (λ q. tt),
-        stmts_are a others Done s.2 w.0.2 (λ q. tt),
+        test_of t c s.0 w.0.0 q.0,
+        stmts_are a ss Done s.1 q.1 w.0.1 (λ v. tt),
+        stmts_are a others Done s.2 q.2 w.0.2 (λ v. tt),
       ),
       k w.1,
     )
-    stmt_is a (typed.While c ss) rest s w k =
-        loop_is c None (all_before types ss Done) (Then Over rest) w s.0 (λ q. tt)
-        (λ q. stmts_are (true ∷ a) ss Done s.1 q (λ r. tt)) (λ q. (tt, k q.1))
-    stmt_is a (typed.Do ss c) rest s w k =
-        ((condition_is c s.1 w.0.0, tt, stmts_are (true ∷ a) ss Done s.0 w.0.2 (λ q. tt)), (tt, k w.1.1))
-    stmt_is a (typed.For None c n ss) rest s w k =
-        loop_is c (optional n) (all_before types ss Done) (Then Over rest) w s.1 (option_is n s.2)
-        (λ q. stmts_are (true ∷ a) ss Done s.3 q (λ r. tt)) (λ q. (tt, k q.1))
-    stmt_is a (typed.For (Some (Of t e)) c n ss) rest s w k = (
-      eval_is t e s.0.0 s.0.1 w.0,
-      loop_is c (optional n) (all_before types ss Done) (Then Over rest) w.1 s.1 (option_is n s.2)
-          (λ q. stmts_are (true ∷ a) ss Done s.3 q (λ r. tt)) (λ q. (tt, k q.1)),
+    stmt_is a (typed.While c ss) rest s q w k =
+        loop_is c None (all_before types ss Done) (Then Over rest) w s.0 q.0 (λ v. tt)
+        (λ v. stmts_are (true ∷ a) ss Done s.1 q.1 v (λ x. tt)) (λ v. (tt, k v.1))
+    stmt_is a (typed.Do ss c) rest s q w k =
+        ((condition_is c s.1 w.0.0 q.1, tt, stmts_are (true ∷ a) ss Done s.0 q.0 w.0.2 (λ v. tt)), (tt, k w.1.1))
+    stmt_is a (typed.For None c n ss) rest s q w k =
+        loop_is c (optional n) (all_before types ss Done) (Then Over rest) w s.1 q.1 (option_is n s.2 q.2)
+        (λ v. stmts_are (true ∷ a) ss Done s.3 q.3 v (λ x. tt)) (λ v. (tt, k v.1))
+    stmt_is a (typed.For (Some (Of t e)) c n ss) rest s q w k = (
+      eval_is t e s.0.0 s.0.1 q.0 w.0,
+      loop_is c (optional n) (all_before types ss Done) (Then Over rest) w.1 s.1 q.1 (option_is n s.2 q.2)
+          (λ v. stmts_are (true ∷ a) ss Done s.3 q.3 v (λ x. tt)) (λ v. (tt, k v.1)),
     )
-    stmt_is a (typed.Break n) rest s w k = (tt, k w.1)
-    stmt_is a (typed.Continue n) rest s w k = (tt, k w.1)
-    stmt_is a (typed.Return None) rest s w k = (tt, k w.1)
-    stmt_is a (typed.Return (Some (Of t n))) rest s w k =
-        (node_is m laid f.variables t n gives s.0.0 s.0.1 s.1 w.0, k w.1)
-    stmt_is a (typed.Case e heads arms) rest s w k = ((ty.Int, tt), k w.1)
-    stmt_is a (typed.Alt heads arms) rest s w k = ((ty.Int, tt), k w.1)
-    stmt_is a (typed.Pick e heads arms) rest s w k = ((ty.Int, tt), k w.1)
-    stmt_is a typed.Exit rest s w k = ((ty.Int, tt), k w.1)
-    stmt_is a (typed.Spawn e) rest s w k = ((ty.Int, tt), k w.1)
-    stmt_is a (typed.Raise e) rest s w k = ((ty.Int, tt), k w.1)
-    stmt_is a (typed.RaiseDeclared n es) rest s w k = ((ty.Int, tt), k w.1)
-    stmt_is a (typed.RaiseAgain n) rest s w k = ((ty.Int, tt), k w.1)
-    stmt_is a (typed.Handle ss n heads arms) rest s w k = ((ty.Int, tt), k w.1)
+    stmt_is a (typed.Break n) rest s q w k = (tt, k w.1)
+    stmt_is a (typed.Continue n) rest s q w k = (tt, k w.1)
+    stmt_is a (typed.Return None) rest s q w k = (tt, k w.1)
+    stmt_is a (typed.Return (Some (Of t n))) rest s q w k =
+        (node_is r m laid f.variables t n gives s.0.0 s.0.1 s.1 w.0 q, k w.1)
+    stmt_is a (typed.Case e heads arms) rest s q w k = ((ty.Int, tt), k w.1)
+    stmt_is a (typed.Alt heads arms) rest s q w k = ((ty.Int, tt), k w.1)
+    stmt_is a (typed.Pick e heads arms) rest s q w k = ((ty.Int, tt), k w.1)
+    stmt_is a typed.Exit rest s q w k = ((ty.Int, tt), k w.1)
+    stmt_is a (typed.Spawn e) rest s q w k = ((ty.Int, tt), k w.1)
+    stmt_is a (typed.Raise e) rest s q w k = ((ty.Int, tt), k w.1)
+    stmt_is a (typed.RaiseDeclared n es) rest s q w k = ((ty.Int, tt), k w.1)
+    stmt_is a (typed.RaiseAgain n) rest s q w k = ((ty.Int, tt), k w.1)
+    stmt_is a (typed.Handle ss n heads arms) rest s q w k = ((ty.Int, tt), k w.1)
 
-    stmts_are : (around : List Bool) (ss : Stmts) (rest : Block) → SoundStmts m f around ss → BlockWritten (all_before types ss rest)
-        → (BlockWritten rest → Good rest) → Good (all_before types ss rest)
-    stmts_are a typed.NoStmts rest s w k = k w
-    stmts_are a (typed.MoreStmts x ss) rest s w k =
-        stmt_is a x (all_before types ss rest) s.0 w (λ q. stmts_are a ss rest s.1 q k)
+    stmts_are : (around : List Bool) (ss : Stmts) (rest : Block) → SoundStmts m f around ss → InStmts Fine ss
+        → BlockWritten (all_before types ss rest) → (BlockWritten rest → Good rest) → Good (all_before types ss rest)
+    stmts_are a typed.NoStmts rest s q w k = k w
+    stmts_are a (typed.MoreStmts x ss) rest s q w k =
+        stmt_is a x (all_before types ss rest) s.0 q.0 w (λ v. stmts_are a ss rest s.1 q.1 v k)
 
 -- ---- functions
 
-module _ (m : Module) (laid : AdtsAreLaid m.adts) where
+module _ (r : Stores) (m : Module) (laid : AdtsAreLaid m.adts) where
   rooms_all : (vs : List Var) → Each (λ (v : Var). IsNamed m v.ty) vs → AllHaveRooms m.adts (types_in vs)
   rooms_all [] h = tt
-  rooms_all (v ∷ vs) h = (room m laid [] v.ty h.0, rooms_all vs h.1)
+  rooms_all (v ∷ vs) h = (room r m laid [] v.ty h.0, rooms_all vs h.1)
 
-  function_is : (f : typed.Function) → SoundFunction m f → BlockWritten (routine_of f).body
-      → RoutineIs (outline_of m) (signature_of f) (routine_of f)
-  function_is f s w = record {
+  abbrev BodyWell : typed.Function → Type 0
+  BodyWell f = InStmts (StoresWell r m.adts) f.body
+
+  function_is : (f : typed.Function) → SoundFunction m f → BodyWell f → BlockWritten (routine_of f).body
+      → RoutineIs (outline_with r m) (signature_of f) (routine_of f)
+  function_is f s q w = record {
     variables = refl;
     parameters = s.parameters;
     rooms = rooms_all f.variables s.named;
-    answer = room m laid [] f.of.answer s.answer;
-    body = stmts_are m laid f s.named [] f.body Done s.body w (λ q. tt);
+    answer = room r m laid [] f.of.answer s.answer;
+    body = stmts_are r m laid f s.named [] f.body Done s.body q w (λ v. tt);
   }
 
-  functions_are : (fs : List typed.Function) → Each (SoundFunction m) fs → (k : ℕ) (g : Signature) (r : Routine)
-      → slice_get (map signature_of fs) k ≡ Some g → slice_get (map routine_of fs) k ≡ Some r → BlockWritten r.body
-      → RoutineIs (outline_of m) g r
-  functions_are [] s k g r e h w = absurd cc
-  functions_are (f ∷ fs) s zero g r e h w =
+  functions_are : (fs : List typed.Function) → Each (SoundFunction m) fs → Each BodyWell fs → (k : ℕ) (g : Signature) (x : Routine)
+      → slice_get (map signature_of fs) k ≡ Some g → slice_get (map routine_of fs) k ≡ Some x → BlockWritten x.body
+      → RoutineIs (outline_with r m) g x
+  functions_are [] s q k g x e h w = absurd cc
+  functions_are (f ∷ fs) s q zero g x e h w =
       let a : signature_of f ≡ g = cc in
-      let b : routine_of f ≡ r = cc in
-      subst (λ (x : Signature). RoutineIs (outline_of m) x r) a
-      (subst (λ (x : Routine). BlockWritten x.body → RoutineIs (outline_of m) (signature_of f) x) b (λ q. function_is f s.0 q) w)
-  functions_are (f ∷ fs) s (suc k) g r e h w = functions_are fs s.1 k g r e h w
+      let b : routine_of f ≡ x = cc in
+      subst (λ (y : Signature). RoutineIs (outline_with r m) y x) a
+      (subst (λ (y : Routine). BlockWritten y.body → RoutineIs (outline_with r m) (signature_of f) y) b
+      (λ v. function_is f s.0 q.0 v) w)
+  functions_are (f ∷ fs) s q (suc k) g x e h w = functions_are fs s.1 q.1 k g x e h w
 
-pub program_is : (m : Module) → sound.IsSound m → AdtsAreLaid m.adts → TextsAreWritten m → ProgramIs (outline_of m) (program_of m)
-program_is m s laid w = record {
+pub program_is : (r : Stores) (m : Module) → sound.IsSound m → AdtsAreLaid m.adts → TextsAreWritten m → StoresAllowed r m
+    → ProgramIs (outline_with r m) (program_of m)
+program_is r m s laid w q = record {
   adts = refl;
-  routines = λ f g r e h. functions_are m laid m.functions s.functions f g r e h (w.routines f r h);
+  routines = λ f g x e h. functions_are r m laid m.functions s.functions q f g x e h (w.routines f x h);
 }

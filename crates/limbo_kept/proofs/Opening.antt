@@ -22,13 +22,16 @@ use Rattle.limbo_meaning.specs.Runs.{list_from, cells_from, first_world, first_p
 use Rattle.limbo_kept.specs.Values.{Standing, Cells, Adts, Instances, Store, Refers, is_alone, AllAreOf, none_of}
 use Rattle.limbo_kept.specs.Values.{more_of, Fits}
 use Rattle.limbo_kept.specs.Stores.{Contains, IsThere, HeapIsOf}
+use Rattle.limbo_kept.specs.Permitting.{Stores}
 use Rattle.limbo_kept.specs.Trees.{Signature, IsWritten}
 use Rattle.limbo_kept.specs.Processes.{scope_of, ProcessIs, DoingIs, IsTyped}
-use Rattle.limbo_kept.specs.Modules.{TextsAreWritten, AdtsAreLaid, signature_of, outline_of, WordsAre, TakesWords, ModulesKeepTypes}
+use Rattle.limbo_kept.specs.Storing.{StoresAllowed}
+use Rattle.limbo_kept.specs.Modules.{TextsAreWritten, AdtsAreLaid, signature_of, outline_with, WordsAre, TakesWords, ModulesKeepTypes}
 use Rattle.limbo_kept.proofs.Fitted.{zero_fits, reference_fits}
 use Rattle.limbo_kept.proofs.Evaluating.{constant_fits}
 use Rattle.limbo_kept.proofs.Processes.{arguments, nothing_said, block_on, types_are_kept}
 use Rattle.limbo_kept.proofs.Modules.{room, types_in, program_is}
+use Rattle.limbo_kept.proofs.Storing.{anything_allowed}
 
 -- ---- the words
 
@@ -73,10 +76,10 @@ module _ (defs : List Def) (globals : List Ty) (store : Store) where
 
 -- ---- the module's variables
 
-module _ (m : Module) (laid : AdtsAreLaid m.adts) (store : Store) where
+module _ (r : Stores) (m : Module) (laid : AdtsAreLaid m.adts) (store : Store) where
   initial_fits : (n : ℕ) (v : Var) (is : List Initial) → slice_get m.globals n ≡ Some v → IsNamed m v.ty → Each (SoundInitial m) is
       → Each (λ (i : Initial). IsWritten i.value) is → Fits m.adts store v.ty (initial_of n is)
-  initial_fits n v [] e h s w = zero_fits m.adts store v.ty (room m laid [] v.ty h)
+  initial_fits n v [] e h s w = zero_fits m.adts store v.ty (room r m laid [] v.ty h)
   initial_fits n v (i ∷ is) e h s w = go (nat_eq i.global n) refl (initial_fits n v is e h s.1 w.1)
     where
       there : nat_eq i.global n ≡ true → s.0.0 ≡ v.ty
@@ -90,7 +93,7 @@ module _ (m : Module) (laid : AdtsAreLaid m.adts) (store : Store) where
           → Fits m.adts store v.ty (if b then constant_value i.value else initial_of n is)
       go true f k =
           subst (λ (t : Ty). Fits m.adts store t (constant_value i.value)) (there f)
-          (constant_fits (scope_of (outline_of m) []) store s.0.0 i.value s.0.2 w.0)
+          (constant_fits (scope_of (outline_with r m) []) store s.0.0 i.value s.0.2 w.0)
       go false f k = k
 
   -- from a number on
@@ -117,8 +120,8 @@ signature_there [] k r e = absurd cc
 signature_there (f ∷ fs) zero r e = (signature_of f, refl)
 signature_there (f ∷ fs) (suc k) r e = signature_there fs k r e
 
-module _ (m : Module) (sound : IsSound m) (laid : AdtsAreLaid m.adts) (written : TextsAreWritten m) (words : List (List ℕ))
-    (texts : WordsAre words) where
+module _ (r : Stores) (m : Module) (sound : IsSound m) (laid : AdtsAreLaid m.adts) (written : TextsAreWritten m)
+    (allowed : StoresAllowed r m) (words : List (List ℕ)) (texts : WordsAre words) where
   abbrev store : Store
   store = Instances ∷ words_store words
 
@@ -138,29 +141,29 @@ module _ (m : Module) (sound : IsSound m) (laid : AdtsAreLaid m.adts) (written :
             said = refl;
             contains =
                 subst (Contains m.adts globals store Instances) same
-                (initials_are m laid store 0 m.globals
+                (initials_are r m laid store 0 m.globals
                 (λ j v e. subst (λ (i : ℕ). slice_get m.globals i ≡ Some v) (let f : j ≡ 0 + j = omega arith in f) e)
                 sound.globals sound.initials written.initials);
           }
       go (suc k) u e =
-          let r = cells_are m.adts globals store words 1 k u texts says e in record {
+          let c = cells_are m.adts globals store words 1 k u texts says e in record {
             stands = Cells ty.Chars;
-            said = subst (λ (i : ℕ). slice_get store i ≡ Some (Cells ty.Chars)) (let f : 1 + k ≡ suc k = omega arith in f) r.0;
-            contains = r.1;
+            said = subst (λ (i : ℕ). slice_get store i ≡ Some (Cells ty.Chars)) (let f : 1 + k ≡ suc k = omega arith in f) c.0;
+            contains = c.1;
           }
 
-  opening_process : (init : ℕ) (r : Routine) → slice_get (program_of m).routines init ≡ Some r → TakesWords r
-      → ProcessIs (outline_of m) store None (first_process m words r)
-  opening_process init r there takes =
-      let g = signature_there m.functions init r there in
-      let is = (program_is m sound laid written).routines init g.0 r g.1 there in
+  opening_process : (init : ℕ) (x : Routine) → slice_get (program_of m).routines init ≡ Some x → TakesWords x
+      → ProcessIs (outline_with r m) store None (first_process m words x)
+  opening_process init x there takes =
+      let g = signature_there m.functions init x there in
+      let is = (program_is r m sound laid written allowed).routines init g.0 x g.1 there in
       let us = ty.RefAdt takes.adt ∷ ty.ListOf ty.Chars ∷ [] in record {
         frame = record {
-          types = r.variables;
+          types = x.variables;
           gives = g.0.answer;
           declared = record { number = init; function = g.0; there = g.1; variables = is.variables; answer = refl };
           variables =
-              arguments m.adts store r.variables us (Ref None ∷ Ref (list_from 1 words) ∷ []) is.rooms
+              arguments m.adts store x.variables us (Ref None ∷ Ref (list_from 1 words) ∷ []) is.rooms
               (ap (λ (ts : List Ty). take 2 ts) takes.variables) (
                 reference_fits m.adts store (ty.RefAdt takes.adt) (Adts takes.adt) (Ref None) refl tt,
                 (
@@ -171,30 +174,31 @@ module _ (m : Module) (sound : IsSound m) (laid : AdtsAreLaid m.adts) (written :
               );
           instance = refl;
           answer = is.answer;
-          todo = block_on (scope_of (outline_of m) r.variables) [] store (nothing_said store) g.0.answer None r.body is.body;
+          todo = block_on (scope_of (outline_with r m) x.variables) [] store (nothing_said store) g.0.answer None x.body is.body;
         };
         below = tt;
       }
 
-  opening_typed : (init : ℕ) (r : Routine) → slice_get (program_of m).routines init ≡ Some r → TakesWords r
-      → IsTyped (outline_of m) (begins (first_world m words) (first_process m words r))
-  opening_typed init r there takes = record {
+  opening_typed : (init : ℕ) (x : Routine) → slice_get (program_of m).routines init ≡ Some x → TakesWords x
+      → IsTyped (outline_with r m) (begins (first_world m words) (first_process m words x))
+  opening_typed init x there takes = record {
     store = store;
     heap = opening_heap;
     processes = go;
   }
     where
-      go : (i : ℕ) (d : Doing Process Value) → slice_get (Ready (first_process m words r) ∷ []) i ≡ Some d
-          → DoingIs (outline_of m) store d
+      go : (i : ℕ) (d : Doing Process Value) → slice_get (Ready (first_process m words x) ∷ []) i ≡ Some d
+          → DoingIs (outline_with r m) store d
       go zero d e =
-          let same : Ready (first_process m words r) ≡ d = cc in
-          subst (DoingIs (outline_of m) store) same (opening_process init r there takes)
+          let same : Ready (first_process m words x) ≡ d = cc in
+          subst (DoingIs (outline_with r m) store) same (opening_process init x there takes)
       go (suc i) d e = absurd cc
 
 pub modules_keep_types : ModulesKeepTypes
 modules_keep_types = record {
   programs = program_is;
-  runs = λ m sound laid written words texts init turns c run takes.
-      (types_are_kept.runs _ (outline_of m) (program_of m) (program_is m sound laid written) _ c turns
-      (opening_typed m sound laid written words texts init run.first run.there takes) run.run).typed;
+  runs = λ r m sound laid written allowed words texts init turns c run takes.
+      (types_are_kept.runs _ (outline_with r m) (program_of m) (program_is r m sound laid written allowed) _ c turns
+      (opening_typed r m sound laid written allowed words texts init run.first run.there takes) run.run).typed;
+  anything = anything_allowed;
 }

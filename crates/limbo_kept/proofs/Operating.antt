@@ -1,10 +1,10 @@
 -- What each operation leaves.
-use Rattle.std.proofs.Common.{◌≡◌, ℕ, ℤ, zero, suc, pos, ◌<◌, Bool, true, false, List, [], ◌∷◌, ◌++◌, length, Option, Some}
+use Rattle.std.proofs.Common.{◌≡◌, ℕ, ℤ, zero, suc, pos, ◌<◌, inl, inr, Bool, true, false, List, [], ◌∷◌, ◌++◌, length, Option, Some}
 use Rattle.std.proofs.Common.{None, Ok, Err, refl, sym, ap, subst, ◌∙◌, arith, map, replicate}
 use Rattle.std.proofs.lemmas.Int.{ints}
 use Rattle.std.specs.Prelude.{slice_get, slice_range, encode_utf8_all, unsigned_abs, if◌then◌else◌, nat_lt, Result}
 use Rattle.inf_text.specs.Steps.{◌>>=◌}
-use Rattle.heap_model.specs.Heap.{at}
+use Rattle.heap_model.specs.Heap.{Heap, at}
 use Rattle.limbo_types.specs.Types as ty
 use Rattle.limbo_types.specs.Types.{Ty, Tys}
 use Rattle.limbo_layout.specs.Adts as adts
@@ -35,13 +35,12 @@ use Rattle.limbo_kept.specs.Values.{Standing, Items, Cells, Adts, Store, AreChar
 use Rattle.limbo_kept.specs.Values.{Fits, AllFit, EachIsOf}
 use Rattle.limbo_kept.specs.Stores.{Contains, MemoryIsOf}
 use Rattle.limbo_kept.specs.Operating.{HasRoom, IsLeft, OperationsKeepTypes}
-use Rattle.limbo_kept.proofs.Fitted.{refers_later}
 use Rattle.limbo_kept.proofs.Fitted.{stands_fits, all_stand_fit, zero_fits, is_fit, number_fits, text_fits, text_in}
-use Rattle.limbo_kept.proofs.Fitted.{reference_fits, named_by, part_fits, part_named, tuple_made, RefersTo, fits_later}
+use Rattle.limbo_kept.proofs.Fitted.{reference_fits, named_by, part_fits, part_named, tuple_made, RefersTo}
 use Rattle.limbo_kept.proofs.Texts as texts
 use Rattle.limbo_kept.proofs.Texts.{AreBytes}
 use Rattle.limbo_kept.proofs.Making.{adt_of_fields}
-use Rattle.limbo_kept.proofs.Heaps.{more_says, last_says, contains_at, memory_made}
+use Rattle.limbo_kept.proofs.Heaps.{more_says, last_says, at_more, contains_at, contains_later, memory_made}
 
 -- What is there unless something is raised instead.
 abbrev pub Unless : {A : Type 0} → (A → Type 0) → Raising A → Type 0
@@ -96,6 +95,11 @@ module _ (defs : List Def) (store : Store) where
   operand_fits (t ∷ us) (v ∷ vs) zero u f e = let same : t ≡ u = cc in subst (λ (x : Ty). Fits defs store x v) same f.0
   operand_fits (t ∷ us) (v ∷ vs) (suc n) u f e = operand_fits us vs n u f.1 e
 
+there_below : (h : Heap HeapValue) (n : ℕ) (u : HeapValue) → at h n ≡ Some u → n < length h
+there_below [] n u e = absurd cc
+there_below (o ∷ h) zero u e = omega arith
+there_below (o ∷ h) (suc n) u e = let l = there_below h n u e in omega arith
+
 -- ---- types by what is said of them
 
 text_type : (t : Ty) → IsSequence sequence.Chars t → t ≡ ty.Chars
@@ -127,16 +131,28 @@ module _ (defs : List Def) (globals : List Ty) (store : Store) (types : List Ty)
 
   -- the memory stays
   stays : (v : Value) → Fits defs store t v → Left (gives defs m v)
-  stays v f = record { later = store; grows = λ n s e. e; memory = mem; value = f }
+  stays v f = record {
+    later = store;
+    grows = λ n s e. e;
+    memory = mem;
+    value = f;
+    news = λ n u l e. let b = there_below m.heap n u e in let long = mem.heap.long in absurd (omega arith);
+  }
 
   -- one value more
-  adds : (s : Standing) (u : HeapValue) (v : Value) → Contains defs globals (store ++ s ∷ []) s u → Fits defs (store ++ s ∷ []) t v
+  adds : (s : Standing) (u : HeapValue) (v : Value) → Contains defs globals store s u → Fits defs (store ++ s ∷ []) t v
       → Left (Ok (record { memory = made m u; value = v }))
   adds s u v c f = record {
     later = store ++ s ∷ [];
     grows = more_says store s;
-    memory = memory_made defs globals store types m mem s u c;
+    memory =
+        memory_made defs globals store types m mem s u
+        (contains_later defs globals store (store ++ s ∷ []) (more_says store s) s u c);
     value = f;
+    news = λ n w l e. elim (at_more m.heap u n w e) [
+      | inl f ↦ let b = there_below m.heap n w f in let long = mem.heap.long in absurd (omega arith)
+      | inr f ↦ (s, subst (λ (x : HeapValue). Contains defs globals store s x) f.1 c)
+    ];
   }
 
   new_there : (s : Standing) → Refers (store ++ s ∷ []) s (Some (next_name m))
@@ -176,7 +192,7 @@ module _ (defs : List Def) (globals : List Ty) (store : Store) (types : List Ty)
   new_array_left i n e r = any_behind (IsLeft defs globals store types t) (length_for defs i n)
       (λ l. Ok (new_elements m (replicate l (zero_of defs i))))
       (λ l. adds (Items i) (Elements (replicate l (zero_of defs i))) (whole (next_name m) (length (replicate l (zero_of defs i))))
-      (each_same defs (store ++ Items i ∷ []) i l (zero_of defs i) (zero_fits defs (store ++ Items i ∷ []) i r))
+      (each_same defs store i l (zero_of defs i) (zero_fits defs store i r))
       (array_fits i (length (replicate l (zero_of defs i))) e))
 
   sliced_refers : (i : Ty) (p : Option Part) (b : ℕ × ℕ) → Refers store (Items i) (array_named p)
@@ -208,17 +224,14 @@ module _ (defs : List Def) (globals : List Ty) (store : Store) (types : List Ty)
   cons_left : (us : List Ty) (vs : List Value) → PutsBefore us t → AllFit defs store us vs → Left (result_of defs m t operation.Cons vs)
   cons_left (a ∷ u ∷ []) vs g f =
       let later = store ++ Cells g.0 ∷ [] in
-      let grows = more_says store (Cells g.0) in
       let list : Fits defs store (ty.ListOf g.0) (operand 1 vs) =
       subst (λ (x : Ty). Fits defs store x (operand 1 vs)) g.2 (operand_fits defs store (a ∷ u ∷ []) vs 1 u f refl) in
-      let first : Fits defs later g.0 (operand 0 vs) =
-      fits_later defs store later grows g.0 (operand 0 vs)
-      (stands_fits defs store a g.0 (operand 0 vs) g.1 (operand_fits defs store (a ∷ u ∷ []) vs 0 a f refl)) in
+      let first : Fits defs store g.0 (operand 0 vs) =
+      stands_fits defs store a g.0 (operand 0 vs) g.1 (operand_fits defs store (a ∷ u ∷ []) vs 0 a f refl) in
       let same : g.0 ≡ item_of t = sym (ap item_of g.3) in
       adds (Cells g.0) (Cell (fitted defs (item_of t) (operand 0 vs)) (name_of (operand 1 vs))) (Ref (Some (next_name m))) (
-        subst (λ (x : Ty). IsOf defs later g.0 (fitted defs x (operand 0 vs))) same first,
-        refers_later defs store later grows (Cells g.0) (name_of (operand 1 vs))
-            (named_by defs store (ty.ListOf g.0) (Cells g.0) (operand 1 vs) refl list),
+        subst (λ (x : Ty). IsOf defs store g.0 (fitted defs x (operand 0 vs))) same first,
+        named_by defs store (ty.ListOf g.0) (Cells g.0) (operand 1 vs) refl list,
       )
       (subst (λ (x : Ty). Fits defs later x (Ref (Some (next_name m)))) (sym g.3)
       (reference_fits defs later (ty.ListOf g.0) (Cells g.0) (Ref (Some (next_name m))) refl (new_there (Cells g.0))))
@@ -227,11 +240,10 @@ module _ (defs : List Def) (globals : List Ty) (store : Store) (types : List Ty)
   ref_left : (us : List Ty) (vs : List Value) → MakesRef us t → AllFit defs store us vs → Left (result_of defs m t operation.Ref vs)
   ref_left (ty.Adt n ∷ []) vs g f =
       let later = store ++ Adts n ∷ [] in
-      let grows = more_says store (Adts n) in
       let is = ref_type n t g in
       adds (Adts n) (Record (fitted defs (item_of t) (operand 0 vs))) (Ref (Some (next_name m)))
-      (subst (λ (x : Ty). IsOf defs later (ty.Adt n) (fitted defs x (operand 0 vs))) (sym is.0)
-      (fits_later defs store later grows (ty.Adt n) (operand 0 vs) (operand_fits defs store (ty.Adt n ∷ []) vs 0 (ty.Adt n) f refl)))
+      (subst (λ (x : Ty). IsOf defs store (ty.Adt n) (fitted defs x (operand 0 vs))) (sym is.0)
+      (operand_fits defs store (ty.Adt n ∷ []) vs 0 (ty.Adt n) f refl))
       (reference_fits defs later t (Adts n) (Ref (Some (next_name m))) (refers_type n t g) (new_there (Adts n)))
   ref_left _ vs g f = absurd g
 
@@ -300,7 +312,7 @@ module _ (defs : List Def) (globals : List Ty) (store : Store) (types : List Ty)
       let s = text_of (operand 0 vs) in
       let a = text_operand us vs 0 f (ap (λ (ts : List Ty). slice_get ts 0) g.0) in
       adds (Items ty.Byte) (Elements (bytes_of s)) (whole (next_name m) (length (bytes_of s)))
-      (each_byte defs (store ++ Items ty.Byte ∷ []) (encode_utf8_all s) (texts.spelled_are s a))
+      (each_byte defs store (encode_utf8_all s) (texts.spelled_are s a))
       (array_fits ty.Byte (length (bytes_of s)) g.1)
   left operation.Join us vs g f =
       let s = text_of (operand 0 vs) in

@@ -237,7 +237,8 @@ module _ (limit : ℕ) (o : Outline) (program : Program) (good : ProgramIs o pro
 
   -- ---- calls, prints and returns
 
-  abbrev new_frame : (n : ℕ) (a : Ty) (g : Signature) (r : Routine) (args : List Value) → slice_get o.signatures n ≡ Some g → RoutineIs o g r → AllFit o.adts store g.takes args
+  abbrev new_frame : (n : ℕ) (a : Ty) (g : Signature) (r : Routine) (args : List Value) → slice_get o.signatures n ≡ Some g
+      → RoutineIs o g r → AllFit o.adts store g.takes args
       → FrameIs o store None (frame_of program.adts p.frame.instance r a args)
   new_frame n a g r args there routine f = record {
     types = r.variables;
@@ -251,7 +252,8 @@ module _ (limit : ℕ) (o : Outline) (program : Program) (good : ProgramIs o pro
     todo = block_on (scope_of o r.variables) [] store (nothing_said store) g.answer None r.body routine.body;
   }
 
-  called : (b : Block) (n : ℕ) (a : Ty) (g : Signature) (r : Option Routine) (args : List Value) → slice_get o.signatures n ≡ Some g → BlockIs s store gives (Some a) b
+  called : (b : Block) (n : ℕ) (a : Ty) (g : Signature) (r : Option Routine) (args : List Value)
+      → slice_get o.signatures n ≡ Some g → BlockIs s store gives (Some a) b
       → AllFit o.adts store g.takes args → g.answer ≡ a → ((r' : Routine) → r ≡ Some r' → RoutineIs o g r')
       → EffectIs o store (calls program.adts limit w p b a r args)
   called b n a g None args there h f e k = parked
@@ -336,8 +338,8 @@ module _ (limit : ℕ) (o : Outline) (program : Program) (good : ProgramIs o pro
   }
   evaluated rest t (Calls a f args x) r h within into use_it k =
       let c = h.0 in
-      called (Then (within x) rest) f a c.signature (slice_get program.routines f) args c.there (into store (Some a) x (λ n q e. e) h.1, r) c.takes
-      c.gives
+      called (Then (within x) rest) f a c.signature (slice_get program.routines f) args c.there
+      (into store (Some a) x (λ n q e. e) h.1, r) c.takes c.gives
       (λ r' e. good.routines f c.signature r' c.there e)
   evaluated rest t (Prints text x) r h within into use_it k =
       printed (Then (within x) rest) (print w.outside text) (into store (Some ty.Int) x (λ n q e. e) h, r)

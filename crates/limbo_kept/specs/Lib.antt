@@ -2,7 +2,10 @@ pub mod Values
 pub mod Stores
 pub mod Operating
 pub mod Places
+pub mod Permitting
 pub mod Trees
 pub mod Stepping
 pub mod Processes
+pub mod Nodes
+pub mod Storing
 pub mod Modules

@@ -16,8 +16,10 @@ use Rattle.limbo_meaning.specs.Program.{Routine, program_of}
 use Rattle.limbo_meaning.specs.Runs.{Meaning, MeaningRun}
 use Rattle.limbo_kept.specs.Values.{AreCharacters}
 use Rattle.limbo_kept.specs.Operating.{HasRoom}
+use Rattle.limbo_kept.specs.Permitting.{Stores, Anything}
 use Rattle.limbo_kept.specs.Trees.{Signature, IsWritten}
 use Rattle.limbo_kept.specs.Processes.{Outline, ProgramIs, IsTyped}
+use Rattle.limbo_kept.specs.Storing.{StoresAllowed}
 
 -- ---- texts that are written in a module are of characters, and no `%r` is in the format of a `sprint`
 
@@ -76,17 +78,21 @@ pub record TextsAreWritten (m : typed.Module) : Type 0 where
 abbrev pub AdtsAreLaid : List Def → Type 0
 AdtsAreLaid defs = (n : ℕ) (d : Def) → slice_get defs n ≡ Some d → HasRoom defs (ty.Adt n)
 
--- ---- what a module declares
+-- ---- what a module declares, and what it may store
 
 abbrev pub signature_of : typed.Function → Signature
 signature_of f = record { takes = f.of.args; answer = f.of.answer; variables = map (λ (v : typed.Var). v.ty) f.variables }
 
-abbrev pub outline_of : typed.Module → Outline
-outline_of m = record {
+abbrev pub outline_with : Stores → typed.Module → Outline
+outline_with stores m = record {
   adts = m.adts;
   globals = map (λ (v : typed.Var). v.ty) m.globals;
   signatures = map signature_of m.functions;
+  stores = stores;
 }
+
+abbrev pub outline_of : typed.Module → Outline
+outline_of m = outline_with Anything m
 
 -- The program's words are texts of characters.
 abbrev pub WordsAre : List (List ℕ) → Type 0
@@ -99,9 +105,12 @@ pub record TakesWords (r : Routine) : Type 0 where
   pub more : List Ty
   pub variables : r.variables ≡ ty.RefAdt adt ∷ ty.ListOf ty.Chars ∷ more
 
--- A sound module's program is well-typed; a run of it begins well-typed, and each configuration that it comes to is well-typed.
+-- The program of a sound module that stores what may be stored is well-typed; a run of it begins well-typed, and each configuration that it
+-- comes to is well-typed. Where anything may be stored, each module stores what may be stored.
 pub record ModulesKeepTypes : Type 0 where
-  pub programs : (m : typed.Module) → IsSound m → AdtsAreLaid m.adts → TextsAreWritten m → ProgramIs (outline_of m) (program_of m)
-  pub runs : (m : typed.Module) → IsSound m → AdtsAreLaid m.adts → TextsAreWritten m → (words : List (List ℕ)) → WordsAre words →
-      (init : ℕ) (turns : List Turn) (c : Meaning) (run : MeaningRun m words init turns c) → TakesWords run.first →
-      IsTyped (outline_of m) c
+  pub programs : (r : Stores) (m : typed.Module) → IsSound m → AdtsAreLaid m.adts → TextsAreWritten m → StoresAllowed r m →
+      ProgramIs (outline_with r m) (program_of m)
+  pub runs : (r : Stores) (m : typed.Module) → IsSound m → AdtsAreLaid m.adts → TextsAreWritten m → StoresAllowed r m →
+      (words : List (List ℕ)) → WordsAre words → (init : ℕ) (turns : List Turn) (c : Meaning)
+      (run : MeaningRun m words init turns c) → TakesWords run.first → IsTyped (outline_with r m) c
+  pub anything : (m : typed.Module) → StoresAllowed Anything m

@@ -16,6 +16,7 @@ use Rattle.limbo_meaning.specs.Runs.{Meaning}
 use Rattle.limbo_kept.specs.Values.{Store, Instances, AllAreOf}
 use Rattle.limbo_kept.specs.Stores.{HeapIsOf, Grows}
 use Rattle.limbo_kept.specs.Operating.{HasRoom}
+use Rattle.limbo_kept.specs.Permitting.{Stores}
 use Rattle.limbo_kept.specs.Trees.{Signature, Scope, TermIs}
 
 -- ---- statements
@@ -50,14 +51,21 @@ module _ (s : Scope) (store : Store) (gives : Ty) where
 
 -- ---- functions
 
--- What a module declares: its adts, the types of its variables, and its functions.
+-- What a module declares: its adts, the types of its variables, and its functions; and what they may store.
 pub record Outline : Type 0 where
   pub adts : List Def
   pub globals : List Ty
   pub signatures : List Signature
+  pub stores : Stores
 
 abbrev pub scope_of : Outline → List Ty → Scope
-scope_of o variables = record { adts = o.adts; globals = o.globals; signatures = o.signatures; variables = variables }
+scope_of o variables = record {
+  adts = o.adts;
+  globals = o.globals;
+  signatures = o.signatures;
+  variables = variables;
+  stores = o.stores;
+}
 
 abbrev pub AllHaveRooms : List Def → List Ty → Type 0
 AllHaveRooms defs [] = Unit {0}

@@ -23,6 +23,7 @@ use Rattle.limbo_kept.specs.Values.{Store, AreCharacters, Refers, Fits, EachFits
 use Rattle.limbo_kept.specs.Values as standing
 use Rattle.limbo_kept.specs.Operating.{HasRoom}
 use Rattle.limbo_kept.specs.Places.{Leads, Ends, PlaceIs}
+use Rattle.limbo_kept.specs.Permitting.{Stores, MayStore, MayWrite}
 
 -- What a function takes and answers, and the types of its variables.
 pub record Signature : Type 0 where
@@ -30,13 +31,14 @@ pub record Signature : Type 0 where
   pub answer : Ty
   pub variables : List Ty
 
--- What the functions of a module see: its adts, the types of its variables, what its functions take and answer; and the types of one
--- function's variables.
+-- What the functions of a module see: its adts, the types of its variables, what its functions take and answer; the types of one
+-- function's variables; and what they may store.
 pub record Scope : Type 0 where
   pub adts : List Def
   pub globals : List Ty
   pub signatures : List Signature
   pub variables : List Ty
+  pub stores : Stores
 
 -- ---- places
 
@@ -56,12 +58,12 @@ module _ (s : Scope) where
     pub leads : Leads s.adts root w.parts inner
     pub ends : Ends w.character inner t
 
-  -- Places that parts of a value go to, each of which stands for the place's type.
+  -- Places that parts of a value go to, each of which stands for the place's type, and may be written there.
   abbrev pub AimsAre : List Aim → List Ty → (value : Ty) → Type 0
   AimsAre [] us v = Unit {0}
   AimsAre (a ∷ aims) us v =
-      WayIs a.way (take (operands_of a.way) us) a.type × ((t : Ty) × Leads s.adts v a.part t × Stands t a.type)
-      × AimsAre aims (drop (operands_of a.way) us) v
+      (is : WayIs a.way (take (operands_of a.way) us) a.type) × MayWrite s.stores s.adts a.way.root is.root a.type
+      × ((t : Ty) × Leads s.adts v a.part t × Stands t a.type) × AimsAre aims (drop (operands_of a.way) us) v
 
   -- Variables that are declared, each of a type that has a zero.
   abbrev pub DeclaresAll : List Aim → Type 0
@@ -97,7 +99,8 @@ module _ (s : Scope) where
   WorkIs u (TakePart n) us t =
       (v : Ty) × (slice_get us 0 ≡ Some v) × HasRoom s.adts v × HasPart s.adts v n u × Stands u t
   WorkIs u Copy us t =
-      (i : Ty) × (slice_get us 0 ≡ Some (ty.ArrayOf i)) × (slice_get us 2 ≡ Some (ty.ArrayOf i)) × Stands (ty.ArrayOf i) t
+      (i : Ty) × (slice_get us 0 ≡ Some (ty.ArrayOf i)) × (slice_get us 2 ≡ Some (ty.ArrayOf i))
+      × MayStore s.stores s.adts (ty.ArrayOf i) i × Stands (ty.ArrayOf i) t
   WorkIs u Link us t = (i : Ty) × (u ≡ ty.ListOf i) × HasRoom s.adts i × EachStands us i × Stands u t
   WorkIs u NewChannel us t = (i : Ty) × (u ≡ ty.ChanOf i) × Stands u t
   WorkIs u (Call f) us t =
@@ -119,7 +122,8 @@ module _ (s : Scope) (store : Store) where
   abbrev pub PendingAre : List Pending → Type 0
   PendingAre [] = Unit {0}
   PendingAre (p ∷ ps) =
-      (PlaceIs s.adts s.globals store s.variables p.place × Fits s.adts store p.place.type p.value) × PendingAre ps
+      ((is : PlaceIs s.adts s.globals store s.variables p.place) × MayWrite s.stores s.adts p.place.way.root is.root p.place.type
+      × Fits s.adts store p.place.type p.value) × PendingAre ps
 
   -- An array of items of a type, part of which an initialiser fills.
   abbrev pub FillsFor : Ty → ℕ → Ty → Type 0
@@ -136,11 +140,13 @@ module _ (s : Scope) (store : Store) where
     TermIs w (Lazy c l r) t = TermIs w l ty.Int × TermIs None r ty.Int × Stands ty.Int t
     TermIs w (Deciding r) t = TermIs w r ty.Int × Stands ty.Int t
     TermIs w (Update o g p way ts us) t =
-        (ps : List Ty) × (qs : List Ty) × TermsAre w ts ps × TermsAre None us qs × WayIs s way ps p × Gives s.adts o (p ∷ qs) p
-        × HasRoom s.adts p × HasRoom s.adts (item_of p) × Stands p t
+        (ps : List Ty) × (qs : List Ty) × TermsAre w ts ps × TermsAre None us qs × (is : WayIs s way ps p)
+        × MayWrite s.stores s.adts way.root is.root p × Gives s.adts o (p ∷ qs) p × HasRoom s.adts p × HasRoom s.adts (item_of p)
+        × Stands p t
     TermIs w (Change o g p ts) t =
-        (qs : List Ty) × TermsAre w ts (p.type ∷ qs) × PlaceIs s.adts s.globals store s.variables p × Gives s.adts o (p.type ∷ qs) p.type
-        × HasRoom s.adts p.type × HasRoom s.adts (item_of p.type) × Stands p.type t
+        (qs : List Ty) × TermsAre w ts (p.type ∷ qs) × (is : PlaceIs s.adts s.globals store s.variables p)
+        × MayWrite s.stores s.adts p.way.root is.root p.type × Gives s.adts o (p.type ∷ qs) p.type × HasRoom s.adts p.type
+        × HasRoom s.adts (item_of p.type) × Stands p.type t
     TermIs w (Put ps v) t = PendingAre ps × Fits s.adts store t v
     TermIs w (Linking i vs r) t =
         HasRoom s.adts i × EachFits s.adts store i vs × Refers store (standing.Cells i) r × Stands (ty.ListOf i) t

@@ -55,7 +55,8 @@ module _ (store : Store) where
   IsPartOf t (Array p) = Refers (Items t) (array_named p)
   IsPartOf t _ = ⊥
 
-  -- A value of a type whose values have no parts in place. A `ref` of a variant names what one of its adt names.
+  -- A value of a type whose values have no parts in place. A `ref` of a variant names what one of its adt names. No value of a module is
+  -- there but `nil`, as long as none is loaded.
   abbrev pub IsAlone : Ty → Value → Type 0
   IsAlone ty.Byte v = IsNumberOf kind.Byte v
   IsAlone ty.Int v = IsNumberOf kind.Int v
@@ -68,7 +69,7 @@ module _ (store : Store) where
   IsAlone (ty.ChanOf t) v = IsReferenceTo (Channels t) v
   IsAlone (ty.RefAdt n) v = IsReferenceTo (Adts n) v
   IsAlone (ty.RefPick n k) v = IsReferenceTo (Adts n) v
-  IsAlone (ty.Module n) v = IsReferenceTo Instances v
+  IsAlone (ty.Module n) v = v ≡ Ref None
   IsAlone _ v = ⊥
 
 -- A value is of a type: alone, or part by part, as a tuple's type says or an adt's definition.

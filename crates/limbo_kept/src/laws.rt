@@ -31,8 +31,10 @@ pub fn types_are_kept()
     ensures { TypesAreKept }
 {}
 
-/// The program of each sound module is well-typed, where its adts have layouts and the texts that are written in it are of characters; a
-/// run of it begins well-typed with words of characters, and each configuration that the run comes to is well-typed.
+/// The program of each sound module is well-typed, where its adts have layouts, the texts that are written in it are of characters, and it
+/// stores only what may be stored; a run of it begins well-typed with words of characters, and each configuration that the run comes to is
+/// well-typed. So the types of all trees of a run say what they may still store: anything, as each module does, or only what never comes to
+/// hold the object into which it is stored.
 pub fn modules_keep_types()
     ensures { ModulesKeepTypes }
 {}

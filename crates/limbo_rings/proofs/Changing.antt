@@ -10,8 +10,8 @@ use Rattle.limbo_stores.proofs.Reaching.{reaches_on}
 use Rattle.limbo_meaning.specs.Memory.{HeapValue, inside, changed, changed_to}
 use Rattle.limbo_kept.specs.Values.{Standing, Items, Cells, Adts, Channels, Instances, Store}
 use Rattle.limbo_kept.specs.Stores.{Contains, HeapIsOf}
-use Rattle.limbo_kept.proofs.Heaps.{more_says}
-use Rattle.limbo_rings.specs.Storing.{type_of, IsRingless, IsUnnamed, NewMakesNoRing, LaterStoresMakeNoRing}
+use Rattle.limbo_rings.specs.Rings.{HasNoRing}
+use Rattle.limbo_rings.specs.Storing.{type_of, IsUnnamed, NewMakesNoRing}
 use Rattle.limbo_rings.proofs.Graphs.{no_ring_comes}
 use Rattle.limbo_rings.proofs.Known.{Knows, KnowsBy, contained}
 
@@ -60,12 +60,15 @@ module _ (defs : List Def) (globals : List Ty) (store : Store) where
   NotInstance s = s ≡ Instances → ⊥
 
   -- all that is named is known
-  is_known : (s : Standing) (n : ℕ) → KnowsBy defs store s n → (t : Standing) × (slice_get store n ≡ Some t)
-  is_known Instances n k = k
-  is_known (Items t) n k = (k.stands, k.said)
-  is_known (Cells t) n k = (k.stands, k.said)
-  is_known (Adts t) n k = (k.stands, k.said)
-  is_known (Channels t) n k = (k.stands, k.said)
+  abbrev pub IsKnown : ℕ → Type 0
+  IsKnown n = (t : Standing) × (slice_get store n ≡ Some t) × NotInstance t
+
+  is_known : (s : Standing) (n : ℕ) → KnowsBy defs store s n → IsKnown n
+  is_known Instances n k = (k.1.stands, k.1.said, k.1.proper)
+  is_known (Items t) n k = (k.stands, k.said, k.proper)
+  is_known (Cells t) n k = (k.stands, k.said, k.proper)
+  is_known (Adts t) n k = (k.stands, k.said, k.proper)
+  is_known (Channels t) n k = (k.stands, k.said, k.proper)
 
   is_reached : (s : Standing) (n : ℕ) → NotInstance s → KnowsBy defs store s n → Knows defs store (type_of s) n
   is_reached Instances n i k = absurd (i refl)
@@ -74,43 +77,29 @@ module _ (defs : List Def) (globals : List Ty) (store : Store) where
   is_reached (Adts t) n i k = k
   is_reached (Channels t) n i k = k
 
-  module _ (h : Heap HeapValue) (is : HeapIsOf defs globals store h) (clean : IsRingless store h) where
+  module _ (h : Heap HeapValue) (is : HeapIsOf defs globals store h) where
     -- ---- a new value
 
-    pub named_there : (a b : ℕ) → 0 < (graph inside h).uses a b → (t : Standing) × (slice_get store b ≡ Some t)
+    pub named_there : (a b : ℕ) → 0 < (graph inside h).uses a b → IsKnown b
     named_there a b l =
         let u = named_in h a b l in
         let there = is.each a u.0 u.1 in
         is_known there.stands b (contained defs store globals there.stands u.0 b there.contains u.2)
 
-    module _ (s : Standing) (u : HeapValue) (c : Contains defs globals store s u)
-        (none : (n : ℕ) → 0 < inside u n → slice_get store n ≡ Some Instances → ⊥) where
+    module _ (s : Standing) (u : HeapValue) (c : Contains defs globals store s u) where
       abbrev Older : ℕ → Type 0
       Older n = n ≡ length h → ⊥
 
-      older : (n : ℕ) (t : Standing) → slice_get store n ≡ Some t → Older n
-      older n t e f = let l = says_below store n t e in let m = is.long in omega arith
+      older : (n : ℕ) → IsKnown n → Older n
+      older n k f = let l = says_below store n k.0 k.1 in let m = is.long in omega arith
 
-      new_named : (b : ℕ) → 0 < inside u b → (t : Standing) × (slice_get store b ≡ Some t)
-      new_named b l = is_known s b (contained defs store globals s u b c l)
-
-      instances_later : (b : ℕ) (t : Standing) → slice_get store b ≡ Some t → slice_get (store ++ s ∷ []) b ≡ Some Instances
-          → slice_get store b ≡ Some Instances
-      instances_later b t e f = let g : slice_get (store ++ s ∷ []) b ≡ Some t = more_says store s b t e in cc
-
-      pub ringless_made : IsRingless (store ++ s ∷ []) (h ++ Some u ∷ [])
-      ringless_made = record {
-        no_ring = no_ring_comes (graph inside h) (graph inside (h ++ Some u ∷ [])) (length h) Older
-            (λ a b o l. let t = named_there a b l in older b t.0 t.1) (λ o. o refl)
-            (λ a b l. elim (edge_of h u a b l) [
-              | inl k ↦ inl k
-              | inr k ↦ inr (k.0, let t = new_named b k.1 in older b t.0 t.1)
-            ]) clean.no_ring;
-        instances = λ a b l f. elim (edge_of h u a b l) [
-          | inl k ↦ let t = named_there a b k in clean.instances a b k (instances_later b t.0 t.1 f)
-          | inr k ↦ let t = new_named b k.1 in none b k.1 (instances_later b t.0 t.1 f)
-        ];
-      }
+      pub ringless_made : HasNoRing (graph inside h) → HasNoRing (graph inside (h ++ Some u ∷ []))
+      ringless_made = no_ring_comes (graph inside h) (graph inside (h ++ Some u ∷ [])) (length h) Older
+          (λ a b o l. older b (named_there a b l)) (λ o. o refl)
+          (λ a b l. elim (edge_of h u a b l) [
+            | inl k ↦ inl k
+            | inr k ↦ inr (k.0, older b (is_known s b (contained defs store globals s u b c k.1)))
+          ])
 
     -- ---- a change
 
@@ -127,17 +116,13 @@ module _ (defs : List Def) (globals : List Ty) (store : Store) where
         let same : there.stands ≡ p.0 =
         let e : slice_get store a ≡ Some there.stands = there.said in let f : slice_get store a ≡ Some p.0 = p.1 in cc in
         let c : Contains defs globals store p.0 u.0 = subst (λ (x : Standing). Contains defs globals store x u.0) same there.contains in
-        let k = is_reached p.0 b p.2 (contained defs store globals p.0 u.0 b c u.2) in
-        let not : NotInstance k.stands = λ e. clean.instances a b l (k.said ∙ ap Some e) in (
+        let k = is_reached p.0 b p.2 (contained defs store globals p.0 u.0 b c u.2) in (
           k.stands,
           k.said,
-          not,
+          k.proper,
           elim p.3 [
             | inl e ↦ inl e
-            | inr never ↦ elim k.reached [
-              | inl i ↦ absurd (not i)
-              | inr r ↦ inr (λ s. never (reaches_on defs (type_of p.0) (type_of k.stands) (type_of so) r s))
-            ]
+            | inr never ↦ inr (λ s. never (reaches_on defs (type_of p.0) (type_of k.stands) (type_of so) k.reached s))
           ],
         )
 
@@ -150,9 +135,9 @@ module _ (defs : List Def) (globals : List Ty) (store : Store) where
               (reaches_itself (type_of so) (type_of so) refl))
         ]
 
-    pub ringless_changed : (o : ℕ) (so : Standing) (u : HeapValue) → slice_get store o ≡ Some so
-        → ((b : ℕ) → 0 < inside u b → (0 < (graph inside h).uses o b) ⊎ Apart so b) → IsRingless store (changed h o u)
-    ringless_changed o so u said names = go (at h o)
+    pub ringless_changed : HasNoRing (graph inside h) → (o : ℕ) (so : Standing) (u : HeapValue) → slice_get store o ≡ Some so
+        → ((b : ℕ) → 0 < inside u b → (0 < (graph inside h).uses o b) ⊎ Apart so b) → HasNoRing (graph inside (changed h o u))
+    ringless_changed clean o so u said names = go (at h o)
       where
         edge : (a b : ℕ) → 0 < (graph inside (slice_set h o (Some u))).uses a b
             → (0 < (graph inside h).uses a b) ⊎ ((a ≡ o) × Apart so b)
@@ -166,23 +151,16 @@ module _ (defs : List Def) (globals : List Ty) (store : Store) where
               | inr e ↦ inl (names_out h a b v.0 e v.2)
             ]
 
-        go : (old : Option HeapValue) → IsRingless store (changed_to h o old u)
+        go : (old : Option HeapValue) → HasNoRing (graph inside (changed_to h o old u))
         go None = clean
-        go (Some w) = record {
-          no_ring = no_ring_comes (graph inside h) (graph inside (slice_set h o (Some u))) o (Apart so) (apart_next so)
-              (apart_never so o said) edge clean.no_ring;
-          instances = λ a b l f. elim (edge a b l) [
-            | inl k ↦ clean.instances a b k f
-            | inr k ↦ k.1.2 (let e : slice_get store b ≡ Some k.1.0 = k.1.1 in cc)
-          ];
-        }
+        go (Some w) = no_ring_comes (graph inside h) (graph inside (slice_set h o (Some u))) o (Apart so) (apart_next so)
+            (apart_never so o said) edge clean
 
 -- a change of a value that nobody names
-module _ (store : Store) (h : Heap HeapValue) (clean : IsRingless store h) (o : ℕ) (u : HeapValue) (unnamed : IsUnnamed h o)
-    (names : (b : ℕ) → 0 < inside u b
-    → (0 < (graph inside h).uses o b) ⊎ ((b ≡ o → ⊥) × (slice_get store b ≡ Some Instances → ⊥))) where
+module _ (h : Heap HeapValue) (clean : HasNoRing (graph inside h)) (o : ℕ) (u : HeapValue) (unnamed : IsUnnamed h o)
+    (names : (b : ℕ) → 0 < inside u b → (0 < (graph inside h).uses o b) ⊎ (b ≡ o → ⊥)) where
   fill_edge : (a b : ℕ) → 0 < (graph inside (slice_set h o (Some u))).uses a b
-      → (0 < (graph inside h).uses a b) ⊎ ((a ≡ o) × ((b ≡ o → ⊥) × (slice_get store b ≡ Some Instances → ⊥)))
+      → (0 < (graph inside h).uses a b) ⊎ ((a ≡ o) × (b ≡ o → ⊥))
   fill_edge a b l =
       let v = named_in (slice_set h o (Some u)) a b l in
       elim (set_at h o a u v.0 v.1) [
@@ -193,29 +171,14 @@ module _ (store : Store) (h : Heap HeapValue) (clean : IsRingless store h) (o : 
         | inr e ↦ inl (names_out h a b v.0 e v.2)
       ]
 
-  pub ringless_filled : IsRingless store (changed h o u) × IsUnnamed (changed h o u) o
+  pub ringless_filled : HasNoRing (graph inside (changed h o u))
   ringless_filled = go (at h o)
     where
-      go : (old : Option HeapValue) → IsRingless store (changed_to h o old u) × IsUnnamed (changed_to h o old u) o
-      go None = (clean, unnamed)
-      go (Some w) = (
-        record {
-          no_ring = no_ring_comes (graph inside h) (graph inside (slice_set h o (Some u))) o (λ b. b ≡ o → ⊥)
-              (λ a b other l e. unnamed a (subst (λ (x : ℕ). 0 < (graph inside h).uses a x) e l)) (λ other. other refl)
-              (λ a b l. elim (fill_edge a b l) [ inl k ↦ inl k | inr k ↦ inr (k.0, k.1.0) ]) clean.no_ring;
-          instances = λ a b l f. elim (fill_edge a b l) [ inl k ↦ clean.instances a b k f | inr k ↦ k.1.1 f ];
-        },
-        λ a l. elim (fill_edge a o l) [ inl k ↦ unnamed a k | inr k ↦ k.1.0 refl ],
-      )
-
-pub later_stores_make_no_ring : LaterStoresMakeNoRing
-later_stores_make_no_ring defs globals store later h is grows clean = record {
-  no_ring = clean.no_ring;
-  instances = λ a b l f.
-      let t = named_there defs globals store h is clean a b l in
-      let g : slice_get later b ≡ Some t.0 = grows b t.0 t.1 in
-      clean.instances a b l (let e : Some t.0 ≡ Some Instances = sym g ∙ f in t.1 ∙ e);
-}
+      go : (old : Option HeapValue) → HasNoRing (graph inside (changed_to h o old u))
+      go None = clean
+      go (Some w) = no_ring_comes (graph inside h) (graph inside (slice_set h o (Some u))) o (λ b. b ≡ o → ⊥)
+          (λ a b other l e. unnamed a (subst (λ (x : ℕ). 0 < (graph inside h).uses a x) e l)) (λ other. other refl)
+          fill_edge clean
 
 pub new_makes_no_ring : NewMakesNoRing
-new_makes_no_ring defs globals store types m mem s u c none clean = ringless_made defs globals store m.heap mem.heap clean s u c none
+new_makes_no_ring defs globals store types m mem s u c clean = ringless_made defs globals store m.heap mem.heap s u c clean

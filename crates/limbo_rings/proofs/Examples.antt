@@ -8,7 +8,10 @@ use Rattle.limbo_adts.specs.Reaches.{Reaches, reaches_itself, reaches_through}
 use Rattle.limbo_meaning.specs.Values.{Value, Num, Ref, Parts, row}
 use Rattle.limbo_meaning.specs.Memory.{HeapValue, Record, inside, Memory, with_heap}
 use Rattle.limbo_meaning.specs.Places.{Target, Place, written}
+use Rattle.limbo_kept.proofs.Examples.{notes, notes_sound, notes_laid, notes_written, notes_never_back}
 use Rattle.limbo_rings.specs.Rings.{at_once, HasNoRing}
+use Rattle.limbo_rings.specs.Running.{RunsMakeNoRing}
+use Rattle.limbo_rings.proofs.Runs.{sound_modules_make_no_ring}
 use Rattle.limbo_rings.specs.Storing.{IsAllowed}
 
 -- ---- Node: adt { next: ref Node; mark: int; };  n.next = n;
@@ -53,3 +56,8 @@ int_reaches _ _ (reaches_through t p u a r) f g = no_int t p a f
 
 mark_allowed : IsAllowed (node ∷ []) (Adt 0) (field 1 Int)
 mark_allowed object e r = int_reaches Int object r refl (let f : Some (RefAdt 0) ≡ Some object = e in cc)
+
+-- ---- and a module of which no run makes one
+
+notes_make_no_ring : RunsMakeNoRing notes
+notes_make_no_ring = sound_modules_make_no_ring notes notes_sound notes_laid notes_written notes_never_back

@@ -27,32 +27,39 @@ pub both_words : (v : Value) (r : Option ℕ) (n : ℕ) → 0 < among n (referen
 both_words v r n h = let a = among_join n (references v) (r ∷ []) in omega arith
 
 module _ (defs : List Def) (store : Store) where
-  -- The store knows a name, which is an instance's or is reached from a type.
+  -- The store knows a name, which isn't an instance's, and is reached from a type.
   pub record Knows (t : Ty) (n : ℕ) : Type 0 where
     pub stands : Standing
     pub said : slice_get store n ≡ Some stands
-    pub reached : (stands ≡ Instances) ⊎ Reaches defs t (type_of stands)
+    pub proper : stands ≡ Instances → ⊥
+    pub reached : Reaches defs t (type_of stands)
 
   abbrev pub through : (t p : Ty) (n : ℕ) → Part defs t p → Knows p n → Knows t n
   through t p n part k = record {
     stands = k.stands;
     said = k.said;
-    reached = elim k.reached [ inl e ↦ inl e | inr r ↦ inr (reaches_through t p (type_of k.stands) part r) ];
+    proper = k.proper;
+    reached = reaches_through t p (type_of k.stands) part k.reached;
   }
 
-  refers_known : (t : Ty) (s : Standing) (r : Option ℕ) (n : ℕ) → (s ≡ Instances) ⊎ (plain t ≡ plain (type_of s)) → Refers store s r
+  refers_known : (t : Ty) (s : Standing) (r : Option ℕ) (n : ℕ) → (s ≡ Instances → ⊥) → plain t ≡ plain (type_of s) → Refers store s r
       → Name (r ∷ []) n → Knows t n
-  refers_known t s None n e a h = nil_names n h
-  refers_known t s (Some k) n e a h = record {
+  refers_known t s None n i e a h = nil_names n h
+  refers_known t s (Some k) n i e a h = record {
     stands = s;
     said = subst (λ (x : ℕ). slice_get store x ≡ Some s) (sym (is_one n k h)) a;
-    reached = elim e [ inl i ↦ inl i | inr i ↦ inr (reaches_itself t (type_of s) i) ];
+    proper = i;
+    reached = reaches_itself t (type_of s) e;
   }
 
-  reference_known : (t : Ty) (s : Standing) (v : Value) (n : ℕ) → (s ≡ Instances) ⊎ (plain t ≡ plain (type_of s))
+  reference_known : (t : Ty) (s : Standing) (v : Value) (n : ℕ) → (s ≡ Instances → ⊥) → plain t ≡ plain (type_of s)
       → kept.IsReferenceTo store s v → Name (references v) n → Knows t n
-  reference_known t s (Ref r) n e a h = refers_known t s r n e a h
-  reference_known t s _ n e a h = absurd a
+  reference_known t s (Ref r) n i e a h = refers_known t s r n i e a h
+  reference_known t s _ n i e a h = absurd a
+
+  -- a value that is `nil`
+  nil_known : (t : Ty) (v : Value) (n : ℕ) → v ≡ Ref None → Name (references v) n → Knows t n
+  nil_known t v n a h = nil_names n (subst (λ (x : Value). Name (references x) n) a h)
 
   number_names : (k : _) (v : Value) (n : ℕ) → kept.IsNumberOf k v → Name (references v) n → ⊥
   number_names k (Num z) n a h = none n h
@@ -67,7 +74,7 @@ module _ (defs : List Def) (store : Store) where
   nothing_names _ n a h = a
 
   part_known : (t : Ty) (v : Value) (n : ℕ) → kept.IsPartOf store t v → Name (references v) n → Knows (ty.ArrayOf t) n
-  part_known t (Array p) n a h = refers_known (ty.ArrayOf t) (Items t) (array_named p) n (inr refl) a h
+  part_known t (Array p) n a h = refers_known (ty.ArrayOf t) (Items t) (array_named p) n (λ i. cc) refl a h
   part_known t _ n a h = absurd a
 
   alone_known : (t : Ty) (v : Value) (n : ℕ) → IsAlone store t v → Name (references v) n → Knows t n
@@ -76,13 +83,13 @@ module _ (defs : List Def) (store : Store) where
   alone_known ty.Big v n a h = absurd (number_names _ v n a h)
   alone_known ty.Chars v n a h = absurd (text_names v n a h)
   alone_known ty.Nothing v n a h = absurd (nothing_names v n a h)
-  alone_known ty.Nil v n a h = nil_names n (subst (λ (x : Value). Name (references x) n) a h)
+  alone_known ty.Nil v n a h = nil_known ty.Nil v n a h
   alone_known (ty.ArrayOf t) v n a h = part_known t v n a h
-  alone_known (ty.ListOf t) v n a h = reference_known (ty.ListOf t) (Cells t) v n (inr refl) a h
-  alone_known (ty.ChanOf t) v n a h = reference_known (ty.ChanOf t) (Channels t) v n (inr refl) a h
-  alone_known (ty.RefAdt k) v n a h = reference_known (ty.RefAdt k) (Adts k) v n (inr refl) a h
-  alone_known (ty.RefPick k j) v n a h = reference_known (ty.RefPick k j) (Adts k) v n (inr refl) a h
-  alone_known (ty.Module k) v n a h = reference_known (ty.Module k) Instances v n (inl refl) a h
+  alone_known (ty.ListOf t) v n a h = reference_known (ty.ListOf t) (Cells t) v n (λ i. cc) refl a h
+  alone_known (ty.ChanOf t) v n a h = reference_known (ty.ChanOf t) (Channels t) v n (λ i. cc) refl a h
+  alone_known (ty.RefAdt k) v n a h = reference_known (ty.RefAdt k) (Adts k) v n (λ i. cc) refl a h
+  alone_known (ty.RefPick k j) v n a h = reference_known (ty.RefPick k j) (Adts k) v n (λ i. cc) refl a h
+  alone_known (ty.Module k) v n a h = nil_known (ty.Module k) v n a h
   alone_known _ v n a h = absurd a
 
   -- a part of an adt is a field, or the tag, which is an int
@@ -108,7 +115,7 @@ module _ (defs : List Def) (store : Store) where
         elim (field_or_tag d.picks (field_types d) k.0 k.1) [ inl i ↦ absurd (k.3 (sym i)) | inr f ↦ f ] in
         through (ty.Adt j) k.0 n (reaching.of_adt j k.0 (record { def = d; there = at; has = has })) k.2
 
-    all_known : (ts : List Ty) (vs : List Value) (n : ℕ) → AllAreOf defs store ts vs → Name (references_in vs) n → OneKnows ts n
+    pub all_known : (ts : List Ty) (vs : List Value) (n : ℕ) → AllAreOf defs store ts vs → Name (references_in vs) n → OneKnows ts n
     all_known ts vs n none_of h = none n h
     all_known _ _ n (more_of t ts v vs a b) h = elim (either (references v) (references_in vs) n h) [
       | inl x ↦ (t, inl refl, known t v n a x, λ i. int_names v n (subst (λ (u : Ty). IsOf defs store u v) i a) x)
@@ -139,12 +146,13 @@ module _ (defs : List Def) (store : Store) where
   ref_known j n k = record {
     stands = k.stands;
     said = k.said;
-    reached = elim k.reached [ inl e ↦ inl e | inr r ↦ inr (ref_reaches j k.stands r) ];
+    proper = k.proper;
+    reached = ref_reaches j k.stands k.reached;
   }
 
-  -- what an instance names is known too
+  -- what an instance names is known too, whatever its type
   abbrev pub KnowsBy : Standing → ℕ → Type 0
-  KnowsBy Instances n = (s : Standing) × (slice_get store n ≡ Some s)
+  KnowsBy Instances n = (t : Ty) × Knows t n
   KnowsBy s n = Knows (type_of s) n
 
   pub contained : (globals : List Ty) (s : Standing) (u : HeapValue) (n : ℕ) → Contains defs globals store s u
@@ -152,9 +160,9 @@ module _ (defs : List Def) (store : Store) where
   contained globals (Items t) (Elements vs) n c h = through (ty.ArrayOf t) t n (of_array t) (each_known t vs n c h)
   contained globals (Cells t) (Cell v r) n c h = elim (either (references v) (r ∷ []) n (both_words v r n h)) [
     | inl x ↦ through (ty.ListOf t) t n (of_list t) (known t v n c.0 x)
-    | inr x ↦ refers_known (ty.ListOf t) (Cells t) r n (inr refl) c.1 x
+    | inr x ↦ refers_known (ty.ListOf t) (Cells t) r n (λ i. cc) refl c.1 x
   ]
   contained globals (Adts j) (Record v) n c h = ref_known j n (known (ty.Adt j) v n c h)
   contained globals (Channels t) Channel n c h = absurd (omega (arith, h))
-  contained globals Instances (Instance vs) n c h = let k = all_known globals vs n c h in (k.2.stands, k.2.said)
+  contained globals Instances (Instance vs) n c h = let k = all_known globals vs n c h in (k.0, k.2)
   contained globals _ _ n c h = absurd c

@@ -1,20 +1,24 @@
 -- What the checker allows to be stored is allowed.
-use Rattle.std.proofs.Common.{◌≡◌, ℕ, List, Some, refl, sym, ap, ◌∙◌}
+use Rattle.std.proofs.Common.{◌≡◌, ℕ, List, Some, refl, sym, ap, subst, ◌∙◌}
 use Rattle.limbo_types.specs.Types as ty
 use Rattle.limbo_types.specs.Types.{Ty}
 use Rattle.limbo_adts.specs.Reaches.{plain}
 use Rattle.limbo_typed.specs.Fitting.{IsRefOf}
 use Rattle.limbo_typed.specs.Typed as typed
+use Rattle.limbo_layout.specs.Adts.{Def}
 use Rattle.limbo_typed.specs.Typed.{Module, Var, At, Local, Global, Field, Element, Character, Target}
 use Rattle.limbo_typed.specs.Sound.{SoundPlace, type_of}
 use Rattle.limbo_stores.specs.Stores as stores
-use Rattle.limbo_stores.specs.Stores.{CanClose}
+use Rattle.limbo_stores.specs.Stores.{CanClose, Closes, CopyCloses, by_place, by_copy}
+use Rattle.limbo_kept.specs.Permitting.{NeverBack}
+use Rattle.limbo_kept.specs.Storing.{CopiesWell}
 use Rattle.limbo_stores.proofs.Reaching.{reaches_alike}
 use Rattle.limbo_meaning.specs.Values.{Value}
 use Rattle.limbo_meaning.specs.Places.{Root}
 use Rattle.limbo_meaning.specs.Program.{way_of}
-use Rattle.limbo_rings.specs.Storing.{holder, IsAllowed}
-use Rattle.limbo_rings.specs.Permitting.{root_type, place_of, AllowedIsAllowed}
+use Rattle.limbo_kept.specs.Permitting.{holder}
+use Rattle.limbo_rings.specs.Storing.{IsAllowed}
+use Rattle.limbo_rings.specs.Permitting.{root_type, place_of, AllowedIsAllowed, WhatDoesNotCloseIsAllowed}
 
 -- The type by which the object is held, but for variants.
 abbrev HeldAs : typed.Place → Ty → Type 0
@@ -53,3 +57,14 @@ allowed_at m variables t n sound never vs object e r =
 
 pub allowed_is_allowed : AllowedIsAllowed
 allowed_is_allowed m variables (At t n) sound never vs = allowed_at m variables t n sound never vs
+
+copies_well : (defs : List Def) (n : typed.Node) → (Closes defs n → ⊥) → CopiesWell NeverBack defs n
+copies_well defs (typed.Copy array from value) never =
+    λ t e r. never (by_copy array from value (subst (CopyCloses defs) (sym e) r))
+copies_well defs _ never = tt
+
+pub what_does_not_close_is_allowed : WhatDoesNotCloseIsAllowed
+what_does_not_close_is_allowed defs n never = record {
+  places = λ p into object held r. never (by_place n p into (record { object = object; held = held; reaches = r }));
+  copies = copies_well defs n never;
+}

@@ -1,11 +1,10 @@
 -- What is cut, and how a run begins.
 use Rattle.std.proofs.Common.{◌≡◌, ℕ, zero, suc, ◌+◌, ◌<◌, inl, inr, Bool, true, false, List, [], ◌∷◌, Option, None, Some, refl, sym}
 use Rattle.std.proofs.Common.{subst, arith}
-use Rattle.std.specs.Prelude.{slice_get, nat_eq, if◌then◌else◌}
+use Rattle.std.specs.Prelude.{nat_eq, if◌then◌else◌}
 use Rattle.heap_model.specs.Kept.{Graph}
 use Rattle.heap_model.specs.Heap.{Heap, at, graph, stays}
 use Rattle.heap_model.proofs.Staying.{what_stays}
-use Rattle.limbo_types.specs.Types.{Ty}
 use Rattle.limbo_layout.specs.Adts.{Def}
 use Rattle.limbo_typed.specs.Typed as typed
 use Rattle.limbo_typed.specs.Typed.{Module}
@@ -19,8 +18,6 @@ use Rattle.limbo_meaning.specs.Origins.{Name}
 use Rattle.limbo_meaning.specs.Program.{initial_of, initials_from, globals_of}
 use Rattle.limbo_meaning.specs.Runs.{list_from, cells_from, first_world}
 use Rattle.limbo_meaning.proofs.Names.{none, nil_names, is_one, either, in_fitted}
-use Rattle.limbo_kept.specs.Values.{Standing, Instances, Store}
-use Rattle.limbo_kept.specs.Stores.{Contains, HeapIsOf}
 use Rattle.limbo_rings.specs.Rings.{Leads, at_once, further}
 use Rattle.limbo_rings.specs.Storing.{CutsMakeNoRing, OpeningsHaveNoRing}
 use Rattle.limbo_rings.proofs.Known.{both_words}
@@ -33,14 +30,10 @@ fewer g h k _ _ (at_once a b u) = at_once a b (k a b u)
 fewer g h k _ _ (further a b c u l) = further a b c (k a b u) (fewer g h k b c l)
 
 pub cuts_make_no_ring : CutsMakeNoRing
-cuts_make_no_ring store roots h clean =
-    let less : (a b : ℕ) → 0 < (graph inside (stays inside roots h)).uses a b → 0 < (graph inside h).uses a b = λ a b l.
-    let u = named_in (stays inside roots h) a b l in
-    names_out h a b u.0 (((what_stays HeapValue).greatest inside roots h).as_it_was a u.0 u.1) u.2 in
-    record {
-      no_ring = λ n l. clean.no_ring n (fewer (graph inside h) (graph inside (stays inside roots h)) less n n l);
-      instances = λ a b l. clean.instances a b (less a b l);
-    }
+cuts_make_no_ring roots h clean n l =
+    clean n (fewer (graph inside h) (graph inside (stays inside roots h))
+    (λ a b k. let u = named_in (stays inside roots h) a b k in
+    names_out h a b u.0 (((what_stays HeapValue).greatest inside roots h).as_it_was a u.0 u.1) u.2) n n l)
 
 -- ---- the opening
 
@@ -104,17 +97,7 @@ module _ (m : Module) (words : List (List ℕ)) where
   edge : (a b : ℕ) → 0 < (graph inside heap).uses a b → (b ≡ suc a) × IsCell (at heap b)
   edge a b l = let u = named_in heap a b l in edge_at a u.0 b u.1 u.2
 
-  no_instance : (defs : List Def) (globals : List Ty) (store : Store) → HeapIsOf defs globals store heap → (b : ℕ) → IsCell (at heap b)
-      → slice_get store b ≡ Some Instances → ⊥
-  no_instance defs globals store is b c e =
-      let t = is.each b (Cell c.0 c.1) c.2 in
-      let same : t.stands ≡ Instances = let f : slice_get store b ≡ Some t.stands = t.said in cc in
-      subst (λ (s : Standing). Contains defs globals store s (Cell c.0 c.1)) same t.contains
-
 pub openings_have_no_ring : OpeningsHaveNoRing
-openings_have_no_ring m words defs globals store is = record {
-  no_ring = λ n l.
-      let r = rises (graph inside (first_world m words).heap) (λ a b u. let e = (edge m words a b u).0 in omega arith) n n l in
-      absurd (omega arith);
-  instances = λ a b l. no_instance m words defs globals store is b (edge m words a b l).1;
-}
+openings_have_no_ring m words n l =
+    let r = rises (graph inside (first_world m words).heap) (λ a b u. let e = (edge m words a b u).0 in omega arith) n n l in
+    absurd (omega arith)

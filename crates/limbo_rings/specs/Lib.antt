@@ -2,3 +2,4 @@ pub mod Rings
 pub mod Storing
 pub mod Permitting
 pub mod Stepping
+pub mod Running

@@ -2,9 +2,10 @@
 
 ghost use Rattle.limbo_rings.specs.Rings.{NoRingsNoneLost};
 ghost use Rattle.limbo_rings.specs.Storing.{NewMakesNoRing, WritesMakeNoRing, CopiesMakeNoRing, FillsMakeNoRing};
-ghost use Rattle.limbo_rings.specs.Storing.{CutsMakeNoRing, OpeningsHaveNoRing, AddingMakesNoRing, LaterStoresMakeNoRing};
-ghost use Rattle.limbo_rings.specs.Permitting.{AllowedIsAllowed};
-ghost use Rattle.limbo_rings.specs.Stepping.{StepsDo};
+ghost use Rattle.limbo_rings.specs.Storing.{CutsMakeNoRing, OpeningsHaveNoRing};
+ghost use Rattle.limbo_rings.specs.Permitting.{AllowedIsAllowed, WhatDoesNotCloseIsAllowed};
+ghost use Rattle.limbo_rings.specs.Running.{SoundModulesMakeNoRing};
+ghost use Rattle.limbo_rings.specs.Stepping.{StepsDo, StepsMakeNoRing};
 
 /// Where no value of a heap names itself, what stays of it is reached from what names it from outside.
 pub fn no_rings_none_lost<A>()
@@ -41,16 +42,6 @@ pub fn openings_have_no_ring()
     ensures { OpeningsHaveNoRing }
 {}
 
-/// A step of a tree that adds a value to the heap makes no ring, where tree and variables name values that are known.
-pub fn adding_makes_no_ring()
-    ensures { AddingMakesNoRing }
-{}
-
-/// A heap without rings has none either where the store has grown.
-pub fn later_stores_make_no_ring()
-    ensures { LaterStoresMakeNoRing }
-{}
-
 /// Where the checker finds that nothing which is stored at a place can close a ring, each write there is allowed.
 pub fn allowed_is_allowed()
     ensures { AllowedIsAllowed }
@@ -60,4 +51,20 @@ pub fn allowed_is_allowed()
 /// copies elements of an array's type into it.
 pub fn steps_do()
     ensures { StepsDo }
+{}
+
+/// A node whose stores close no ring, as the checker asks of each, stores only what may be stored where nothing is to lead back.
+pub fn what_does_not_close_is_allowed()
+    ensures { WhatDoesNotCloseIsAllowed }
+{}
+
+/// A step of a well-typed tree makes no ring, where only what never leads back may be stored, and the tree is apart from what it fills.
+pub fn steps_make_no_ring()
+    ensures { StepsMakeNoRing }
+{}
+
+/// No run of a sound module whose stores never lead back makes a ring: in each of its configurations no value of the heap names itself, and
+/// what stays of the heap is reached from the processes.
+pub fn sound_modules_make_no_ring()
+    ensures { SoundModulesMakeNoRing }
 {}

@@ -1,0 +1,5 @@
+pub mod Fillings
+pub mod Answered
+pub mod Trees
+pub mod ProcessesFrames
+pub mod Processes
