@@ -80,13 +80,13 @@ compiled program f = go program.routines f
     go (r ∷ rs) zero none has = has r refl refl
     go (r ∷ rs) (suc f) none has = go rs f none has
 
-join_done : (defs : List Def) (k : ℕ) (b : Block) → HandledBlock defs k b → join b Done ≡ b
+pub join_done : (defs : List Def) (k : ℕ) (b : Block) → HandledBlock defs k b → join b Done ≡ b
 join_done defs k Done h = refl
 join_done defs k (Then s b) h = ap (Then s) (join_done defs k b h.1)
 join_done defs k (Turn l b) h = absurd h
 join_done defs k (Again l b) h = absurd h
 
-has_all : (front is : List Instr) → HasAt (front ++ is) (length front) is
+pub has_all : (front is : List Instr) → HasAt (front ++ is) (length front) is
 has_all front [] = tt
 has_all front (i ∷ is) = (
   nth front,

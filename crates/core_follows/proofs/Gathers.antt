@@ -123,7 +123,7 @@ abbrev pub SpareEach : List ℕ → List Instr → Type 0
 SpareEach [] ds = Unit {0}
 SpareEach (s ∷ ss) ds = AllSpare s ds × SpareEach ss ds
 
-spare_each_after : (v : Moved) (ss : List ℕ) (ds : List Instr) → SpareEach ss ds → SpareEach ss (drops_after v ds)
+pub spare_each_after : (v : Moved) (ss : List ℕ) (ds : List Instr) → SpareEach ss ds → SpareEach ss (drops_after v ds)
 spare_each_after v [] ds h = tt
 spare_each_after v (s ∷ ss) ds h = (spare_after_one s v ds h.0, spare_each_after v ss ds h.1)
 

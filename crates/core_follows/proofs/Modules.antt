@@ -45,11 +45,11 @@ count_before : (ts us : Terms) → count (terms_before ts us) ≡ count ts + cou
 count_before NoTerms us = omega arith
 count_before (MoreTerms t ts) us = let e = count_before ts us in omega arith
 
-part_front : (ts us : Terms) → AllPart (terms_before ts us) → AllPart ts
+pub part_front : (ts us : Terms) → AllPart (terms_before ts us) → AllPart ts
 part_front NoTerms us h = tt
 part_front (MoreTerms t ts) us h = (h.0, part_front ts us h.1)
 
-part_back : (ts us : Terms) → AllPart (terms_before ts us) → AllPart us
+pub part_back : (ts us : Terms) → AllPart (terms_before ts us) → AllPart us
 part_back NoTerms us h = h
 part_back (MoreTerms t ts) us h = part_back ts us h.1
 
@@ -166,11 +166,11 @@ module _ (m : Module) (laid : AdtsAreLaid m.adts) (variables : List Var) where
   operated operation.List t ts = inl refl
   operated _ t ts = inl refl
 
-  operated_part : (o : Operation) (t : Ty) (ts : Terms) → IsPart (Node t (operating o) ts) → AllPart ts
+  pub operated_part : (o : Operation) (t : Ty) (ts : Terms) → IsPart (Node t (operating o) ts) → AllPart ts
   operated_part o t ts h = h
 
   mutual
-    node_type : (t : Ty) (n : typed.Node) → SoundNode m variables t n → IsPart (node_of t n) → Stands (type_of m.adts (node_of t n)) t
+    pub node_type : (t : Ty) (n : typed.Node) → SoundNode m variables t n → IsPart (node_of t n) → Stands (type_of m.adts (node_of t n)) t
     node_type t (typed.Number n) s h = inl refl
     node_type t (typed.Chars x) s h = inl refl
     node_type t typed.Nil s h = inl refl
@@ -207,7 +207,7 @@ module _ (m : Module) (laid : AdtsAreLaid m.adts) (variables : List Var) where
   printed_handled ty.Byte u h = inl (inl refl, (h, tt))
   printed_handled _ u h = h
 
-  printed_part : (t : Ty) (u : Term) → IsPart (as_printed t u) → IsPart u
+  pub printed_part : (t : Ty) (u : Term) → IsPart (as_printed t u) → IsPart u
   printed_part ty.Byte u h = h.0
   printed_part _ u h = h
 
@@ -314,7 +314,7 @@ below [] (suc n) b e = absurd cc
 below (c ∷ bs) zero b e = omega arith
 below (c ∷ bs) (suc n) b e = let l = below bs n b e in omega arith
 
-load_or : (n : typed.Node) → (is_load n ≡ None) ⊎ (is_load n ≡ Some Over)
+pub load_or : (n : typed.Node) → (is_load n ≡ None) ⊎ (is_load n ≡ Some Over)
 load_or (typed.Assign p (Of t (typed.Load i e))) = inr refl
 load_or _ = inl refl
 
@@ -410,7 +410,7 @@ functions_handled m laid (f ∷ fs) s zero r e h =
     (λ p. stmts_handled m laid f [] f.body Done s.0.body p (λ q. tt)) h
 functions_handled m laid (f ∷ fs) s (suc k) r e h = functions_handled m laid fs s.1 k r e h
 
-modules_are_handled : (m : Module) → sound.IsSound m → AdtsAreLaid m.adts → ProgramPart (program_of m) → HandledProgram (program_of m)
+pub modules_are_handled : (m : Module) → sound.IsSound m → AdtsAreLaid m.adts → ProgramPart (program_of m) → HandledProgram (program_of m)
 modules_are_handled m s laid part f r e = functions_handled m laid m.functions s.functions f r e (part f r e)
 
 pub modules_keep : ModulesKeep

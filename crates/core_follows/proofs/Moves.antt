@@ -68,15 +68,15 @@ to_same v s k e = ap (λ (b : Bool). if b then Drop v.into (v.at + (k - v.first)
 
 -- ---- the others
 
-after_more : (v : Moved) (is js : List Instr) → drops_after v (is ++ js) ≡ drops_after v is ++ drops_after v js
+pub after_more : (v : Moved) (is js : List Instr) → drops_after v (is ++ js) ≡ drops_after v is ++ drops_after v js
 after_more v [] js = refl
 after_more v (i ∷ is) js = ap (λ (xs : List Instr). drop_after v i ∷ xs) (after_more v is js)
 
-after_long : (v : Moved) (is : List Instr) → length (drops_after v is) ≡ length is
+pub after_long : (v : Moved) (is : List Instr) → length (drops_after v is) ≡ length is
 after_long v [] = refl
 after_long v (i ∷ is) = ap suc (after_long v is)
 
-after_apart : (v : Moved) (a b : ℕ) (is : List Instr) → (a ≤ v.slot → v.slot < b → ⊥) → AllTouch (Between a b) is → drops_after v is ≡ is
+pub after_apart : (v : Moved) (a b : ℕ) (is : List Instr) → (a ≤ v.slot → v.slot < b → ⊥) → AllTouch (Between a b) is → drops_after v is ≡ is
 after_apart v a b [] f t = refl
 after_apart v a b (i ∷ is) f t = ap (λ (j : Instr). j ∷ drops_after v is) (one i t.0) ∙ ap (λ (js : List Instr). i ∷ js)
     (after_apart v a b is f t.1)
@@ -114,7 +114,7 @@ miss_same v s k (i ∷ is) u h = (one i h.0, miss_same v s k is u h.1)
         (moved_or v r j)
     one _ h = tt
 
-spare_tail : (s : ℕ) (is js : List Instr) → AllSpare s (is ++ js) → AllSpare s js
+pub spare_tail : (s : ℕ) (is js : List Instr) → AllSpare s (is ++ js) → AllSpare s js
 spare_tail s [] js h = h
 spare_tail s (i ∷ is) js h = spare_tail s is js h.1
 

@@ -704,7 +704,7 @@ module _ (r : Stores) (m : Module) (laid : AdtsAreLaid m.adts) (f : typed.Functi
     ends = refl;
   }
 
-  declares_all : (xs : List ℕ) → Each (λ (x : ℕ). x < length f.variables) xs → DeclaresAll here (map (local types) xs)
+  pub declares_all : (xs : List ℕ) → Each (λ (x : ℕ). x < length f.variables) xs → DeclaresAll here (map (local types) xs)
   declares_all [] s = tt
   declares_all (x ∷ xs) s = (
     (

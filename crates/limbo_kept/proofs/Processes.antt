@@ -54,28 +54,28 @@ module _ (s : Scope) (store : Store) (gives : Ty) where
   join_is w (Turn l a) b f g h = (f.0, join_is None a b f.1 (λ e. h) h)
   join_is w (Again l a) b f g h = (f.0, join_is None a b f.1 (λ e. h) h)
 
-  joined : (a b : Block) → Fresh a → Fresh b → Fresh (join a b)
+  pub joined : (a b : Block) → Fresh a → Fresh b → Fresh (join a b)
   joined a b f g = join_is None a b f (λ e. g) g
 
-  entered_is : (l : Loop) (b : Block) → LoopIs s store gives l → Fresh b → Fresh (entered l b)
+  pub entered_is : (l : Loop) (b : Block) → LoopIs s store gives l → Fresh b → Fresh (entered l b)
   entered_is (Looping c n body) b f g = joined body (Turn (Looping c n body) b) f.2 (f, g)
 
   pub tested_is : (l : Loop) (b : Block) → LoopIs s store gives l → Fresh b → Fresh (tested l b)
   tested_is (Looping None n body) b f g = (f, g)
   tested_is (Looping (Some c) n body) b f g = ((f.0, f), g)
 
-  turned_is : (l : Loop) (b : Block) → LoopIs s store gives l → Fresh b → Fresh (turned l b)
+  pub turned_is : (l : Loop) (b : Block) → LoopIs s store gives l → Fresh b → Fresh (turned l b)
   turned_is (Looping c None body) b f g = tested_is (Looping c None body) b f g
   turned_is (Looping c (Some n) body) b f g = (f.1, (f, g))
 
-  behind_is : (k : ℕ) (b : Block) → Fresh b → Fresh (behind k b)
+  pub behind_is : (k : ℕ) (b : Block) → Fresh b → Fresh (behind k b)
   behind_is k Done f = f
   behind_is k (Then x b) f = behind_is k b f.1
   behind_is k (Again l b) f = behind_is k b f.1
   behind_is zero (Turn l b) f = f.1
   behind_is (suc k) (Turn l b) f = behind_is k b f.1
 
-  at_turn_is : (k : ℕ) (b : Block) → Fresh b → Fresh (at_turn k b)
+  pub at_turn_is : (k : ℕ) (b : Block) → Fresh b → Fresh (at_turn k b)
   at_turn_is k Done f = f
   at_turn_is k (Then x b) f = at_turn_is k b f.1
   at_turn_is k (Again l b) f = at_turn_is k b f.1

@@ -1,0 +1,282 @@
+-- Nodes of each kind, connectives and updates go well.
+use Rattle.std.proofs.Common.{◌≡◌, ℕ, suc, ◌+◌, ◌<◌, ◌≤◌, Bool, true, false, List, [], ◌∷◌, ◌++◌, length, Some, None}
+use Rattle.std.proofs.Common.{refl, sym, subst, ◌∙◌, arith, inl, inr, append-nil, length-append}
+use Rattle.std.specs.Prelude.{slice_get, if◌then◌else◌}
+use Rattle.limbo_types.specs.Types as ty
+use Rattle.limbo_types.specs.Types.{Ty}
+use Rattle.limbo_layout.specs.Adts.{Def}
+use Rattle.limbo_typed.specs.Fitting.{Stands, AllStand, Gives}
+use Rattle.limbo_typed.specs.declared.operation.Connective.{Connective}
+use Rattle.limbo_typed.specs.declared.operation.Operation.{Operation}
+use Rattle.limbo_typed.specs.declared.operation.Given.{Given}
+use Rattle.limbo_typed.specs.declared.operation.Given.TheVariants as given
+use Rattle.limbo_meaning.specs.Operations.{item_of}
+use Rattle.limbo_meaning.specs.Places.{Way}
+use Rattle.limbo_meaning.specs.Trees as tree
+use Rattle.limbo_meaning.specs.Trees.{Work, Operate, Node, Terms}
+use Rattle.limbo_meaning.specs.Evaluation.{work_refers}
+use Rattle.limbo_kept.specs.Operating.{HasRoom}
+use Rattle.limbo_kept.specs.Trees.{Scope, WayIs, WorkIs}
+use Rattle.core_code.specs.Code.{Instr, Give, Write, Skip, Truth, Mirror}
+use Rattle.core_code.specs.Naming.{AllDiffer}
+use Rattle.core_code.specs.Terms.{Lowered, LoweredAll, count_of, drops_from, drops_if, gives, gathers, node, type_of, type_at, given_slot}
+use Rattle.core_follows.specs.Drops.{Between, AllTouch, HasAt}
+use Rattle.core_follows.specs.Handled.{Suits, types_in, count}
+use Rattle.core_follows.proofs.Drops.{touch_more}
+use Rattle.core_follows.proofs.Holding.{has_front, has_back}
+use Rattle.core_follows.proofs.Static.{touch_if, touch_wide}
+use Rattle.core_follows.proofs.Valued.{AllValued}
+use Rattle.core_typing.specs.Held.{Of, Decided, Slots, slot, put, noted}
+use Rattle.core_typing.specs.Needs.{IsA}
+use Rattle.core_typing.specs.Trees.{TakesSo}
+use Rattle.core_typing.proofs.Going.{put_same, put_other, put_long, same_place, goes_one, goes_to, two_places}
+use Rattle.core_typing.proofs.Drops.{Lets, none, enters, passes, lets_kept, lets_more, lets_from, lets_if}
+use Rattle.core_typing.proofs.Standing.{itself, is_on, these_on, these_same}
+use Rattle.core_typing.proofs.Nodes.{GoesBy, AllBy, lets_put, touch_row, gives_goes, call_goes, print_goes, channel_goes}
+use Rattle.core_typing.proofs.Nodes.{assign_goes, copy_goes, link_goes, gather_goes, pick_goes}
+
+-- ---- what was decided
+
+noted_same : (h : Bool) (slots : Slots) (d : ℕ) (b : Bool) (r : ℕ) → (r ≡ d → ⊥)
+    → slot (noted slots (if h then Some d else None) b) r ≡ slot slots r
+noted_same true slots d b r e = put_other slots d r (Decided b) e
+noted_same false slots d b r e = refl
+
+noted_long : (h : Bool) (slots : Slots) (d : ℕ) (b : Bool) → length (noted slots (if h then Some d else None) b) ≡ length slots
+noted_long true slots d b = put_long slots d (Decided b)
+noted_long false slots d b = refl
+
+noted_there : (h : Bool) (slots : Slots) (d : ℕ) (b : Bool) → d < length slots → h ≡ true
+    → slot (noted slots (if h then Some d else None) b) d ≡ Decided b
+noted_there true slots d b l e = put_same slots d (Decided b) l
+noted_there false slots d b l e = absurd cc
+
+mirror_passes : (defs : List Def) (h : Bool) (slots : Slots) (d : ℕ) (ds : List Instr) → (h ≡ true → slot slots d ≡ Decided true)
+    → Lets defs slots (drops_if h (Mirror d (length ds) ∷ ds))
+mirror_passes defs true slots d ds e = passes d (length ds) ds [] (e refl) (sym (append-nil ds)) refl none
+mirror_passes defs false slots d ds e = none
+
+mirror_enters : (defs : List Def) (h : Bool) (slots : Slots) (d : ℕ) (ds : List Instr) → (h ≡ true → slot slots d ≡ Decided false)
+    → Lets defs slots ds → Lets defs slots (drops_if h (Mirror d (length ds) ∷ ds))
+mirror_enters defs true slots d ds e x = enters d (length ds) (e refl) x
+mirror_enters defs false slots d ds e x = none
+
+module _ (s : Scope) (answer : Ty) (code : List Instr) where
+  pub node_goes : (lo : ℕ) (t : Ty) (o : Work) (ts : Terms) (us : List Ty) (u : Ty) (l : LoweredAll) → lo ≤ l.free
+      → AllTouch (Between lo l.free) l.drops → AllValued lo l.free l.drops l.values → AllDiffer l.values → length l.values ≡ count ts
+      → Suits s.adts t o ts → WorkIs s t o us u → AllStand (types_in s.adts ts) us → TakesSo (types_in s.adts ts) o
+      → AllBy s answer code lo l (types_in s.adts ts)
+      → GoesBy s answer code lo (node s.adts (type_at s.adts 0 ts) t o l) (type_of s.adts (Node t o ts))
+  node_goes lo t (Operate o) ts us u l p w vd df c (inl h) is st f all =
+      subst (λ (b : Bool). GoesBy s answer code lo (if b then gathers s.adts t o l else gives s.adts t (Operate o) l) t) (sym h)
+      (gives_goes s answer code lo t (Operate o) l (types_in s.adts ts) p w
+      (λ after a. (us, these_on after l.values (types_in s.adts ts) us a st, (is.0, is.1, is.2, inl refl))) all)
+  node_goes lo t (Operate o) ts us u l p w vd df c (inr h) is st f all =
+      subst (λ (b : Bool). GoesBy s answer code lo (if b then gathers s.adts t o l else gives s.adts t (Operate o) l) t) (sym h.0)
+      (gather_goes s answer code lo t o l (types_in s.adts ts) us p w vd df h.1 st (is.0, is.1, is.2, inl refl) all)
+  node_goes lo t (tree.Literal k) ts us u l p w vd df c h is st f all =
+      gives_goes s answer code lo t (tree.Literal k) l (types_in s.adts ts) p w
+      (λ after a. (us, these_on after l.values (types_in s.adts ts) us a st, (is.0, is.1, is.2, inl refl))) all
+  node_goes lo t tree.Nil ts us u l p w vd df c h is st f all =
+      gives_goes s answer code lo t tree.Nil l (types_in s.adts ts) p w
+      (λ after a. (us, these_on after l.values (types_in s.adts ts) us a st, (is.0, inl refl))) all
+  node_goes lo t (tree.Read r) ts us u l p w vd df c h is st f all =
+      gives_goes s answer code lo t (tree.Read r) l (types_in s.adts ts) p w
+      (λ after a. (us, these_on after l.values (types_in s.adts ts) us a st, (is.0, is.1, inl refl))) all
+  node_goes lo t (tree.Sprint ps) ts us u l p w vd df c h is st f all =
+      gives_goes s answer code lo t (tree.Sprint ps) l (types_in s.adts ts) p w
+      (λ after a. (us, these_on after l.values (types_in s.adts ts) us a st, (is.0, is.1, inl refl))) all
+  node_goes lo t (tree.Assign aims) ts us u l p w vd df c h is st f all =
+      assign_goes s answer code lo (type_at s.adts 0 ts) t aims ts us is.0 l h st is.1 is.2 is.3 all
+  node_goes lo t (tree.TakePart k) ts us u l p w vd df c h is st f all =
+      pick_goes s answer code lo t is.0 k ts l us p w vd c h st is.1 is.2 is.3 all
+  node_goes lo t tree.Copy ts us u l p w vd df c h is st f all =
+      copy_goes s answer code lo (type_at s.adts 0 ts) t ts us is.0 l h st is.1 is.2 f all
+  node_goes lo t tree.Link ts us u l p w vd df c h is st f all =
+      link_goes s answer code lo (type_at s.adts 0 ts) t is.0 l (types_in s.adts ts) us p w vd is.1 is.2 st is.3 all
+  node_goes lo t tree.NewChannel ts us u l p w vd df c h is st f all =
+      channel_goes s answer code lo (type_at s.adts 0 ts) t l (types_in s.adts ts) is.0 p w is.1 all
+  node_goes lo t (tree.Call k) ts us u l p w vd df c h is st f all =
+      call_goes s answer code lo t k l (types_in s.adts ts) p w
+      (λ after a. (us, these_on after l.values (types_in s.adts ts) us a st, (is.0, is.1, is.2, is.3, inl refl))) all
+  node_goes lo t (tree.Print ps) ts us u l p w vd df c h is st f all =
+      subst (λ (x : Ty). GoesBy s answer code lo (node s.adts (type_at s.adts 0 ts) x (tree.Print ps) l) x) (sym h)
+      (print_goes s answer code lo (type_at s.adts 0 ts) ps l (types_in s.adts ts) p w f all)
+
+  -- ---- connectives
+
+  abbrev pub lazy_code : (h : Bool) → Connective → (a b : Lowered) → List Instr
+  lazy_code h c a b =
+      a.code ++ Skip c b.free (if h then Some a.free else None) a.value (suc (length b.code)) ∷ b.code ++ Truth b.free b.value ∷ []
+
+  abbrev pub lazy_drops : (h : Bool) → (a b : Lowered) → List Instr
+  lazy_drops h a b = a.drops ++ drops_if h (Mirror a.free (length b.drops) ∷ b.drops)
+
+  pub lazy_goes : (h : Bool) (c : Connective) (lo : ℕ) (a b : Lowered) (ta tb : Ty) → lo ≤ a.free → suc a.free ≤ b.free
+      → AllTouch (Between lo a.free) a.drops → AllTouch (Between (suc a.free) b.free) b.drops → GoesBy s answer code lo a ta
+      → GoesBy s answer code (suc a.free) b tb → Stands ta ty.Int → Stands tb ty.Int
+      → GoesBy s answer code lo
+      (record { code = lazy_code h c a b; drops = lazy_drops h a b; value = b.free; free = suc b.free }) ty.Int
+  lazy_goes h c lo a b ta tb p q wa wb ga gb sa sb pc slots n has fits k =
+      let skip = Skip c b.free (if h then Some a.free else None) a.value (suc (length b.code)) in
+      let truth = Truth b.free b.value in
+      let has1 = has_front code pc (a.code ++ (skip ∷ b.code)) (truth ∷ []) has in
+      let has2 = has_back code pc (a.code ++ (skip ∷ b.code)) (truth ∷ []) has in
+      let has3 = has_back code pc a.code (skip ∷ b.code) has1 in
+      let e1 = length-append a.code (skip ∷ b.code) in
+      let e2 = length-append (a.code ++ (skip ∷ b.code)) (truth ∷ []) in
+      let i = Of ty.Int in
+      let ds = drops_if h (Mirror a.free (length b.drops) ∷ b.drops) in
+      let wd : AllTouch (Between a.free (suc b.free)) ds = touch_if (Between a.free (suc b.free)) h _
+      ((omega arith, omega arith), touch_wide (suc a.free) b.free a.free (suc b.free) b.drops (omega arith) (omega arith) wb) in
+      ga pc slots n (has_front code pc a.code (skip ∷ b.code) has1) (omega arith)
+      (λ one left.
+      let pc1 : ℕ = pc + length a.code in
+      let long1 = left.long in
+      let yes = noted one (if h then Some a.free else None) true in
+      let no = noted one (if h then Some a.free else None) false in
+      let long_yes = noted_long h one a.free true in
+      let long_no = noted_long h one a.free false in
+      let passed = put yes b.free i in
+      goes_one s answer code n pc1 one skip has3.0 (is_on one a.value ta ty.Int left.is sa)
+      (two_places s answer code n (suc pc1 + suc (length b.code)) (suc pc1) passed no
+      (same_place s answer code n (pc + length (lazy_code h c a b)) (suc pc1 + suc (length b.code)) passed (omega arith)
+      (k passed (record {
+        long = put_long yes b.free i ∙ long_yes ∙ long1;
+        same = λ r d. put_other yes b.free r i
+            (λ e. absurd (elim d [ inl y ↦ omega (arith, y, e, p, q) | inr y ↦ omega (arith, y, e) ]))
+            ∙ noted_same h one a.free true r
+            (λ e. absurd (elim d [ inl y ↦ omega (arith, y, e, p) | inr y ↦ omega (arith, y, e, q) ]))
+            ∙ left.same r (elim d [ inl y ↦ inl y | inr y ↦ inr (omega arith) ]);
+        lets = lets_more s.adts passed lo a.free (suc b.free) a.drops ds wa wd
+            (lets_kept s.adts (Between lo a.free) one passed a.drops wa
+            (λ r d. put_other yes b.free r i (λ e. absurd (let y = d.1 in omega (arith, y, e, q)))
+            ∙ noted_same h one a.free true r (λ e. absurd (let y = d.1 in omega (arith, y, e)))) left.lets)
+            (mirror_passes s.adts h passed a.free b.drops (λ e. put_other yes b.free a.free i (λ e. absurd (omega (arith, e, q)))
+            ∙ noted_there h one a.free true (omega arith) e));
+        is = (ty.Int, put_same yes b.free i (omega arith), itself ty.Int);
+      })))
+      (gb (suc pc1) no n has3.1 (omega arith)
+      (λ two left2.
+      let pc2 : ℕ = suc pc1 + length b.code in
+      let long2 = left2.long in
+      let last = put two b.free i in
+      let to_truth : pc + length (a.code ++ (skip ∷ b.code)) ≡ pc2 = omega arith in
+      goes_to s answer code n pc2 (suc pc2) two last truth
+      (subst (λ (z : ℕ). slice_get code z ≡ Some truth) to_truth has2.0) (is_on two b.value tb ty.Int left2.is sb) refl
+      (same_place s answer code n (pc + length (lazy_code h c a b)) (suc pc2) last (omega arith)
+      (k last (record {
+        long = put_long two b.free i ∙ long2 ∙ long_no ∙ long1;
+        same = λ r d. put_other two b.free r i
+            (λ e. absurd (elim d [ inl y ↦ omega (arith, y, e, p, q) | inr y ↦ omega (arith, y, e) ]))
+            ∙ left2.same r (elim d [ inl y ↦ inl (omega arith) | inr y ↦ inr (omega arith) ])
+            ∙ noted_same h one a.free false r
+            (λ e. absurd (elim d [ inl y ↦ omega (arith, y, e, p) | inr y ↦ omega (arith, y, e, q) ]))
+            ∙ left.same r (elim d [ inl y ↦ inl y | inr y ↦ inr (omega arith) ]);
+        lets = lets_more s.adts last lo a.free (suc b.free) a.drops ds wa wd
+            (lets_kept s.adts (Between lo a.free) one last a.drops wa
+            (λ r d. put_other two b.free r i (λ e. absurd (let y = d.1 in omega (arith, y, e, q)))
+            ∙ left2.same r (inl (let y = d.1 in omega (arith, y)))
+            ∙ noted_same h one a.free false r (λ e. absurd (let y = d.1 in omega (arith, y, e)))) left.lets)
+            (mirror_enters s.adts h last a.free b.drops
+            (λ e. put_other two b.free a.free i (λ e. absurd (omega (arith, e, q))) ∙ left2.same a.free (inl (omega arith))
+            ∙ noted_there h one a.free false (omega arith) e)
+            (lets_put s.adts two (suc a.free) b.free i b.drops wb left2.lets));
+        is = (ty.Int, put_same two b.free i (omega arith), itself ty.Int);
+      })))))))
+
+  -- ---- updates
+
+  abbrev pub update_code : Operation → Ty → Way → (a b : LoweredAll) → List Instr
+  update_code o t w a b =
+      a.code ++ Give t (tree.Read w) a.free a.values ∷ b.code ++
+      (Give t (Operate o) b.free (a.free ∷ b.values) ∷ Write t w a.values [] b.free ∷ [])
+
+  abbrev pub update_drops : Operation → Ty → (a b : LoweredAll) → List Instr
+  update_drops o t a b =
+      a.drops ++ (drops_from a.free 0 (count_of s.adts t) ++
+      (b.drops ++ drops_if (work_refers s.adts t (Operate o)) (drops_from b.free 0 (count_of s.adts t))))
+
+  given_is : (g : Given) (slots : Slots) (x y : ℕ) (t : Ty) → slot slots x ≡ Of t → slot slots y ≡ Of t
+      → IsA slots (given_slot s.adts g x y) t
+  given_is given.Old slots x y t e f = (t, e, itself t)
+  given_is given.New slots x y t e f = (t, f, itself t)
+
+  pub update_goes : (o : Operation) (g : Given) (t : Ty) (w : Way) (lo : ℕ) (a b : LoweredAll) (Ps Qs ps qs : List Ty) → lo ≤ a.free
+      → suc a.free ≤ b.free → AllTouch (Between lo a.free) a.drops → AllTouch (Between (suc a.free) b.free) b.drops
+      → AllValued lo a.free a.drops a.values → AllStand Ps ps → AllStand Qs qs → WayIs s w ps t → Gives s.adts o (t ∷ qs) t
+      → HasRoom s.adts t → HasRoom s.adts (item_of t) → AllBy s answer code lo a Ps → AllBy s answer code (suc a.free) b Qs
+      → GoesBy s answer code lo (record {
+        code = update_code o t w a b;
+        drops = update_drops o t a b;
+        value = given_slot s.adts g a.free b.free;
+        free = suc b.free;
+      }) t
+  update_goes o g t w lo a b Ps Qs ps qs p q wa wb va sp sq way gives room item ga gb pc slots n has fits k =
+      let read = Give t (tree.Read w) a.free a.values in
+      let operate = Give t (Operate o) b.free (a.free ∷ b.values) in
+      let write = Write t w a.values [] b.free in
+      let has1 = has_front code pc (a.code ++ (read ∷ b.code)) (operate ∷ write ∷ []) has in
+      let has2 = has_back code pc (a.code ++ (read ∷ b.code)) (operate ∷ write ∷ []) has in
+      let has3 = has_back code pc a.code (read ∷ b.code) has1 in
+      let e1 = length-append a.code (read ∷ b.code) in
+      let e2 = length-append (a.code ++ (read ∷ b.code)) (operate ∷ write ∷ []) in
+      let i = Of t in
+      let own = drops_if (work_refers s.adts t (Operate o)) (drops_from b.free 0 (count_of s.adts t)) in
+      let olds = drops_from a.free 0 (count_of s.adts t) in
+      ga pc slots n (has_front code pc a.code (read ∷ b.code) has1) (omega arith)
+      (λ one left.
+      let pc1 : ℕ = pc + length a.code in
+      let long1 = left.long in
+      let next = put one a.free i in
+      let long_next = put_long one a.free i in
+      goes_to s answer code n pc1 (suc pc1) one next read has3.0
+      (ps, these_on one a.values Ps ps left.these sp, (way, room, inl refl)) refl
+      (gb (suc pc1) next n has3.1 (omega arith)
+      (λ two left2.
+      let pc2 : ℕ = suc pc1 + length b.code in
+      let to_operate : pc + length (a.code ++ (read ∷ b.code)) ≡ pc2 = omega arith in
+      let has4 = subst (λ (z : ℕ). HasAt code z (operate ∷ write ∷ [])) to_operate has2 in
+      let long2 = left2.long in
+      let three = put two b.free i in
+      let old : slot two a.free ≡ i = left2.same a.free (inl (omega arith)) ∙ put_same one a.free i (omega arith) in
+      let old3 : slot three a.free ≡ i = put_other two b.free a.free i (λ e. absurd (omega (arith, e, q))) ∙ old in
+      let new : slot three b.free ≡ i = put_same two b.free i (omega arith) in
+      let below : (r : ℕ) → r < a.free → slot three r ≡ slot one r = λ r l.
+      put_other two b.free r i (λ e. absurd (omega (arith, e, q, l))) ∙ left2.same r (inl (omega arith))
+      ∙ put_other one a.free r i (λ e. absurd (omega (arith, e, l))) in
+      let those = these_same one three lo a.free a.drops a.values Ps va (λ r x y. below r y) left.these in
+      goes_to s answer code n pc2 (suc pc2) two three operate has4.0
+      (t ∷ qs, ((t, old, itself t), these_on two b.values Qs qs left2.these sq), (gives, room, item, inl refl)) refl
+      (goes_to s answer code n (suc pc2) (suc (suc pc2)) three three write has4.1.0
+      (ps, these_on three a.values Ps ps those sp, way, inl (t, new, room, (t, refl, itself t))) refl
+      (same_place s answer code n (pc + length (update_code o t w a b)) (suc (suc pc2)) three (omega arith)
+      (k three (record {
+        long = put_long two b.free i ∙ long2 ∙ long_next ∙ long1;
+        same = λ r d. put_other two b.free r i
+            (λ e. absurd (elim d [ inl y ↦ omega (arith, y, e, p, q) | inr y ↦ omega (arith, y, e) ]))
+            ∙ left2.same r (elim d [ inl y ↦ inl (omega arith) | inr y ↦ inr (omega arith) ])
+            ∙ put_other one a.free r i
+            (λ e. absurd (elim d [ inl y ↦ omega (arith, y, e, p) | inr y ↦ omega (arith, y, e, q) ]))
+            ∙ left.same r (elim d [ inl y ↦ inl y | inr y ↦ inr (omega arith) ]);
+        lets = lets_more s.adts three lo a.free (suc b.free) a.drops _ wa
+            (touch_more (Between a.free (suc b.free)) olds _
+            (touch_wide a.free (suc a.free) a.free (suc b.free) olds (omega arith) (omega arith) (touch_row a.free 0 (count_of s.adts t)))
+            (touch_more (Between a.free (suc b.free)) b.drops own
+            (touch_wide (suc a.free) b.free a.free (suc b.free) b.drops (omega arith) (omega arith) wb)
+            (touch_wide b.free (suc b.free) a.free (suc b.free) own (omega arith) (omega arith)
+            (touch_if (Between b.free (suc b.free)) (work_refers s.adts t (Operate o)) _ (touch_row b.free 0 (count_of s.adts t))))))
+            (lets_kept s.adts (Between lo a.free) one three a.drops wa (λ r d. below r d.1) left.lets)
+            (lets_more s.adts three a.free (suc a.free) (suc b.free) olds _ (touch_row a.free 0 (count_of s.adts t))
+            (touch_more (Between (suc a.free) (suc b.free)) b.drops own
+            (touch_wide (suc a.free) b.free (suc a.free) (suc b.free) b.drops (omega arith) (omega arith) wb)
+            (touch_wide b.free (suc b.free) (suc a.free) (suc b.free) own (omega arith) (omega arith)
+            (touch_if (Between b.free (suc b.free)) (work_refers s.adts t (Operate o)) _ (touch_row b.free 0 (count_of s.adts t)))))
+            (lets_from s.adts three a.free 0 (count_of s.adts t) t old3 (omega arith))
+            (lets_more s.adts three (suc a.free) b.free (suc b.free) b.drops own wb
+            (touch_if (Between b.free (suc b.free)) (work_refers s.adts t (Operate o)) _ (touch_row b.free 0 (count_of s.adts t)))
+            (lets_put s.adts two (suc a.free) b.free i b.drops wb left2.lets)
+            (lets_if s.adts three (work_refers s.adts t (Operate o)) _
+            (lets_from s.adts three b.free 0 (count_of s.adts t) t new (omega arith)))));
+        is = given_is g three a.free b.free t old3 new;
+      })))))))

@@ -1,0 +1,416 @@
+-- Initialisers go well: a new array, its elements, and the element of the others, turn by turn.
+use Rattle.std.proofs.Common.{◌≡◌, ℕ, ℤ, zero, suc, ◌+◌, ◌-◌, ◌<◌, ◌≤◌, Bool, true, false, List, [], ◌∷◌, ◌++◌, length}
+use Rattle.std.proofs.Common.{refl, sym, ap, subst, ◌∙◌, arith, inl, inr, length-append, Some}
+use Rattle.std.specs.Prelude.{slice_get, if◌then◌else◌}
+use Rattle.limbo_types.specs.Types as ty
+use Rattle.limbo_types.specs.Types.{Ty}
+use Rattle.limbo_layout.specs.Adts.{Def}
+use Rattle.limbo_layout.specs.Layout.{reference, is_alone}
+use Rattle.limbo_typed.specs.Fitting.{Stands}
+use Rattle.limbo_typed.specs.declared.operation.Operation.TheVariants as operation
+use Rattle.limbo_meaning.specs.Trees.{Operate, Term}
+use Rattle.limbo_meaning.specs.Evaluation.{may_hold}
+use Rattle.limbo_kept.specs.Operating.{HasRoom}
+use Rattle.limbo_kept.specs.Trees.{Scope}
+use Rattle.core_code.specs.Code.{Instr, Give, Start, Next, Other, Keep, Take, Drop, Back}
+use Rattle.core_code.specs.Terms.{Lowered, lower, others}
+use Rattle.core_code.proofs.Used.{term_up}
+use Rattle.core_follows.specs.Drops.{Between, Beside, AllTouch, HasAt}
+use Rattle.core_follows.proofs.Drops.{touch_more, touch_others}
+use Rattle.core_follows.proofs.Holding.{has_front, has_back}
+use Rattle.core_follows.proofs.Static.{no_drops, drops_within, touch_wide}
+use Rattle.core_typing.specs.Held.{Of, Turns, Regions, NoRegion, Slots, slot, put, chain_of, region, cleared, placed, chained}
+use Rattle.core_typing.specs.Needs.{IsA}
+use Rattle.core_typing.specs.Going.{Goes}
+use Rattle.core_typing.proofs.Going.{put_same, put_other, put_long, shorter, same_place, goes_to, goes_back, two_places}
+use Rattle.core_typing.proofs.Drops.{Lets, HasTurns, none, one, takes, last, lets_kept, lets_more, turns_add, region_size, placed_region}
+use Rattle.core_typing.proofs.Drops.{long_cleared, cleared_below, cleared_above}
+use Rattle.core_typing.proofs.Standing.{itself, is_on}
+use Rattle.core_typing.proofs.Nodes.{Left, GoesBy}
+
+-- What elements leave behind those before them: of the slots that they share nothing is known.
+pub record Grown (defs : List Def) (before after : Slots) (shared from lo hi : ℕ) (drops : List Instr) : Type 0 where
+  pub long : length after ≡ length before
+  pub same : (r : ℕ) → Beside shared from r → Beside lo hi r → slot after r ≡ slot before r
+  pub lets : Lets defs after drops
+
+pub grown_none : (defs : List Def) (slots : Slots) (shared from lo : ℕ) → Grown defs slots slots shared from lo lo []
+grown_none defs slots shared from lo = record { long = refl; same = λ r b d. refl; lets = none }
+
+pub grown_more : (defs : List Def) (first second third : Slots) (shared from lo mid hi : ℕ) (ds es : List Instr) → from ≤ lo → lo ≤ mid
+    → mid ≤ hi → AllTouch (Between lo mid) ds → AllTouch (Between mid hi) es → Grown defs first second shared from lo mid ds
+    → Grown defs second third shared from mid hi es → Grown defs first third shared from lo hi (ds ++ es)
+grown_more defs first second third shared from lo mid hi ds es f l m wd we h k = record {
+  long = k.long ∙ h.long;
+  same = λ r b d. elim d [
+    | inl x ↦ k.same r b (inl (omega arith)) ∙ h.same r b (inl x)
+    | inr x ↦ k.same r b (inr x) ∙ h.same r b (inr (omega arith))
+  ];
+  lets = lets_more defs third lo mid hi ds es wd we
+      (lets_kept defs (Between lo mid) second third ds wd
+      (λ r b. k.same r (inr (let x = b.0 in omega (arith, x, f))) (inl b.1)) h.lets) k.lets;
+}
+
+-- Where the slots of an element are, which are its own or shared.
+pub record Sides (defs : List Def) (h : Bool) (a shared from lo : ℕ) (e : Term) : Type 0 where
+  pub low : a < (if h then lo else shared)
+  pub up : lo ≤ (if h then (lower defs (if h then lo else shared) e).free else lo)
+  pub fits : (lower defs (if h then lo else shared) e).free ≤ (if h then (lower defs (if h then lo else shared) e).free else lo)
+  pub beside : (r : ℕ) → Beside shared from r → Beside lo (if h then (lower defs (if h then lo else shared) e).free else lo) r
+      → Beside (if h then lo else shared) (lower defs (if h then lo else shared) e).free r
+  pub touch : AllTouch (Between lo (if h then (lower defs (if h then lo else shared) e).free else lo))
+      (lower defs (if h then lo else shared) e).drops
+
+pub sides : (defs : List Def) (h : Bool) (a shared from lo : ℕ) (e : Term) → may_hold defs e ≡ h → a < shared → shared ≤ from
+    → from ≤ lo → (if h then shared else (lower defs shared e).free) ≤ from → Sides defs h a shared from lo e
+sides defs true a shared from lo e eh l m f s = record {
+  low = omega arith;
+  up = term_up defs lo e;
+  fits = omega arith;
+  beside = λ r b d. d;
+  touch = drops_within defs lo e;
+}
+sides defs false a shared from lo e eh l m f s = record {
+  low = l;
+  up = omega arith;
+  fits = omega arith;
+  beside = λ r b d. elim b [ inl x ↦ inl x | inr x ↦ inr (omega arith) ];
+  touch = subst (AllTouch (Between lo lo)) (sym (no_drops defs shared e eh)) tt;
+}
+
+module _ (s : Scope) (answer : Ty) (code : List Instr) where
+  -- ---- the turns of an element that holds something
+
+  abbrev pub turn_own : (t : Ty) (a lo : ℕ) → Lowered → List Instr
+  turn_own t a lo x = x.code ++ (Other t a lo x.value ∷ Keep lo (suc lo) (x.free - suc lo) ∷ [])
+
+  abbrev pub loop_own : (t : Ty) (a lo : ℕ) → List ℤ → Lowered → List Instr
+  loop_own t a lo zs x = (Next a lo zs (suc (length (turn_own t a lo x))) ∷ turn_own t a lo x) ++
+      (Back (suc (length (turn_own t a lo x))) ∷ [])
+
+  abbrev pub drops_own : (lo : ℕ) → Lowered → List Instr
+  drops_own lo x = (Take lo (suc lo) (x.free - suc lo) (suc (length x.drops)) ∷ x.drops) ++
+      (Back (suc (length x.drops)) ∷ [])
+
+  -- What is fixed in all turns: the array, the element, its code and where it goes.
+  pub record Own (t u : Ty) (x : Lowered) (a lo pc : ℕ) (zs : List ℤ) : Type 0 where
+    pub element : GoesBy s answer code (suc lo) x u
+    pub stands : Stands u t
+    pub room : HasRoom s.adts t
+    pub below : a < lo
+    pub value : Between (suc lo) x.free x.value
+    pub touches : AllTouch (Between (suc lo) x.free) x.drops
+    pub has : HasAt code pc (loop_own t a lo zs x)
+
+  -- In front of the decision whether another turn follows.
+  pub record InTurns (before slots : Slots) (t : Ty) (x : Lowered) (a lo : ℕ) (rs : Regions) : Type 0 where
+    pub long : length slots ≡ length before
+    pub fits : x.free ≤ length before
+    pub same : (r : ℕ) → Beside lo x.free r → slot slots r ≡ slot before r
+    pub array : slot slots a ≡ Of (ty.ArrayOf t)
+    pub loop : slot slots lo ≡ Turns rs
+    pub turns : HasTurns s.adts (suc lo) (x.free - suc lo) x.drops rs
+
+  own_lets : (before slots : Slots) (t : Ty) (x : Lowered) (a lo : ℕ) (rs : Regions) → Between (suc lo) x.free x.value
+      → AllTouch (Between (suc lo) x.free) x.drops → InTurns before slots t x a lo rs → Lets s.adts slots (drops_own lo x)
+  own_lets before slots t x a lo rs v w b =
+      let v0 = v.0 in
+      let v1 = v.1 in
+      let fin : suc lo + (x.free - suc lo) ≡ x.free = omega arith in
+      takes lo (suc lo) (x.free - suc lo) (suc (length x.drops)) x.drops [] rs b.loop (omega arith) (omega arith)
+      (touch_others (Between (suc lo) x.free) (Between (suc lo) (suc lo + (x.free - suc lo))) x.drops
+      (λ r d. (d.0, let y = d.1 in omega (arith, y, fin))) w) tt b.turns none refl refl
+
+  -- A turn is over, and its slots are kept in the chain.
+  kept_turn : (before slots two : Slots) (t u : Ty) (x : Lowered) (a lo : ℕ) (rs : Regions) → a < lo → Between (suc lo) x.free x.value
+      → AllTouch (Between (suc lo) x.free) x.drops → InTurns before slots t x a lo rs
+      → Left s.adts slots two (suc lo) x.free x.value x.drops u
+      → InTurns before (put (cleared two (suc lo) (x.free - suc lo)) lo
+      (Turns (chained (chain_of (slot two lo)) (region two (suc lo) (x.free - suc lo))))) t x a lo
+      (chained (chain_of (slot two lo)) (region two (suc lo) (x.free - suc lo)))
+  kept_turn before slots two t u x a lo rs la v w b left =
+      let from : ℕ = suc lo in
+      let words : ℕ = x.free - from in
+      let g = region two from words in
+      let wiped = cleared two from words in
+      let loop = Turns (chained (chain_of (slot two lo)) g) in
+      let three = put wiped lo loop in
+      let v0 = v.0 in
+      let v1 = v.1 in
+      let fits = b.fits in
+      let fin : from + words ≡ x.free = omega arith in
+      let long2 : length two ≡ length slots = left.long in
+      let long3 : length wiped ≡ length two = long_cleared two from words in
+      let long1 = b.long in
+      let low : (r : ℕ) → r < lo → slot three r ≡ slot slots r = λ r l.
+      put_other wiped lo r loop (λ e. absurd (omega (arith, e, l))) ∙ cleared_below two from words r (omega arith)
+      ∙ left.same r (inl (omega arith)) in
+      let chain : chain_of (slot two lo) ≡ rs = ap chain_of (left.same lo (inl (omega arith)) ∙ b.loop) in
+      record {
+        long = put_long wiped lo loop ∙ long3 ∙ long2 ∙ long1;
+        fits = fits;
+        same = λ r d. elim d [
+          | inl y ↦ low r y ∙ b.same r (inl y)
+          | inr y ↦ put_other wiped lo r loop (λ e. absurd (omega (arith, e, y))) ∙ cleared_above two from words r (omega arith)
+              ∙ left.same r (inr y) ∙ b.same r (inr y)
+        ];
+        array = low a la ∙ b.array;
+        loop = put_same wiped lo loop (omega arith);
+        turns = subst (λ (c : Regions). HasTurns s.adts from words x.drops (chained c g)) (sym chain)
+            (turns_add s.adts from words x.drops rs g b.turns (region_size two from words)
+            (λ base l. lets_kept s.adts (Between from x.free) two (placed base from g) x.drops w
+            (λ r d. placed_region base two from words r l d.0 (let y = d.1 in omega (arith, y, fin))) left.lets));
+      }
+
+  pub turns_own : (fuel n : ℕ) (t u : Ty) (x : Lowered) (a lo pc : ℕ) (zs : List ℤ) → Own t u x a lo pc zs → n ≤ fuel
+      → (before slots : Slots) (rs : Regions) → InTurns before slots t x a lo rs
+      → ((after : Slots) → length after ≡ length before → ((r : ℕ) → Beside lo x.free r → slot after r ≡ slot before r)
+      → Lets s.adts after (drops_own lo x) → Goes s answer code n (pc + length (loop_own t a lo zs x)) after)
+      → Goes s answer code n pc slots
+  turns_own fuel zero t u x a lo pc zs own l before slots rs b k = tt
+  turns_own zero (suc n) t u x a lo pc zs own l before slots rs b k = absurd (omega arith)
+  turns_own (suc f) (suc n) t u x a lo pc zs own l before slots rs b k =
+      let turn = turn_own t a lo x in
+      let m : ℕ = suc (length turn) in
+      let from : ℕ = suc lo in
+      let words : ℕ = x.free - from in
+      let v0 = own.value.0 in
+      let v1 = own.value.1 in
+      let fits = b.fits in
+      let la = own.below in
+      let long = b.long in
+      let store = Other t a lo x.value in
+      let keep = Keep lo from words in
+      let e1 = length-append turn (Back m ∷ []) in
+      let e2 = length-append x.code (store ∷ keep ∷ []) in
+      let has_turn = has_front code (suc pc) turn (Back m ∷ []) own.has.1 in
+      let has_back_way = has_back code (suc pc) turn (Back m ∷ []) own.has.1 in
+      let has_store = has_back code (suc pc) x.code (store ∷ keep ∷ []) has_turn in
+      let is_array : IsA slots a (ty.ArrayOf t) = (ty.ArrayOf t, b.array, itself (ty.ArrayOf t)) in (
+        Next a lo zs m,
+        own.has.0,
+        (t, is_array, (rs, b.loop)),
+        two_places s answer code n (suc pc + m) (suc pc) slots slots
+            (same_place s answer code n (pc + length (loop_own t a lo zs x)) (suc pc + m) slots (omega arith)
+            (shorter s answer code n (suc n) _ slots (omega arith) (k slots b.long b.same (own_lets before slots t x a lo rs own.value own.touches
+            b))))
+            (own.element (suc pc) slots n (has_front code (suc pc) x.code (store ∷ keep ∷ []) has_turn) (omega arith)
+            (λ two left.
+            let pc2 : ℕ = suc pc + length x.code in
+            let array2 : slot two a ≡ Of (ty.ArrayOf t) = left.same a (inl (omega arith)) ∙ b.array in
+            let loop2 : slot two lo ≡ Turns rs = left.same lo (inl (omega arith)) ∙ b.loop in
+            let rs3 = chained (chain_of (slot two lo)) (region two from words) in
+            let three = put (cleared two from words) lo (Turns rs3) in
+            let to_back : suc pc + length turn ≡ suc (suc pc2) = omega arith in
+            let at_back = subst (λ (q : ℕ). slice_get code q ≡ Some (Back m)) to_back has_back_way.0 in
+            goes_to s answer code n pc2 (suc pc2) two two store has_store.0
+            (own.room, (ty.ArrayOf t, array2, itself (ty.ArrayOf t)), (rs, loop2), is_on two x.value u t left.is own.stands) refl
+            (goes_to s answer code n (suc pc2) (suc (suc pc2)) two three keep has_store.1.0 (rs, loop2) refl
+            (goes_back s answer code n (suc (suc pc2)) pc m three at_back (omega arith)
+            (λ j lj. turns_own f j t u x a lo pc zs own (omega arith) before three rs3
+            (kept_turn before slots two t u x a lo rs la own.value own.touches b left)
+            (λ after long3 same3 lets3. shorter s answer code j (suc n) _ after (omega arith) (k after long3 same3 lets3))))))),
+      )
+
+  -- ---- the turns of an element that holds nothing
+
+  abbrev pub turn_shared : (t : Ty) (a lo : ℕ) → Lowered → List Instr
+  turn_shared t a lo x = x.code ++ (Other t a lo x.value ∷ [])
+
+  abbrev pub loop_shared : (t : Ty) (a lo : ℕ) → List ℤ → Lowered → List Instr
+  loop_shared t a lo zs x =
+      (Next a lo zs (suc (length (turn_shared t a lo x))) ∷ turn_shared t a lo x) ++ (Back (suc (length (turn_shared t a lo x))) ∷ [])
+
+  pub record Shares (t u : Ty) (x : Lowered) (a shared from lo pc : ℕ) (zs : List ℤ) : Type 0 where
+    pub element : GoesBy s answer code shared x u
+    pub stands : Stands u t
+    pub room : HasRoom s.adts t
+    pub below : a < shared
+    pub up : shared ≤ x.free
+    pub end : x.free ≤ from
+    pub mid : from ≤ lo
+    pub has : HasAt code pc (loop_shared t a lo zs x)
+
+  pub turns_shared : (fuel n : ℕ) (t u : Ty) (x : Lowered) (a shared from lo pc : ℕ) (zs : List ℤ) → Shares t u x a shared from lo pc zs
+      → n ≤ fuel → (before slots : Slots) (rs : Regions) → length slots ≡ length before → lo < length before
+      → ((r : ℕ) → Beside shared from r → Beside lo (suc lo) r → slot slots r ≡ slot before r) → slot slots a ≡ Of (ty.ArrayOf t)
+      → slot slots lo ≡ Turns rs
+      → ((after : Slots) → Grown s.adts before after shared from lo (suc lo) []
+      → Goes s answer code n (pc + length (loop_shared t a lo zs x)) after)
+      → Goes s answer code n pc slots
+  turns_shared fuel zero t u x a shared from lo pc zs own l before slots rs long fits same array loop k = tt
+  turns_shared zero (suc n) t u x a shared from lo pc zs own l before slots rs long fits same array loop k = absurd (omega arith)
+  turns_shared (suc f) (suc n) t u x a shared from lo pc zs own l before slots rs long fits same array loop k =
+      let turn = turn_shared t a lo x in
+      let m : ℕ = suc (length turn) in
+      let la = own.below in
+      let up = own.up in
+      let end = own.end in
+      let mid = own.mid in
+      let store = Other t a lo x.value in
+      let e1 = length-append turn (Back m ∷ []) in
+      let e2 = length-append x.code (store ∷ []) in
+      let has_turn = has_front code (suc pc) turn (Back m ∷ []) own.has.1 in
+      let has_back_way = has_back code (suc pc) turn (Back m ∷ []) own.has.1 in
+      let has_store = has_back code (suc pc) x.code (store ∷ []) has_turn in
+      let is_array : IsA slots a (ty.ArrayOf t) = (ty.ArrayOf t, array, itself (ty.ArrayOf t)) in (
+        Next a lo zs m,
+        own.has.0,
+        (t, is_array, (rs, loop)),
+        two_places s answer code n (suc pc + m) (suc pc) slots slots
+            (same_place s answer code n (pc + length (loop_shared t a lo zs x)) (suc pc + m) slots (omega arith)
+            (shorter s answer code n (suc n) _ slots (omega arith) (k slots (record { long = long; same = same; lets = none }))))
+            (own.element (suc pc) slots n (has_front code (suc pc) x.code (store ∷ []) has_turn) (omega arith)
+            (λ two left.
+            let pc2 : ℕ = suc pc + length x.code in
+            let array2 : slot two a ≡ Of (ty.ArrayOf t) = left.same a (inl la) ∙ array in
+            let loop2 : slot two lo ≡ Turns rs = left.same lo (inr (omega arith)) ∙ loop in
+            let to_back : suc pc + length turn ≡ suc pc2 = omega arith in
+            let at_back = subst (λ (q : ℕ). slice_get code q ≡ Some (Back m)) to_back has_back_way.0 in
+            goes_to s answer code n pc2 (suc pc2) two two store has_store.0
+            (own.room, (ty.ArrayOf t, array2, itself (ty.ArrayOf t)), (rs, loop2), is_on two x.value u t left.is own.stands) refl
+            (goes_back s answer code n (suc pc2) pc m two at_back (omega arith)
+            (λ j lj. turns_shared f j t u x a shared from lo pc zs own (omega arith) before two rs (left.long ∙ long) fits
+            (λ r b d. left.same r (elim b [ inl y ↦ inl y | inr y ↦ inr (omega arith) ]) ∙ same r b d) array2 loop2
+            (λ after grown. shorter s answer code j (suc n) _ after (omega arith) (k after grown)))))),
+      )
+
+  -- ---- the others
+
+  pub others_go : (h : Bool) (t u : Ty) (a shared from lo : ℕ) (zs : List ℤ) (e : Term) → may_hold s.adts e ≡ h
+      → HasRoom s.adts t → Stands u t → a < shared → shared ≤ from → from ≤ lo
+      → (if h then shared else (lower s.adts shared e).free) ≤ from
+      → ((base : ℕ) → GoesBy s answer code base (lower s.adts base e) u)
+      → ((base : ℕ) → Between base (lower s.adts base e).free (lower s.adts base e).value)
+      → (pc : ℕ) (slots : Slots) (n : ℕ) → slot slots a ≡ Of (ty.ArrayOf t)
+      → HasAt code pc (others s.adts h t a zs lo (lower s.adts (if h then suc lo else shared) e)).code
+      → (others s.adts h t a zs lo (lower s.adts (if h then suc lo else shared) e)).free ≤ length slots
+      → ((after : Slots) → Grown s.adts slots after shared from lo
+      (others s.adts h t a zs lo (lower s.adts (if h then suc lo else shared) e)).free
+      (others s.adts h t a zs lo (lower s.adts (if h then suc lo else shared) e)).drops
+      → Goes s answer code n (pc + length (others s.adts h t a zs lo (lower s.adts (if h then suc lo else shared) e)).code) after)
+      → Goes s answer code n pc slots
+  others_go true t u a shared from lo zs e eh room st l m f end go val pc slots n array has fits k =
+      let x = lower s.adts (suc lo) e in
+      let v = val (suc lo) in
+      let v0 = v.0 in
+      let v1 = v.1 in
+      let next = put slots lo (Turns NoRegion) in
+      goes_to s answer code n pc (suc pc) slots next (Start lo) has.0 tt refl
+      (turns_own n n t u x a lo (suc pc) zs (record {
+        element = go (suc lo);
+        stands = st;
+        room = room;
+        below = omega arith;
+        value = v;
+        touches = drops_within s.adts (suc lo) e;
+        has = has.1;
+      }) (omega arith) slots next NoRegion (record {
+        long = put_long slots lo (Turns NoRegion);
+        fits = fits;
+        same = λ r d. put_other slots lo r (Turns NoRegion)
+            (λ q. absurd (elim d [ inl y ↦ omega (arith, y, q) | inr y ↦ omega (arith, y, q) ]));
+        array = put_other slots lo a (Turns NoRegion) (λ q. absurd (omega (arith, q, l, m, f))) ∙ array;
+        loop = put_same slots lo (Turns NoRegion) (omega arith);
+        turns = last;
+      })
+      (λ after long same lets. same_place s answer code n
+      (pc + suc (length (loop_own t a lo zs x))) (suc pc + length (loop_own t a lo zs x)) after (omega arith)
+      (k after (record { long = long; same = λ r b d. same r d; lets = lets }))))
+  others_go false t u a shared from lo zs e eh room st l m f end go val pc slots n array has fits k =
+      let x = lower s.adts shared e in
+      let next = put slots lo (Turns NoRegion) in
+      goes_to s answer code n pc (suc pc) slots next (Start lo) has.0 tt refl
+      (turns_shared n n t u x a shared from lo (suc pc) zs (record {
+        element = go shared;
+        stands = st;
+        room = room;
+        below = l;
+        up = term_up s.adts shared e;
+        end = end;
+        mid = f;
+        has = has.1;
+      }) (omega arith) slots next NoRegion (put_long slots lo (Turns NoRegion)) (omega arith)
+      (λ r b d. put_other slots lo r (Turns NoRegion)
+      (λ q. absurd (elim d [ inl y ↦ omega (arith, y, q) | inr y ↦ omega (arith, y, q) ])))
+      (put_other slots lo a (Turns NoRegion) (λ q. absurd (omega (arith, q, l, m, f))) ∙ array)
+      (put_same slots lo (Turns NoRegion) (omega arith))
+      (λ after grown. same_place s answer code n
+      (pc + suc (length (loop_shared t a lo zs x))) (suc pc + length (loop_shared t a lo zs x)) after (omega arith) (k after grown)))
+
+  -- ---- the whole initialiser
+
+  abbrev pub ElementsGo : (t : Ty) (a shared from lo : ℕ) → Lowered → Type 0
+  ElementsGo t a shared from lo x =
+      (pc : ℕ) (slots : Slots) (n : ℕ) → slot slots a ≡ Of (ty.ArrayOf t) → HasAt code pc x.code → x.free ≤ length slots
+      → ((after : Slots) → Grown s.adts slots after shared from lo x.free x.drops → Goes s answer code n (pc + length x.code) after)
+      → Goes s answer code n pc slots
+
+  abbrev pub fill_code : Ty → (l es os : Lowered) → List Instr
+  fill_code t l es os = l.code ++ Give (ty.ArrayOf t) (Operate operation.NewArray) l.free (l.value ∷ []) ∷ es.code ++ os.code
+
+  abbrev pub fill_drops : (l es os : Lowered) → List Instr
+  fill_drops l es os = l.drops ++ Drop l.free 0 ∷ es.drops ++ os.drops
+
+  pub fill_goes : (t : Ty) (lo from : ℕ) (l es os : Lowered) → lo ≤ l.free → suc l.free ≤ from → from ≤ es.free → es.free ≤ os.free
+      → AllTouch (Between lo l.free) l.drops → AllTouch (Between from es.free) es.drops → AllTouch (Between es.free os.free) os.drops
+      → HasRoom s.adts t → GoesBy s answer code lo l ty.Int → ElementsGo t l.free (suc l.free) from from es
+      → ElementsGo t l.free (suc l.free) from es.free os
+      → GoesBy s answer code lo (record {
+        code = fill_code t l es os;
+        drops = fill_drops l es os;
+        value = l.free;
+        free = os.free;
+      }) (ty.ArrayOf t)
+  fill_goes t lo from l es os p q m r wl we wo room gl ge go pc slots n has fits k =
+      let give = Give (ty.ArrayOf t) (Operate operation.NewArray) l.free (l.value ∷ []) in
+      let has1 = has_front code pc (l.code ++ (give ∷ es.code)) os.code has in
+      let has2 = has_back code pc (l.code ++ (give ∷ es.code)) os.code has in
+      let has3 = has_back code pc l.code (give ∷ es.code) has1 in
+      let e1 = length-append l.code (give ∷ es.code) in
+      let e2 = length-append (l.code ++ (give ∷ es.code)) os.code in
+      let i = Of (ty.ArrayOf t) in
+      gl pc slots n (has_front code pc l.code (give ∷ es.code) has1) (omega arith)
+      (λ first left.
+      let pc1 : ℕ = pc + length l.code in
+      let long1 = left.long in
+      let next = put first l.free i in
+      let long_next = put_long first l.free i in
+      let array : slot next l.free ≡ i = put_same first l.free i (omega arith) in
+      goes_to s answer code n pc1 (suc pc1) first next give has3.0 (
+        ty.Int ∷ [],
+        (left.is, tt),
+        ((t, refl, refl), (reference, is_alone (ty.ArrayOf t) reference refl), room, inl refl),
+      ) refl
+      (ge (suc pc1) next n array has3.1 (omega arith)
+      (λ two g2.
+      let pc2 : ℕ = suc pc1 + length es.code in
+      let to_rest : pc + length (l.code ++ (give ∷ es.code)) ≡ pc2 = omega arith in
+      let long2 = g2.long in
+      let array2 : slot two l.free ≡ i = g2.same l.free (inl (omega arith)) (inl (omega arith)) ∙ array in
+      go pc2 two n array2 (subst (λ (z : ℕ). HasAt code z os.code) to_rest has2) (omega arith)
+      (λ three g3.
+      let array3 : slot three l.free ≡ i = g3.same l.free (inl (omega arith)) (inl (omega arith)) ∙ array2 in
+      let below : (d : ℕ) → d < l.free → slot three d ≡ slot first d = λ d y.
+      g3.same d (inl (omega arith)) (inl (omega arith)) ∙ g2.same d (inl (omega arith)) (inl (omega arith))
+      ∙ put_other first l.free d i (λ e. absurd (omega (arith, e, y))) in
+      same_place s answer code n (pc + length (fill_code t l es os)) (pc2 + length os.code) three (omega arith)
+      (k three (record {
+        long = g3.long ∙ long2 ∙ long_next ∙ long1;
+        same = λ d b. elim b [
+          | inl y ↦ below d (omega arith) ∙ left.same d (inl y)
+          | inr y ↦ g3.same d (inr (omega arith)) (inr y) ∙ g2.same d (inr (omega arith)) (inr (omega arith))
+              ∙ put_other first l.free d i (λ e. absurd (omega (arith, e, y, p, q, m, r))) ∙ left.same d (inr (omega arith))
+        ];
+        lets = lets_more s.adts three lo es.free os.free (l.drops ++ (Drop l.free 0 ∷ es.drops)) os.drops
+            (touch_more (Between lo es.free) l.drops (Drop l.free 0 ∷ es.drops)
+            (touch_wide lo l.free lo es.free l.drops (omega arith) (omega arith) wl)
+            ((p, omega arith), touch_wide from es.free lo es.free es.drops (omega arith) (omega arith) we)) wo
+            (lets_more s.adts three lo l.free es.free l.drops (Drop l.free 0 ∷ es.drops) wl
+            ((omega arith, omega arith), touch_wide from es.free l.free es.free es.drops (omega arith) (omega arith) we)
+            (lets_kept s.adts (Between lo l.free) first three l.drops wl (λ d b. below d b.1) left.lets)
+            (one l.free 0 (ty.ArrayOf t) array3 (omega arith)
+            (lets_kept s.adts (Between from es.free) two three es.drops we (λ d b. g3.same d (inr b.0) (inl b.1)) g2.lets)))
+            g3.lets;
+        is = (ty.ArrayOf t, array3, itself (ty.ArrayOf t));
+      }))))))

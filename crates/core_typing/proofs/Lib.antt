@@ -1,0 +1,11 @@
+pub mod Going
+pub mod Drops
+pub mod Standing
+pub mod Moving
+pub mod Nodes
+pub mod Expressions
+pub mod Filling
+pub mod Trees
+pub mod Loops
+pub mod Functions
+pub mod Modules

@@ -1,0 +1,467 @@
+-- Nodes behind their operands go well.
+use Rattle.std.proofs.Common.{◌≡◌, ℕ, zero, suc, ◌+◌, ◌-◌, ◌<◌, ◌≤◌, Bool, true, List, [], ◌∷◌, ◌++◌, length, Option, Some, None}
+use Rattle.std.proofs.Common.{refl, sym, ap, subst, ◌∙◌, arith, inl, inr, ⊎_elim, take, drop, append-nil, length-append}
+use Rattle.std.proofs.lemmas.Bool.{cases_eq}
+use Rattle.std.proofs.lemmas.List.{reverse-append, length-reverse}
+use Rattle.std.specs.Prelude.{slice_get, reverse}
+use Rattle.limbo_types.specs.Types as ty
+use Rattle.limbo_types.specs.Types.{Ty}
+use Rattle.limbo_layout.specs.Adts.{Def}
+use Rattle.limbo_typed.specs.Fitting.{HasPart, Stands, AllStand, EachStands}
+use Rattle.limbo_typed.specs.declared.operation.Operation.{Operation}
+use Rattle.limbo_typed.specs.declared.print.Piece.{Piece}
+use Rattle.limbo_meaning.specs.Values.{Ref}
+use Rattle.limbo_meaning.specs.Places.{operands_of}
+use Rattle.limbo_meaning.specs.Trees as tree
+use Rattle.limbo_meaning.specs.Trees.{Aim, Work, Operate, Node, Terms}
+use Rattle.limbo_meaning.specs.Evaluation.{work_refers, operands_for}
+use Rattle.limbo_kept.specs.Operating.{HasRoom}
+use Rattle.limbo_kept.specs.Places.{Leads}
+use Rattle.limbo_kept.specs.Trees.{Scope, AimsAre, DeclaresAll, WorkIs}
+use Rattle.core_code.specs.Code.{Instr, Give, Gather, Pick, Known, Write, CopyInto, Cell, Call, Print, Drop}
+use Rattle.core_code.specs.Naming.{DiffersFrom, AllDiffer}
+use Rattle.core_code.specs.Terms.{Lowered, LoweredAll, count_of, slot_at, drops_from, drops_if, drops_after, drops_after_all, gives, gathers}
+use Rattle.core_code.specs.Terms.{writes, cells, cell_drops, list_code, picks, moves_out, moves_into, node, type_at}
+use Rattle.core_code.specs.Terms.{part_types, part_numbers}
+use Rattle.core_follows.specs.Drops.{Between, Beside, AllTouch, HasAt}
+use Rattle.core_follows.specs.Handled.{Suits, Makes, types_in, count}
+use Rattle.core_follows.proofs.Drops.{touch_others}
+use Rattle.core_follows.proofs.Holding.{has_front, has_back}
+use Rattle.core_follows.proofs.Static.{touch_if}
+use Rattle.core_follows.proofs.Gathers.{SpareEach}
+use Rattle.core_follows.proofs.Valued.{AllValued, valued_at, spare_outside}
+use Rattle.core_typing.specs.Held.{Held, Of, Slots, empty, slot, put, emptied}
+use Rattle.core_typing.specs.Needs.{StandsAs, IsA, AreThese, IsAIf, Fills, Finds, printed}
+use Rattle.core_typing.specs.Going.{stand, behind, Goes}
+use Rattle.core_typing.proofs.Going.{put_same, put_other, put_long, same_place, goes_to}
+use Rattle.core_typing.proofs.Drops.{Lets, none, one, lets_kept, lets_more, lets_from, lets_if}
+use Rattle.core_typing.proofs.Standing.{as_on, itself, solid_part, exactly, room_as, is_on, is_same, these_on, these_same}
+use Rattle.core_typing.proofs.Standing.{these_at, these_take, these_drop, type_at_in}
+use Rattle.core_typing.proofs.Moving.{emptied_other, emptied_put, moves_lets, part_below, whole_counted, made_laid, suits_parts, pick_lets}
+
+-- What the evaluation of a tree leaves, and of trees in a row: as many slots as before, the others as they were, drops that go well, and
+-- values of these types.
+pub record Left (defs : List Def) (before after : Slots) (lo hi value : ℕ) (drops : List Instr) (t : Ty) : Type 0 where
+  pub long : length after ≡ length before
+  pub same : (r : ℕ) → Beside lo hi r → slot after r ≡ slot before r
+  pub lets : Lets defs after drops
+  pub is : IsA after value t
+
+pub record AllLeft (defs : List Def) (before after : Slots) (lo hi : ℕ) (values : List ℕ) (drops : List Instr) (ts : List Ty)
+    : Type 0 where
+  pub long : length after ≡ length before
+  pub same : (r : ℕ) → Beside lo hi r → slot after r ≡ slot before r
+  pub lets : Lets defs after drops
+  pub these : AreThese after values ts
+
+pub touch_row : (d k n : ℕ) → AllTouch (Between d (suc d)) (drops_from d k n)
+touch_row d k zero = tt
+touch_row d k (suc n) = ((omega arith, omega arith), touch_row d (suc k) n)
+
+-- A value comes into the slot behind.
+pub left_put : (defs : List Def) (before after : Slots) (lo mid : ℕ) (values : List ℕ) (ds es : List Instr) (ts : List Ty) (t : Ty)
+    → lo ≤ mid → mid < length before → AllLeft defs before after lo mid values ds ts → Lets defs (put after mid (Of t)) es
+    → Left defs before (put after mid (Of t)) lo (suc mid) mid es t
+left_put defs before after lo mid values ds es ts t p l a lets = record {
+  long = put_long after mid (Of t) ∙ a.long;
+  same = λ r b. put_other after mid r (Of t)
+      (λ e. absurd (elim b [ inl y ↦ omega (arith, y, e, p) | inr y ↦ omega (arith, y, e) ]))
+      ∙ a.same r (elim b [ inl y ↦ inl y | inr y ↦ inr (omega arith) ]);
+  lets = lets;
+  is = (t, put_same after mid (Of t) (let q = a.long in omega arith), itself t);
+}
+
+pub lets_put : (defs : List Def) (after : Slots) (lo mid : ℕ) (h : Held) (ds : List Instr) → AllTouch (Between lo mid) ds
+    → Lets defs after ds → Lets defs (put after mid h) ds
+lets_put defs after lo mid h ds w d =
+    lets_kept defs (Between lo mid) after (put after mid h) ds w
+    (λ r b. put_other after mid r h (λ e. absurd (let y = b.1 in omega (arith, y, e)))) d
+
+-- all references of what came there
+pub lets_own : (defs : List Def) (after : Slots) (lo mid : ℕ) (t : Ty) (b : Bool) (ds : List Instr) → lo ≤ mid → mid < length after
+    → AllTouch (Between lo mid) ds → Lets defs after ds
+    → Lets defs (put after mid (Of t)) (ds ++ drops_if b (drops_from mid 0 (count_of defs t)))
+lets_own defs after lo mid t b ds p l w d =
+    let last = put after mid (Of t) in
+    lets_more defs last lo mid (suc mid) ds _ w (touch_if (Between mid (suc mid)) b _ (touch_row mid 0 (count_of defs t)))
+    (lets_put defs after lo mid (Of t) ds w d)
+    (lets_if defs last b _ (lets_from defs last mid 0 (count_of defs t) t (put_same after mid (Of t) l) (omega arith)))
+
+spare_each : (lo hi : ℕ) (ds : List Instr) (ss : List ℕ) → AllValued lo hi ds ss → SpareEach ss ds
+spare_each lo hi ds [] h = tt
+spare_each lo hi ds (s ∷ ss) h = (h.0.1, spare_each lo hi ds ss h.1)
+
+pub apart_from : (lo hi d : ℕ) (ds : List Instr) (ss : List ℕ) → Beside lo hi d → AllValued lo hi ds ss → DiffersFrom d ss
+apart_from lo hi d ds [] b v = tt
+apart_from lo hi d ds (s ∷ ss) b v = (
+  λ e. absurd (let x = v.0.0.0 in let y = v.0.0.1 in elim b [ inl z ↦ omega (arith, z, e, x) | inr z ↦ omega (arith, z, e, y) ]),
+  apart_from lo hi d ds ss b v.1,
+)
+
+long_emptied : (slots : Slots) (ss : List ℕ) → length (emptied slots ss) ≡ length slots
+long_emptied slots [] = refl
+long_emptied slots (s ∷ ss) = put_long (emptied slots ss) s empty ∙ long_emptied slots ss
+
+-- ---- items of a list
+
+EachIs : (mid : ℕ) → Ty → Slots → List ℕ → Type 0
+EachIs mid i slots [] = Unit {0}
+EachIs mid i slots (s ∷ ss) = (s < mid) × IsA slots s i × EachIs mid i slots ss
+
+each_put : (mid : ℕ) (i : Ty) (slots : Slots) (d : ℕ) (h : Held) (ss : List ℕ) → mid ≤ d → EachIs mid i slots ss
+    → EachIs mid i (put slots d h) ss
+unfolding EachIs
+each_put mid i slots d h [] l e = tt
+each_put mid i slots d h (s ∷ ss) l e = (
+  e.0,
+  is_same slots (put slots d h) s i (put_other slots d s h (λ q. absurd (let x = e.0 in omega (arith, q, l, x)))) e.1,
+  each_put mid i slots d h ss l e.2,
+)
+
+each_more : (mid : ℕ) (i : Ty) (slots : Slots) (xs ys : List ℕ) → EachIs mid i slots xs → EachIs mid i slots ys
+    → EachIs mid i slots (xs ++ ys)
+unfolding EachIs
+each_more mid i slots [] ys e f = f
+each_more mid i slots (x ∷ xs) ys e f = (e.0, e.1, each_more mid i slots xs ys e.2 f)
+
+each_reverse : (mid : ℕ) (i : Ty) (slots : Slots) (ss : List ℕ) → EachIs mid i slots ss → EachIs mid i slots (reverse ss)
+unfolding EachIs
+each_reverse mid i slots [] e = tt
+each_reverse mid i slots (s ∷ ss) e =
+    subst (EachIs mid i slots) (sym (reverse-append (s ∷ []) ss))
+    (each_more mid i slots (reverse ss) (s ∷ []) (each_reverse mid i slots ss e.2) (e.0, e.1, tt))
+
+each_these : (lo mid : ℕ) (ds : List Instr) (i : Ty) (slots : Slots) (ss : List ℕ) (us : List Ty) → AllValued lo mid ds ss
+    → AreThese slots ss us → EachStands us i → EachIs mid i slots ss
+unfolding EachIs
+each_these lo mid ds i slots [] us v a e = tt
+each_these lo mid ds i slots (s ∷ ss) [] v a e = absurd a
+each_these lo mid ds i slots (s ∷ ss) (u ∷ us) v a e =
+    (v.0.0.1, is_on slots s u i a.0 e.0, each_these lo mid ds i slots ss us v.1 a.1 e.1)
+
+-- ---- what is written
+
+pub fills_from : (s : Scope) (slots : Slots) (from : ℕ) (v t u : Ty) (part : List ℕ) → IsA slots from v → HasRoom s.adts v
+    → Leads s.adts v part t → Stands t u → Fills s slots u part from
+fills_from s slots from v t u [] a r l k =
+    inl (a.0, a.1, room_as s.adts a.0 v r a.2, (a.0, refl, as_on a.0 t u (subst (StandsAs a.0) l a.2) k))
+fills_from s slots from v t u (n ∷ ns) a r l k =
+    let e = exactly a.0 v (solid_part s.adts v n l.0 l.1) a.2 in
+    inl (v, a.1 ∙ ap Of e, r, (t, l, inl k))
+
+module _ (s : Scope) (answer : Ty) (code : List Instr) where
+  abbrev pub GoesBy : (lo : ℕ) → Lowered → Ty → Type 0
+  GoesBy lo x t =
+      (pc : ℕ) (slots : Slots) (n : ℕ) → HasAt code pc x.code → x.free ≤ length slots
+      → ((after : Slots) → Left s.adts slots after lo x.free x.value x.drops t → Goes s answer code n (pc + length x.code) after)
+      → Goes s answer code n pc slots
+
+  abbrev pub AllBy : (lo : ℕ) → LoweredAll → List Ty → Type 0
+  AllBy lo x ts =
+      (pc : ℕ) (slots : Slots) (n : ℕ) → HasAt code pc x.code → x.free ≤ length slots
+      → ((after : Slots) → AllLeft s.adts slots after lo x.free x.values x.drops ts
+      → Goes s answer code n (pc + length x.code) after)
+      → Goes s answer code n pc slots
+
+  -- Instructions go well in front of what goes well behind them.
+  abbrev pub Leaves : (before after : Slots) → (lo hi value : ℕ) → (is ds : List Instr) → Ty → Type 0
+  Leaves before after lo hi value is ds t =
+      (pc n : ℕ) → HasAt code pc is
+      → ((last : Slots) → Left s.adts before last lo hi value ds t → Goes s answer code n (pc + length is) last)
+      → Goes s answer code n pc after
+
+  -- Instructions behind operands.
+  pub behind_all : (lo : ℕ) (t : Ty) (l : LoweredAll) (ts : List Ty) (is ds : List Instr) (value free : ℕ) → l.free ≤ free
+      → AllBy lo l ts
+      → ((before after : Slots) → AllLeft s.adts before after lo l.free l.values l.drops ts → free ≤ length before
+      → Leaves before after lo free value is ds t)
+      → GoesBy lo (record { code = l.code ++ is; drops = ds; value = value; free = free }) t
+  behind_all lo t l ts is ds value free u all f pc slots n has fits k =
+      all pc slots n (has_front code pc l.code is has) (omega arith)
+      (λ after left. f slots after left fits (pc + length l.code) n (has_back code pc l.code is has)
+      (λ last left2. same_place s answer code n (pc + length (l.code ++ is)) (pc + length l.code + length is) last
+      (let e = length-append l.code is in omega arith) (k last left2)))
+
+  -- One instruction, which changes slots in one way.
+  pub one_leaves : (before after last : Slots) (lo hi value : ℕ) (i : Instr) (ds : List Instr) (t : Ty) → Finds s answer after i
+      → ((pc : ℕ) → behind pc after i ≡ stand (suc pc) last ∷ []) → Left s.adts before last lo hi value ds t
+      → Leaves before after lo hi value (i ∷ []) ds t
+  one_leaves before after last lo hi value i ds t f b left pc n has k =
+      goes_to s answer code n pc (suc pc) after last i has.0 f (b pc)
+      (same_place s answer code n (pc + 1) (suc pc) last (omega arith) (k last left))
+
+  -- ---- one instruction that gives a value
+
+  pub gives_goes : (lo : ℕ) (t : Ty) (o : Work) (l : LoweredAll) (ts : List Ty) → lo ≤ l.free → AllTouch (Between lo l.free) l.drops
+      → ((after : Slots) → AreThese after l.values ts → Finds s answer after (Give t o l.free l.values)) → AllBy lo l ts
+      → GoesBy lo (gives s.adts t o l) t
+  gives_goes lo t o l ts p w f all =
+      behind_all lo t l ts (Give t o l.free l.values ∷ []) _ l.free (suc l.free) (omega arith) all
+      (λ before after left fits. one_leaves before after (put after l.free (Of t)) lo (suc l.free) l.free _ _ t (f after left.these)
+      (λ pc. refl)
+      (left_put s.adts before after lo l.free l.values l.drops _ ts t p (omega arith) left
+      (lets_own s.adts after lo l.free t (work_refers s.adts t o) l.drops p (let q = left.long in omega arith) w left.lets)))
+
+  pub call_goes : (lo : ℕ) (t : Ty) (f : ℕ) (l : LoweredAll) (ts : List Ty) → lo ≤ l.free → AllTouch (Between lo l.free) l.drops
+      → ((after : Slots) → AreThese after l.values ts → Finds s answer after (Call t f l.free l.values)) → AllBy lo l ts
+      → GoesBy lo (node s.adts ty.Nothing t (tree.Call f) l) t
+  call_goes lo t f l ts p w h all =
+      behind_all lo t l ts (Call t f l.free l.values ∷ []) _ l.free (suc l.free) (omega arith) all
+      (λ before after left fits. one_leaves before after (put after l.free (Of t)) lo (suc l.free) l.free _ _ t (h after left.these)
+      (λ pc. refl)
+      (left_put s.adts before after lo l.free l.values l.drops _ ts t p (omega arith) left
+      (lets_own s.adts after lo l.free t true l.drops p (let q = left.long in omega arith) w left.lets)))
+
+  pub print_goes : (lo : ℕ) (u : Ty) (ps : List Piece) (l : LoweredAll) (ts : List Ty) → lo ≤ l.free → AllTouch (Between lo l.free) l.drops
+      → ts ≡ printed ps → AllBy lo l ts → GoesBy lo (node s.adts u ty.Int (tree.Print ps) l) ty.Int
+  print_goes lo u ps l ts p w e all =
+      behind_all lo ty.Int l ts (Print ps l.free l.values ∷ []) l.drops l.free (suc l.free) (omega arith) all
+      (λ before after left fits. one_leaves before after (put after l.free (Of ty.Int)) lo (suc l.free) l.free _ _ ty.Int
+      (subst (AreThese after l.values) e left.these)
+      (λ pc. refl)
+      (left_put s.adts before after lo l.free l.values l.drops l.drops ts ty.Int p (omega arith) left
+      (lets_put s.adts after lo l.free (Of ty.Int) l.drops w left.lets)))
+
+  pub channel_goes : (lo : ℕ) (u t : Ty) (l : LoweredAll) (ts : List Ty) (i : Ty) → lo ≤ l.free → AllTouch (Between lo l.free) l.drops
+      → t ≡ ty.ChanOf i → AllBy lo l ts → GoesBy lo (node s.adts u t tree.NewChannel l) t
+  channel_goes lo u t l ts i p w e all =
+      behind_all lo t l ts (Give t tree.NewChannel l.free [] ∷ []) _ l.free (suc l.free) (omega arith) all
+      (λ before after left fits.
+      let last = put after l.free (Of t) in
+      let there : slot last l.free ≡ Of t = put_same after l.free (Of t) (let q = left.long in omega arith) in
+      one_leaves before after last lo (suc l.free) l.free _ _ t ([], tt, (i, e, inl refl))
+      (λ pc. refl)
+      (left_put s.adts before after lo l.free l.values l.drops _ ts t p (omega arith) left
+      (lets_more s.adts last lo l.free (suc l.free) l.drops (Drop l.free 0 ∷ []) w ((omega arith, omega arith), tt)
+      (lets_put s.adts after lo l.free (Of t) l.drops w left.lets)
+      (one l.free 0 t there (subst (λ (x : Ty). 0 < count_of s.adts x) (sym e) (omega arith)) none))))
+
+  -- ---- assignments and copies
+
+  pub writes_go : (aims : List Aim) (slots : Slots) (us : List Ty) (ss : List ℕ) (value : ℕ) (v : Ty) (n pc : ℕ)
+      → AreThese slots ss us → IsA slots value v → HasRoom s.adts v → AimsAre s aims us v → HasAt code pc (writes s.adts aims ss value)
+      → Goes s answer code n (pc + length (writes s.adts aims ss value)) slots → Goes s answer code n pc slots
+  writes_go [] slots us ss value v n pc a e r w has k = same_place s answer code n (pc + 0) pc slots (omega arith) k
+  writes_go (x ∷ aims) slots us ss value v n pc a e r w has k =
+      let rest = writes s.adts aims (drop (operands_of x.way) ss) value in
+      goes_to s answer code n pc (suc pc) slots slots (Write x.type x.way (take (operands_of x.way) ss) x.part value) has.0 (
+        take (operands_of x.way) us,
+        these_take slots (operands_of x.way) ss us a,
+        w.0,
+        fills_from s slots value v w.2.0 x.type x.part e r w.2.1 w.2.2,
+      ) refl
+      (writes_go aims slots (drop (operands_of x.way) us) (drop (operands_of x.way) ss) value v n (suc pc)
+      (these_drop slots (operands_of x.way) ss us a) e r w.3 has.1
+      (same_place s answer code n (pc + suc (length rest)) (suc pc + length rest) slots (omega arith) k))
+
+  pub declares_go : (aims : List Aim) (slots : Slots) (ss : List ℕ) (value : ℕ) (n pc : ℕ) → slot slots value ≡ Of ty.Nothing
+      → DeclaresAll s aims → HasAt code pc (writes s.adts aims ss value)
+      → Goes s answer code n (pc + length (writes s.adts aims ss value)) slots → Goes s answer code n pc slots
+  declares_go [] slots ss value n pc e w has k = same_place s answer code n (pc + 0) pc slots (omega arith) k
+  declares_go (x ∷ aims) slots ss value n pc e w has k =
+      let rest = writes s.adts aims (drop (operands_of x.way) ss) value in
+      goes_to s answer code n pc (suc pc) slots slots (Write x.type x.way (take (operands_of x.way) ss) x.part value) has.0 (
+        [],
+        subst (λ (k : ℕ). AreThese slots (take k ss) []) (sym w.0.1) tt,
+        w.0.0,
+        inr (e, w.0.2, w.0.3),
+      ) refl
+      (declares_go aims slots (drop (operands_of x.way) ss) value n (suc pc) e w.1 has.1
+      (same_place s answer code n (pc + suc (length rest)) (suc pc + length rest) slots (omega arith) k))
+
+  pub assign_goes : (lo : ℕ) (u t : Ty) (aims : List Aim) (ts : Terms) (us : List Ty) (v : Ty) (l : LoweredAll)
+      → operands_for aims < count ts → AllStand (types_in s.adts ts) us → slice_get us (operands_for aims) ≡ Some v → HasRoom s.adts v
+      → AimsAre s aims us v → AllBy lo l (types_in s.adts ts)
+      → GoesBy lo (node s.adts u t (tree.Assign aims) l) (type_at s.adts (operands_for aims) ts)
+  assign_goes lo u t aims ts us v l c st e r w all =
+      let value = slot_at (operands_for aims) l.values in
+      behind_all lo (type_at s.adts (operands_for aims) ts) l (types_in s.adts ts) (writes s.adts aims l.values value) l.drops value l.free
+      (omega arith) all
+      (λ before after left fits pc n has k.
+      let those = these_on after l.values (types_in s.adts ts) us left.these st in
+      writes_go aims after us l.values value v n pc those (these_at after l.values us (operands_for aims) v those e) r w has
+      (k after (record {
+        long = left.long;
+        same = left.same;
+        lets = left.lets;
+        is = these_at after l.values (types_in s.adts ts) (operands_for aims) _ left.these (type_at_in s ts (operands_for aims) c);
+      })))
+
+  pub copy_goes : (lo : ℕ) (u t : Ty) (ts : Terms) (us : List Ty) (i : Ty) (l : LoweredAll) → 2 < count ts
+      → AllStand (types_in s.adts ts) us → slice_get us 0 ≡ Some (ty.ArrayOf i) → slice_get us 2 ≡ Some (ty.ArrayOf i)
+      → slice_get (types_in s.adts ts) 1 ≡ Some ty.Int → AllBy lo l (types_in s.adts ts)
+      → GoesBy lo (node s.adts u t tree.Copy l) (type_at s.adts 2 ts)
+  copy_goes lo u t ts us i l c st e g f all =
+      behind_all lo (type_at s.adts 2 ts) l (types_in s.adts ts)
+      (CopyInto (slot_at 0 l.values) (slot_at 1 l.values) (slot_at 2 l.values) ∷ []) l.drops (slot_at 2 l.values) l.free (omega arith) all
+      (λ before after left fits.
+      let those = these_on after l.values (types_in s.adts ts) us left.these st in
+      one_leaves before after after lo l.free (slot_at 2 l.values) _ l.drops (type_at s.adts 2 ts) (
+        i,
+        these_at after l.values us 0 (ty.ArrayOf i) those e,
+        these_at after l.values (types_in s.adts ts) 1 ty.Int left.these f,
+        these_at after l.values us 2 (ty.ArrayOf i) those g,
+      ) (λ pc. refl) (record {
+        long = left.long;
+        same = left.same;
+        lets = left.lets;
+        is = these_at after l.values (types_in s.adts ts) 2 _ left.these (type_at_in s ts 2 c);
+      }))
+
+  -- ---- lists
+
+  cells_go : (i : Ty) (mid : ℕ) (ss : List ℕ) (b : Option ℕ) (free : ℕ) (slots : Slots) (n pc : ℕ) → HasRoom s.adts i
+      → EachIs mid i slots ss → mid ≤ free → IsAIf slots b (ty.ListOf i) → free + length ss ≤ length slots
+      → HasAt code pc (cells s.adts i ss b free)
+      → ((after : Slots) → length after ≡ length slots
+      → ((r : ℕ) → Beside free (free + length ss) r → slot after r ≡ slot slots r)
+      → ((r : ℕ) → free ≤ r → r < free + length ss → slot after r ≡ Of (ty.ListOf i))
+      → Goes s answer code n (pc + length (cells s.adts i ss b free)) after)
+      → Goes s answer code n pc slots
+  unfolding EachIs
+  cells_go i mid [] b free slots n pc r e l a fits has k =
+      same_place s answer code n (pc + 0) pc slots (omega arith)
+      (k slots refl (λ r b. refl) (λ r p q. absurd (omega arith)))
+  cells_go i mid (x ∷ ss) b free slots n pc r e l a fits has k =
+      let h = Of (ty.ListOf i) in
+      let next = put slots free h in
+      let long = put_long slots free h in
+      let there : slot next free ≡ h = put_same slots free h (omega arith) in
+      let rest = cells s.adts i ss (Some free) (suc free) in
+      goes_to s answer code n pc (suc pc) slots next (Cell i free x b) has.0 (r, e.1, a) refl
+      (cells_go i mid ss (Some free) (suc free) next n (suc pc) r (each_put mid i slots free h ss l e.2) (omega arith)
+      (ty.ListOf i, there, itself (ty.ListOf i)) (omega arith) has.1
+      (λ after long2 same filled. same_place s answer code n (pc + suc (length rest)) (suc pc + length rest) after (omega arith)
+      (k after (long2 ∙ long)
+      (λ q c. same q (elim c [ inl y ↦ inl (omega arith) | inr y ↦ inr (omega arith) ])
+      ∙ put_other slots free q h (λ f. absurd (elim c [ inl y ↦ omega (arith, y, f) | inr y ↦ omega (arith, y, f) ])))
+      (λ q p m. ⊎_elim
+      (λ (f : q ≡ free). subst (λ (z : ℕ). slot after z ≡ h) (sym f) (same free (inl (omega arith)) ∙ there))
+      (λ (f : q ≡ free → ⊥). filled q (omega (arith, f)) (omega arith))
+      (cases_eq q free)))))
+
+  lets_cells : (slots : Slots) (i : Ty) (count free : ℕ) → ((r : ℕ) → free ≤ r → r < free + count → slot slots r ≡ Of (ty.ListOf i))
+      → Lets s.adts slots (cell_drops s.adts count free)
+  lets_cells slots i zero free h = none
+  lets_cells slots i (suc n) free h =
+      one free 0 (ty.ListOf i) (h free (omega arith) (omega arith)) (omega arith)
+      (lets_cells slots i n (suc free) (λ r p q. h r (omega arith) (omega arith)))
+
+  touch_cells : (n free : ℕ) → AllTouch (Between free (free + n)) (cell_drops s.adts n free)
+  touch_cells zero free = tt
+  touch_cells (suc n) free = (
+    (omega arith, omega arith),
+    touch_others (Between (suc free) (suc free + n)) (Between free (free + suc n))
+        (cell_drops s.adts n (suc free)) (λ r b. (let x = b.0 in omega (arith, x), let x = b.1 in omega (arith, x)))
+        (touch_cells n (suc free)),
+  )
+
+  list_leaves : (i : Ty) (before after : Slots) (lo mid : ℕ) (ss : List ℕ) (ds : List Instr) (ts : List Ty) → lo ≤ mid
+      → AllTouch (Between lo mid) ds → HasRoom s.adts i → AllLeft s.adts before after lo mid ss ds ts → EachIs mid i after ss
+      → suc (mid + (length ss - 1)) ≤ length before
+      → Leaves before after lo (suc (mid + (length ss - 1))) (mid + (length ss - 1)) (list_code s.adts i ss mid)
+      (ds ++ cell_drops s.adts (length ss) mid) (ty.ListOf i)
+  list_leaves i before after lo mid [] ds ts p w r left each fits pc n has k =
+      let last = put after mid (Of ty.Nil) in
+      let e : mid ≡ mid + (0 - 1) = omega arith in
+      subst (λ (z : ℕ). Leaves before after lo (suc z) z (Known (Ref None) mid ∷ []) (ds ++ []) (ty.ListOf i)) e
+      (one_leaves before after last lo (suc mid) mid (Known (Ref None) mid) (ds ++ []) (ty.ListOf i) tt (λ pc. refl)
+      (let x = left_put s.adts before after lo mid [] ds (ds ++ []) ts ty.Nil p (omega arith) left
+      (subst (Lets s.adts last) (sym (append-nil ds)) (lets_put s.adts after lo mid (Of ty.Nil) ds w left.lets)) in
+      record {
+        long = x.long;
+        same = x.same;
+        lets = x.lets;
+        is = (ty.Nil, put_same after mid (Of ty.Nil) (let q = left.long in omega arith), inr (refl, tt));
+      })) pc n has k
+  list_leaves i before after lo mid (x ∷ ss) ds ts p w r left each fits pc n has k =
+      let items = reverse (x ∷ ss) in
+      let m : length items ≡ suc (length ss) = length-reverse (x ∷ ss) in
+      let long = left.long in
+      cells_go i mid items None mid after n pc r (each_reverse mid i after (x ∷ ss) each) (omega arith) tt (omega arith) has
+      (λ last long2 same filled. k last (record {
+        long = long2 ∙ long;
+        same = λ q b. same q (elim b [ inl y ↦ inl (omega arith) | inr y ↦ inr (omega arith) ])
+            ∙ left.same q (elim b [ inl y ↦ inl y | inr y ↦ inr (omega arith) ]);
+        lets = lets_more s.adts last lo mid (mid + suc (length ss)) ds _ w (touch_cells (suc (length ss)) mid)
+            (lets_kept s.adts (Between lo mid) after last ds w (λ q b. same q (inl b.1)) left.lets)
+            (lets_cells last i (suc (length ss)) mid (λ q y z. filled q y (omega arith)));
+        is = (
+          ty.ListOf i,
+          filled (mid + (suc (length ss) - 1)) (omega arith) (omega arith),
+          itself (ty.ListOf i),
+        );
+      }))
+
+  pub link_goes : (lo : ℕ) (u t : Ty) (i : Ty) (l : LoweredAll) (ts us : List Ty) → lo ≤ l.free → AllTouch (Between lo l.free) l.drops
+      → AllValued lo l.free l.drops l.values → t ≡ ty.ListOf i → HasRoom s.adts i → AllStand ts us → EachStands us i → AllBy lo l ts
+      → GoesBy lo (node s.adts u t tree.Link l) t
+  link_goes lo u t i l ts us p w v e r st each all =
+      subst (λ (x : Ty). GoesBy lo (node s.adts u x tree.Link l) x) (sym e)
+      (behind_all lo (ty.ListOf i) l ts (list_code s.adts i l.values l.free) (l.drops ++ cell_drops s.adts (length l.values) l.free)
+      (l.free + (length l.values - 1)) (suc (l.free + (length l.values - 1))) (omega arith) all
+      (λ before after left fits. list_leaves i before after lo l.free l.values l.drops ts p w r left
+      (each_these lo l.free l.drops i after l.values us v (these_on after l.values ts us left.these st) each) fits))
+
+  -- ---- parts that move
+
+  pub gather_goes : (lo : ℕ) (t : Ty) (o : Operation) (l : LoweredAll) (ts us : List Ty) → lo ≤ l.free
+      → AllTouch (Between lo l.free) l.drops → AllValued lo l.free l.drops l.values → AllDiffer l.values → Makes s.adts t o ts
+      → AllStand ts us → WorkIs s t (Operate o) us t → AllBy lo l ts → GoesBy lo (gathers s.adts t o l) t
+  gather_goes lo t o l ts us p w v differ m st work all =
+      let mid = l.free in
+      let ss = l.values in
+      let P = part_types s.adts t in
+      let ns = part_numbers s.adts o (length ss) in
+      let es = drops_after_all (moves_into s.adts P mid ns ss) l.drops in
+      behind_all lo t l ts (Gather t (Operate o) mid ss ∷ []) es mid (suc mid) (omega arith) all
+      (λ before after left fits.
+      let inside : mid < length after = let q = left.long in omega arith in
+      let placed = put after mid (Of t) in
+      let last = put (emptied after ss) mid (Of t) in
+      let apart = apart_from lo mid mid l.drops ss (inr (omega arith)) v in
+      let those : AreThese placed ss ts = these_same after placed lo mid l.drops ss ts v
+      (λ r a b. put_other after mid r (Of t) (λ e. absurd (omega (arith, e, b)))) left.these in
+      let counts = whole_counted s.adts t (made_laid s.adts t o ts m) in
+      let lets0 = moves_lets s.adts P t mid ns ss placed l.drops
+      (λ n. let b = part_below s.adts P n in omega (arith, b, counts)) (put_same after mid (Of t) inside)
+      (suits_parts s.adts t o placed ss ts m those) differ apart (spare_each lo mid l.drops ss v)
+      (spare_outside lo mid mid l.drops (inr (omega arith)) w) (lets_put s.adts after lo mid (Of t) l.drops w left.lets) in
+      let lets1 : Lets s.adts last es = subst (λ (xs : Slots). Lets s.adts xs es) (emptied_put after mid (Of t) ss apart) lets0 in
+      one_leaves before after last lo (suc mid) mid _ es t (us, these_on after ss ts us left.these st, work) (λ pc. refl) (record {
+        long = put_long (emptied after ss) mid (Of t) ∙ long_emptied after ss ∙ left.long;
+        same = λ r b. put_other (emptied after ss) mid r (Of t)
+            (λ e. absurd (elim b [ inl y ↦ omega (arith, y, e, p) | inr y ↦ omega (arith, y, e) ]))
+            ∙ emptied_other after ss r (apart_from lo mid r l.drops ss (elim b [ inl y ↦ inl y | inr y ↦ inr (omega arith) ]) v)
+            ∙ left.same r (elim b [ inl y ↦ inl y | inr y ↦ inr (omega arith) ]);
+        lets = lets1;
+        is = (t, put_same (emptied after ss) mid (Of t) (let q = long_emptied after ss in omega arith), itself t);
+      }))
+
+  pub pick_goes : (lo : ℕ) (t v : Ty) (k : ℕ) (ts : Terms) (l : LoweredAll) (us : List Ty) → lo ≤ l.free
+      → AllTouch (Between lo l.free) l.drops → AllValued lo l.free l.drops l.values → length l.values ≡ count ts
+      → Suits s.adts t (tree.TakePart k) ts
+      → AllStand (types_in s.adts ts) us → slice_get us 0 ≡ Some v → HasRoom s.adts v → HasPart s.adts v k t
+      → AllBy lo l (types_in s.adts ts) → GoesBy lo (picks s.adts (type_at s.adts 0 ts) t k l) t
+  pick_goes lo t v k ts l us p w vd c h st e r part all =
+      let mid = l.free in
+      let from = slot_at 0 l.values in
+      let u = type_at s.adts 0 ts in
+      let es = drops_after (moves_out s.adts u k from mid) l.drops in
+      behind_all lo t l (types_in s.adts ts) (Pick t k mid from ∷ []) es mid (suc mid) (omega arith) all
+      (λ before after left fits.
+      let inside : mid < length after = let q = left.long in omega arith in
+      let a = these_at after l.values us 0 v (these_on after l.values (types_in s.adts ts) us left.these st) e in
+      let same = exactly a.0 v (solid_part s.adts v k t part) a.2 in
+      let some : 0 < length l.values = first us l.values after (these_on after l.values (types_in s.adts ts) us left.these st) e in
+      let at0 = valued_at lo mid l.drops l.values 0 some vd in
+      one_leaves before after (put after mid (Of t)) lo (suc mid) mid _ es t (v, a.1 ∙ ap Of same, r, part) (λ pc. refl)
+      (left_put s.adts before after lo mid l.values l.drops es (types_in s.adts ts) t p (omega arith) left
+      (pick_lets s.adts u t k after lo mid from l.drops inside w at0.1 (spare_outside lo mid mid l.drops (inr (omega arith)) w) h
+      left.lets)))
+    where
+      first : (us : List Ty) (ss : List ℕ) (slots : Slots) → AreThese slots ss us → slice_get us 0 ≡ Some v → 0 < length ss
+      first [] [] slots a e = absurd cc
+      first [] (s ∷ ss) slots a e = absurd a
+      first (u ∷ us) [] slots a e = absurd a
+      first (u ∷ us) (s ∷ ss) slots a e = omega arith

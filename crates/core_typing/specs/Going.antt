@@ -1,0 +1,75 @@
+-- Where code goes on, and what is known of its slots then; and that wherever it comes to, each instruction finds what it needs.
+use Rattle.std.specs.Prelude.{ℕ, zero, suc, ◌+◌, ◌-◌, ◌≡◌, true, false, List, [], ◌∷◌, Some, slice_get}
+use Rattle.std.specs.List.{All}
+use Rattle.limbo_types.specs.Types as ty
+use Rattle.limbo_types.specs.Types.{Ty}
+use Rattle.limbo_meaning.specs.Values.{Value, Num, Ref}
+use Rattle.limbo_kept.specs.Trees.{Scope}
+use Rattle.core_code.specs.Code.{Instr, Give, Gather, Pick, Known, Write, CopyInto, Cell, Call, Print, Skip, Truth, Element, Start, Next}
+use Rattle.core_code.specs.Code.{Other, Keep, Take, Drop, Mirror, Unless, Jump, Back, Return}
+use Rattle.core_typing.specs.Held.{Held, Of, Decided, Turns, Regions, NoRegion, MoreRegions, Slots, empty, slot, put, emptied}
+use Rattle.core_typing.specs.Held.{chain_of, region, cleared, placed, chained, noted}
+use Rattle.core_typing.specs.Needs.{Finds}
+
+-- A place in the code, and what is known of the slots there.
+pub record Stand : Type 0 where
+  pub pc : ℕ
+  pub slots : Slots
+
+abbrev pub stand : ℕ → Slots → Stand
+stand pc slots = record { pc = pc; slots = slots }
+
+-- As of which type a value stands that no step gives: a length, the list without items, nothing.
+abbrev pub type_known : Value → Ty
+type_known (Num z) = ty.Int
+type_known (Ref r) = ty.Nil
+type_known v = ty.Nothing
+
+-- The drops behind a decision are passed where that was so.
+abbrev pub mirrored : (pc passes : ℕ) → Slots → Held → List Stand
+mirrored pc n slots (Decided true) = stand (suc pc + n) slots ∷ []
+mirrored pc n slots h = stand (suc pc) slots ∷ []
+
+-- The oldest region of a chain comes back; or there is none, and the loop's slot is empty.
+abbrev pub taken : (pc passes : ℕ) → Slots → (loop from : ℕ) → Regions → List Stand
+taken pc n slots loop from NoRegion = stand (suc pc + n) (put slots loop empty) ∷ []
+taken pc n slots loop from (MoreRegions g rs) = stand (suc pc) (put (placed slots from g) loop (Turns rs)) ∷ []
+
+module _ (pc : ℕ) (slots : Slots) where
+  abbrev pub on : Slots → List Stand
+  on after = stand (suc pc) after ∷ []
+
+  -- Where it may stand behind an instruction, whatever the values are.
+  abbrev pub behind : Instr → List Stand
+  behind (Give t o into from) = on (put slots into (Of t))
+  behind (Gather t o into from) = on (put (emptied slots from) into (Of t))
+  behind (Pick t n into from) = on (put slots into (Of t))
+  behind (Known v into) = on (put slots into (Of (type_known v)))
+  behind (Write t way operands part from) = on slots
+  behind (CopyInto array start from) = on slots
+  behind (Cell t into item back) = on (put slots into (Of (ty.ListOf t)))
+  behind (Call t f into from) = on (put slots into (Of t))
+  behind (Print ps into from) = on (put slots into (Of ty.Int))
+  behind (Skip c into decision from n) =
+      stand (suc pc + n) (put (noted slots decision true) into (Of ty.Int)) ∷ stand (suc pc) (noted slots decision false) ∷ []
+  behind (Truth into from) = on (put slots into (Of ty.Int))
+  behind (Element t array index from) = on slots
+  behind (Start loop) = on (put slots loop (Turns NoRegion))
+  behind (Next array loop named n) = stand (suc pc + n) slots ∷ stand (suc pc) slots ∷ []
+  behind (Other t array loop from) = on slots
+  behind (Keep loop from words) =
+      on (put (cleared slots from words) loop (Turns (chained (chain_of (slot slots loop)) (region slots from words))))
+  behind (Take loop from words n) = taken pc n slots loop from (chain_of (slot slots loop))
+  behind (Drop r k) = on slots
+  behind (Mirror d n) = mirrored pc n slots (slot slots d)
+  behind (Unless c n) = stand (suc pc + n) slots ∷ stand (suc pc) slots ∷ []
+  behind (Jump n) = stand (suc pc + n) slots ∷ []
+  behind (Back n) = stand (pc - n) slots ∷ []
+  behind (Return from) = []
+
+module _ (s : Scope) (answer : Ty) (code : List Instr) where
+  -- In so many instructions, whichever way it goes, each is there and finds what it needs.
+  abbrev pub Goes : ℕ → (pc : ℕ) → Slots → Type 0
+  Goes zero pc slots = Unit {0}
+  Goes (suc n) pc slots =
+      (i : Instr) × (slice_get code pc ≡ Some i) × Finds s answer slots i × All (λ (a : Stand). Goes n a.pc a.slots) (behind pc slots i)

@@ -1,0 +1,5 @@
+pub mod Held
+pub mod Needs
+pub mod Going
+pub mod Trees
+pub mod Functions

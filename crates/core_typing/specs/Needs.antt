@@ -1,0 +1,93 @@
+-- Of which types an instruction finds what it reads. A `ref` of a variant stands where one of its adt is asked for, and `nil` where any
+-- reference is.
+use Rattle.std.specs.Prelude.{ℕ, ◌≡◌, ◌<◌, ◌⊎◌, Bool, List, [], ◌∷◌, ◌++◌, Option, None, Some}
+use Rattle.limbo_types.specs.Types as ty
+use Rattle.limbo_types.specs.Types.{Ty}
+use Rattle.limbo_typed.specs.declared.print.Piece.{Piece}
+use Rattle.limbo_typed.specs.declared.print.Piece.TheVariants as piece
+use Rattle.limbo_typed.specs.Fitting.{HasPart, Stands}
+use Rattle.limbo_typed.specs.Sound.{type_of_hole}
+use Rattle.limbo_meaning.specs.Trees as tree
+use Rattle.limbo_kept.specs.Operating.{HasRoom}
+use Rattle.limbo_kept.specs.Places.{Leads}
+use Rattle.limbo_kept.specs.Trees.{Scope, WayIs, WorkIs}
+use Rattle.core_code.specs.Code.{Instr, Give, Gather, Pick, Known, Write, CopyInto, Cell, Call, Print, Skip, Truth, Element, Start, Next}
+use Rattle.core_code.specs.Code.{Other, Keep, Take, Drop, Mirror, Unless, Jump, Back, Return}
+use Rattle.core_code.specs.Terms.{count_of}
+use Rattle.core_typing.specs.Held.{Of, Decided, Turns, Regions, Slots, slot}
+
+-- Types whose values are references, or nothing.
+abbrev pub MayBeNil : Ty → Type 0
+MayBeNil (ty.ArrayOf t) = Unit {0}
+MayBeNil (ty.ListOf t) = Unit {0}
+MayBeNil (ty.ChanOf t) = Unit {0}
+MayBeNil (ty.RefAdt n) = Unit {0}
+MayBeNil (ty.RefPick n k) = Unit {0}
+MayBeNil (ty.Module n) = Unit {0}
+MayBeNil t = ⊥
+
+-- A value of the first type stands where one of the second is asked for: also `nil` for each reference.
+abbrev pub StandsAs : Ty → Ty → Type 0
+StandsAs u t = Stands u t ⊎ ((u ≡ ty.Nil) × MayBeNil t)
+
+-- In a slot stands a value where one of a type is asked for; in slots, one after the other.
+abbrev pub IsA : Slots → ℕ → Ty → Type 0
+IsA slots s t = (u : Ty) × (slot slots s ≡ Of u) × StandsAs u t
+
+abbrev pub AreThese : Slots → List ℕ → List Ty → Type 0
+AreThese slots [] [] = Unit {0}
+AreThese slots (s ∷ ss) (t ∷ ts) = IsA slots s t × AreThese slots ss ts
+AreThese slots _ _ = ⊥
+
+-- a loop's slot
+abbrev pub IsLoop : Slots → ℕ → Type 0
+IsLoop slots s = (rs : Regions) × (slot slots s ≡ Turns rs)
+
+-- What a format asks for: a byte is printed as an int of the same value.
+abbrev pub as_int : List Ty → List Ty
+as_int (ty.Byte ∷ ts) = ty.Int ∷ ts
+as_int ts = ts
+
+abbrev pub printed : List Piece → List Ty
+printed [] = []
+printed (piece.Chars t ∷ ps) = printed ps
+printed (piece.Hole h ∷ ps) = as_int (type_of_hole h) ++ printed ps
+
+-- What is written at a place of a type: a part of a slot's value that stands for the type; or nothing, where a variable is declared
+-- without a value.
+abbrev pub Fills : Scope → Slots → Ty → (part : List ℕ) → ℕ → Type 0
+Fills s slots t part from =
+    ((v : Ty) × (slot slots from ≡ Of v) × HasRoom s.adts v × ((u : Ty) × Leads s.adts v part u × StandsAs u t))
+    ⊎ ((slot slots from ≡ Of ty.Nothing) × (part ≡ []) × HasRoom s.adts t)
+
+abbrev pub IsAIf : Slots → Option ℕ → Ty → Type 0
+IsAIf slots None t = Unit {0}
+IsAIf slots (Some s) t = IsA slots s t
+
+module _ (s : Scope) (answer : Ty) (slots : Slots) where
+  -- An instruction finds what it reads as it needs it.
+  abbrev pub Finds : Instr → Type 0
+  Finds (Give t o into from) = (us : List Ty) × AreThese slots from us × WorkIs s t o us t
+  Finds (Gather t o into from) = (us : List Ty) × AreThese slots from us × WorkIs s t o us t
+  Finds (Pick t n into from) = (v : Ty) × (slot slots from ≡ Of v) × HasRoom s.adts v × HasPart s.adts v n t
+  Finds (Known v into) = Unit {0}
+  Finds (Write t way operands part from) = (us : List Ty) × AreThese slots operands us × WayIs s way us t × Fills s slots t part from
+  Finds (CopyInto array start from) = (i : Ty) × IsA slots array (ty.ArrayOf i) × IsA slots start ty.Int × IsA slots from (ty.ArrayOf i)
+  Finds (Cell t into item behind) = HasRoom s.adts t × IsA slots item t × IsAIf slots behind (ty.ListOf t)
+  Finds (Call t f into from) = (us : List Ty) × AreThese slots from us × WorkIs s t (tree.Call f) us t
+  Finds (Print ps into from) = AreThese slots from (printed ps)
+  Finds (Skip c into decision from passes) = IsA slots from ty.Int
+  Finds (Truth into from) = IsA slots from ty.Int
+  Finds (Element t array index from) = HasRoom s.adts t × IsA slots array (ty.ArrayOf t) × IsA slots from t
+  Finds (Start loop) = Unit {0}
+  Finds (Next array loop named passes) = (t : Ty) × IsA slots array (ty.ArrayOf t) × IsLoop slots loop
+  Finds (Other t array loop from) = HasRoom s.adts t × IsA slots array (ty.ArrayOf t) × IsLoop slots loop × IsA slots from t
+  Finds (Keep loop from words) = IsLoop slots loop
+  Finds (Take loop from words passes) = IsLoop slots loop
+  Finds (Drop r k) = (t : Ty) × (slot slots r ≡ Of t) × (k < count_of s.adts t)
+  Finds (Mirror d passes) = (b : Bool) × (slot slots d ≡ Decided b)
+  Finds (Unless c passes) = IsA slots c ty.Int
+  Finds (Jump passes) = Unit {0}
+  Finds (Back steps) = Unit {0}
+  Finds (Return None) = Unit {0}
+  Finds (Return (Some r)) = IsA slots r answer

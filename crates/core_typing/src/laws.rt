@@ -1,0 +1,24 @@
+//! What goes well.
+
+ghost use Rattle.core_typing.specs.Functions.{TreesGoWell, ValuesGoWell, FunctionsGoWell, SoundModulesGoWell};
+
+/// Wherever the code of a typed tree comes to, each instruction finds operands of the types that it needs, and so does what stands behind
+/// it.
+pub fn trees_go_well()
+    ensures { TreesGoWell }
+{}
+
+/// So it is of the code of its value alone, in front of a return: nothing is dropped there.
+pub fn values_go_well()
+    ensures { ValuesGoWell }
+{}
+
+/// Wherever the code of a typed function comes to, whatever the values are, each instruction finds operands of the types that it needs.
+pub fn functions_go_well()
+    ensures { FunctionsGoWell }
+{}
+
+/// So it is of each function of a sound module.
+pub fn sound_modules_go_well()
+    ensures { SoundModulesGoWell }
+{}
