@@ -192,7 +192,8 @@ module _ (s : Scope) (answer : Ty) (code : List Instr) where
         (t, is_array, (rs, b.loop)),
         two_places s answer code n (suc pc + m) (suc pc) slots slots
             (same_place s answer code n (pc + length (loop_own t a lo zs x)) (suc pc + m) slots (omega arith)
-            (shorter s answer code n (suc n) _ slots (omega arith) (k slots b.long b.same (own_lets before slots t x a lo rs own.value own.touches
+            (shorter s answer code n (suc n) _ slots (omega arith)
+            (k slots b.long b.same (own_lets before slots t x a lo rs own.value own.touches
             b))))
             (own.element (suc pc) slots n (has_front code (suc pc) x.code (store ∷ keep ∷ []) has_turn) (omega arith)
             (λ two left.

@@ -14,11 +14,13 @@ use Rattle.limbo_typed.specs.declared.print.Piece.{Piece}
 use Rattle.limbo_typed.specs.declared.print.Piece.TheVariants as piece
 use Rattle.limbo_typed.specs.Fitting.{Stands}
 use Rattle.limbo_typed.specs.Sound.{SoundNode, SoundExprs, SoundInt, SoundOptional, SoundItems, SoundPlaceNode, SoundPattern, SoundPatterns}
-use Rattle.limbo_typed.specs.Sound.{IsNamed, SoundStmt, SoundStmts, SoundDeclared, SoundCondition, SoundOption, SoundFunction, Each, types_of, holes}
+use Rattle.limbo_typed.specs.Sound.{IsNamed, SoundStmt, SoundStmts, SoundDeclared, SoundCondition, SoundOption, SoundFunction, Each}
+use Rattle.limbo_typed.specs.Sound.{types_of, holes}
 use Rattle.limbo_typed.specs.Typed as typed
 use Rattle.limbo_typed.specs.Typed.{Expr, Of, Exprs, NoExprs, MoreExprs, Optional, Absent, Present, PlaceNode, At, Pattern, Patterns}
 use Rattle.limbo_typed.specs.Typed.{Stmt, Stmts, Var, Module}
-use Rattle.limbo_meaning.specs.Trees.{Aim, Work, Assign, Term, Evaluated, Node, Terms, NoTerms, MoreTerms, Stm, Over, Eval, Looping, Block, Done}
+use Rattle.limbo_meaning.specs.Trees.{Aim, Work, Assign, Term, Evaluated, Node, Terms, NoTerms, MoreTerms, Stm, Over, Eval, Looping}
+use Rattle.limbo_meaning.specs.Trees.{Block, Done}
 use Rattle.limbo_meaning.specs.Trees.{Then, tested}
 use Rattle.limbo_meaning.specs.Program.{terms_before, only_term, aims_in, node_of, terms_of, terms_if, length_term, items_of, printed_of}
 use Rattle.limbo_meaning.specs.Program.{as_printed, operands_at, operands_to, operands_among, operating, evaluated, optional}
@@ -34,7 +36,8 @@ use Rattle.core_follows.specs.Handled.{types_in}
 use Rattle.core_follows.specs.Modules.{IsPart, AllPart, ItemsPart, PartIf, StmPart, BlockPart}
 use Rattle.core_follows.proofs.Modules.{part_front, part_back, node_type, operated_part, printed_part, load_or, modules_are_handled}
 use Rattle.core_typing.specs.Needs.{printed}
-use Rattle.core_typing.specs.Trees.{LengthSo, HasValue, DeclaresSo, Formed, AllFormed, ItemsFormed, FormedIf, TestFormed, StmFormed, BlockFormed}
+use Rattle.core_typing.specs.Trees.{LengthSo, HasValue, DeclaresSo, Formed, AllFormed, ItemsFormed, FormedIf, TestFormed}
+use Rattle.core_typing.specs.Trees.{StmFormed, BlockFormed}
 use Rattle.core_typing.specs.Functions.{TreesGoWell, ValuesGoWell, SoundModulesGoWell}
 use Rattle.core_typing.proofs.Functions.{functions_go_well}
 
@@ -216,7 +219,8 @@ module _ (m : Module) (laid : AdtsAreLaid m.adts) (variables : List Var) where
         (node_value u l, node_formed u l x.0.1 h.0, node_value w r, node_formed w r x.1.1 h.1)
     node_formed t (typed.Assign p (Of u n)) x h = (
       tt,
-      declares_so t (Assign (aims_in [] p)) (terms_before (operands_to p) (only_term (node_of u n))) (node_value t (typed.Assign p (Of u n))),
+      declares_so t (Assign (aims_in [] p)) (terms_before (operands_to p) (only_term (node_of u n)))
+          (node_value t (typed.Assign p (Of u n))),
       formed_before (operands_to p) (only_term (node_of u n))
           (pattern_formed p u x.1 (part_front (operands_to p) (only_term (node_of u n)) h)) (
             node_value u n,

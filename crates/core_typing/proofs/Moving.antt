@@ -180,8 +180,10 @@ module _ (defs : List Def) where
   segments_suit P u b slots (n ∷ ns) (s ∷ ss) [] g a = absurd g
   segments_suit P u b slots (n ∷ ns) (s ∷ ss) (t ∷ ts) g a =
       let x = count_as defs a.0.0 t a.0.2 in
-      let y = g.2 in
-      ((a.0.0, a.0.1, omega (arith, x, y)), segments_suit P u (count_all defs (take n P) + count_of defs (slice_index_or P n ty.Int)) slots ns ss ts g.3 a.1)
+      let y = g.2 in (
+        (a.0.0, a.0.1, omega (arith, x, y)),
+        segments_suit P u (count_all defs (take n P) + count_of defs (slice_index_or P n ty.Int)) slots ns ss ts g.3 a.1,
+      )
 
   suit_made : (P : List Ty) (full : List Value) (slots : Slots) (ns ss : List ℕ) (ts : List Ty) → Made defs 0 P full ns (zeros ts)
       → AreThese slots ss ts → Suit defs P slots ns ss

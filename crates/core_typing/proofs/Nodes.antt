@@ -20,7 +20,8 @@ use Rattle.limbo_kept.specs.Places.{Leads}
 use Rattle.limbo_kept.specs.Trees.{Scope, AimsAre, DeclaresAll, WorkIs}
 use Rattle.core_code.specs.Code.{Instr, Give, Gather, Pick, Known, Write, CopyInto, Cell, Call, Print, Drop}
 use Rattle.core_code.specs.Naming.{DiffersFrom, AllDiffer}
-use Rattle.core_code.specs.Terms.{Lowered, LoweredAll, count_of, slot_at, drops_from, drops_if, drops_after, drops_after_all, gives, gathers}
+use Rattle.core_code.specs.Terms.{Lowered, LoweredAll, count_of, slot_at, drops_from, drops_if, drops_after}
+use Rattle.core_code.specs.Terms.{drops_after_all, gives, gathers}
 use Rattle.core_code.specs.Terms.{writes, cells, cell_drops, list_code, picks, moves_out, moves_into, node, type_at}
 use Rattle.core_code.specs.Terms.{part_types, part_numbers}
 use Rattle.core_follows.specs.Drops.{Between, Beside, AllTouch, HasAt}

@@ -74,7 +74,12 @@ module _ (s : Scope) (answer : Ty) (code : List Instr) where
         long = put_long slots lo i;
         same = λ r b. put_other slots lo r i (λ e. absurd (elim b [ inl y ↦ omega (arith, y, e) | inr y ↦ omega (arith, y, e) ]));
         lets = none;
-        is = (ty.Nothing, there, subst (λ (j : ℕ). StandsAs ty.Nothing (type_at s.adts j (MoreTerms (Evaluated v) NoTerms))) (sym d.0) (itself ty.Nothing));
+        is = (
+          ty.Nothing,
+          there,
+          subst (λ (j : ℕ). StandsAs ty.Nothing (type_at s.adts j (MoreTerms (Evaluated v) NoTerms))) (sym d.0)
+              (itself ty.Nothing),
+        );
       }))))
   declared_goes lo t _ _ d f pc slots n has fits k = absurd d
 

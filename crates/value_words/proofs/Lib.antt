@@ -1,0 +1,14 @@
+pub mod Later
+pub mod Wholes
+pub mod Bytes
+pub mod Aligned
+pub mod Carrying
+pub mod Moved
+pub mod Blank
+pub mod Rows
+pub mod Named
+pub mod Covered
+pub mod Kept
+pub mod Dropped
+pub mod Parts
+pub mod Examples

@@ -1,0 +1,4 @@
+pub mod Facts
+pub mod Stands
+pub mod Contents
+pub mod Laws
