@@ -1,5 +1,5 @@
 -- Nodes of each kind, connectives and updates go well.
-use Rattle.std.proofs.Common.{◌≡◌, ℕ, suc, ◌+◌, ◌<◌, ◌≤◌, Bool, true, false, List, [], ◌∷◌, ◌++◌, length, Some, None}
+use Rattle.std.proofs.Common.{◌≡◌, ℕ, suc, ◌+◌, ◌<◌, ◌≤◌, Bool, true, false, List, [], ◌∷◌, ◌++◌, length, Option, Some, None}
 use Rattle.std.proofs.Common.{refl, sym, subst, ◌∙◌, arith, inl, inr, append-nil, length-append}
 use Rattle.std.specs.Prelude.{slice_get, if◌then◌else◌}
 use Rattle.limbo_types.specs.Types as ty
@@ -20,7 +20,7 @@ use Rattle.limbo_kept.specs.Trees.{Scope, WayIs, WorkIs}
 use Rattle.core_code.specs.Code.{Instr, Give, Write, Skip, Truth, Mirror}
 use Rattle.core_code.specs.Naming.{AllDiffer}
 use Rattle.core_code.specs.Terms.{Lowered, LoweredAll, count_of, drops_from, drops_if, gives, gathers, node, type_of, type_at, given_slot}
-use Rattle.core_follows.specs.Drops.{Between, AllTouch, HasAt}
+use Rattle.core_follows.specs.Drops.{Between, Beside, AllTouch, HasAt}
 use Rattle.core_follows.specs.Handled.{Suits, types_in, count}
 use Rattle.core_follows.proofs.Drops.{touch_more}
 use Rattle.core_follows.proofs.Holding.{has_front, has_back}
@@ -28,7 +28,10 @@ use Rattle.core_follows.proofs.Static.{touch_if, touch_wide}
 use Rattle.core_follows.proofs.Valued.{AllValued}
 use Rattle.core_typing.specs.Held.{Of, Decided, Slots, slot, put, noted}
 use Rattle.core_typing.specs.Needs.{IsA}
+use Rattle.core_typing.specs.Written.{told}
+use Rattle.core_typing.specs.Going.{IsTold}
 use Rattle.core_typing.specs.Trees.{TakesSo}
+use Rattle.core_typing.proofs.Telling.{Gave, gave, gave_to, none_into, told_same, told_over, told_at, Quiet}
 use Rattle.core_typing.proofs.Going.{put_same, put_other, put_long, same_place, goes_one, goes_to, two_places}
 use Rattle.core_typing.proofs.Drops.{Lets, none, enters, passes, lets_kept, lets_more, lets_from, lets_if}
 use Rattle.core_typing.proofs.Standing.{itself, is_on, these_on, these_same}
@@ -51,15 +54,16 @@ noted_there : (h : Bool) (slots : Slots) (d : ℕ) (b : Bool) → d < length slo
 noted_there true slots d b l e = put_same slots d (Decided b) l
 noted_there false slots d b l e = absurd cc
 
-mirror_passes : (defs : List Def) (h : Bool) (slots : Slots) (d : ℕ) (ds : List Instr) → (h ≡ true → slot slots d ≡ Decided true)
-    → Lets defs slots (drops_if h (Mirror d (length ds) ∷ ds))
-mirror_passes defs true slots d ds e = passes d (length ds) ds [] (e refl) (sym (append-nil ds)) refl none
-mirror_passes defs false slots d ds e = none
+mirror_passes : (defs : List Def) (tells : ℕ → Option Ty) (h : Bool) (slots : Slots) (d : ℕ) (ds : List Instr)
+    → (h ≡ true → slot slots d ≡ Decided true) → Lets defs tells slots (drops_if h (Mirror d (length ds) ∷ ds))
+mirror_passes defs tells true slots d ds e = passes d (length ds) ds [] (e refl) (sym (append-nil ds)) refl none
+mirror_passes defs tells false slots d ds e = none
 
-mirror_enters : (defs : List Def) (h : Bool) (slots : Slots) (d : ℕ) (ds : List Instr) → (h ≡ true → slot slots d ≡ Decided false)
-    → Lets defs slots ds → Lets defs slots (drops_if h (Mirror d (length ds) ∷ ds))
-mirror_enters defs true slots d ds e x = enters d (length ds) (e refl) x
-mirror_enters defs false slots d ds e x = none
+mirror_enters : (defs : List Def) (tells : ℕ → Option Ty) (h : Bool) (slots : Slots) (d : ℕ) (ds : List Instr)
+    → (h ≡ true → slot slots d ≡ Decided false) → Lets defs tells slots ds
+    → Lets defs tells slots (drops_if h (Mirror d (length ds) ∷ ds))
+mirror_enters defs tells true slots d ds e x = enters d (length ds) (e refl) x
+mirror_enters defs tells false slots d ds e x = none
 
 module _ (s : Scope) (answer : Ty) (code : List Instr) where
   pub node_goes : (lo : ℕ) (t : Ty) (o : Work) (ts : Terms) (us : List Ty) (u : Ty) (l : LoweredAll) → lo ≤ l.free
@@ -113,11 +117,12 @@ module _ (s : Scope) (answer : Ty) (code : List Instr) where
   lazy_drops h a b = a.drops ++ drops_if h (Mirror a.free (length b.drops) ∷ b.drops)
 
   pub lazy_goes : (h : Bool) (c : Connective) (lo : ℕ) (a b : Lowered) (ta tb : Ty) → lo ≤ a.free → suc a.free ≤ b.free
-      → AllTouch (Between lo a.free) a.drops → AllTouch (Between (suc a.free) b.free) b.drops → GoesBy s answer code lo a ta
+      → AllTouch (Between lo a.free) a.drops → AllTouch (Between (suc a.free) b.free) b.drops
+      → ((r : ℕ) → Beside (suc a.free) b.free r → Quiet r b.code) → GoesBy s answer code lo a ta
       → GoesBy s answer code (suc a.free) b tb → Stands ta ty.Int → Stands tb ty.Int
       → GoesBy s answer code lo
       (record { code = lazy_code h c a b; drops = lazy_drops h a b; value = b.free; free = suc b.free }) ty.Int
-  lazy_goes h c lo a b ta tb p q wa wb ga gb sa sb pc slots n has fits k =
+  lazy_goes h c lo a b ta tb p q wa wb quiet ga gb sa sb pc slots n has fits k =
       let skip = Skip c b.free (if h then Some a.free else None) a.value (suc (length b.code)) in
       let truth = Truth b.free b.value in
       let has1 = has_front code pc (a.code ++ (skip ∷ b.code)) (truth ∷ []) has in
@@ -132,13 +137,22 @@ module _ (s : Scope) (answer : Ty) (code : List Instr) where
       ga pc slots n (has_front code pc a.code (skip ∷ b.code) has1) (omega arith)
       (λ one left.
       let pc1 : ℕ = pc + length a.code in
+      let at_end : ℕ = pc + length (lazy_code h c a b) in
+      let at_truth : ℕ = pc + length (a.code ++ (skip ∷ b.code)) in
+      let tells = told code at_end in
+      let g = gave_to code at_truth at_end b.free ty.Int truth (omega arith) has2.0 (λ r. refl) in
+      let kept : (r : ℕ) → r < a.free → tells r ≡ told code pc1 r = λ r l.
+      g.others r (λ e. absurd (omega (arith, e, l, q)))
+      ∙ told_at code at_truth (pc1 + suc (length b.code)) r (omega arith)
+      ∙ told_over code pc1 r (skip ∷ b.code) has3
+      (none_into b.free r ty.Int (λ e. absurd (omega (arith, e, l, q))), quiet r (inl (omega arith))) in
       let long1 = left.long in
       let yes = noted one (if h then Some a.free else None) true in
       let no = noted one (if h then Some a.free else None) false in
       let long_yes = noted_long h one a.free true in
       let long_no = noted_long h one a.free false in
       let passed = put yes b.free i in
-      goes_one s answer code n pc1 one skip has3.0 (is_on one a.value ta ty.Int left.is sa)
+      goes_one s answer code n pc1 one skip has3.0 (is_on one a.value ta ty.Int left.is sa) tt
       (two_places s answer code n (suc pc1 + suc (length b.code)) (suc pc1) passed no
       (same_place s answer code n (pc + length (lazy_code h c a b)) (suc pc1 + suc (length b.code)) passed (omega arith)
       (k passed (record {
@@ -148,13 +162,14 @@ module _ (s : Scope) (answer : Ty) (code : List Instr) where
             ∙ noted_same h one a.free true r
             (λ e. absurd (elim d [ inl y ↦ omega (arith, y, e, p) | inr y ↦ omega (arith, y, e, q) ]))
             ∙ left.same r (elim d [ inl y ↦ inl y | inr y ↦ inr (omega arith) ]);
-        lets = lets_more s.adts passed lo a.free (suc b.free) a.drops ds wa wd
-            (lets_kept s.adts (Between lo a.free) one passed a.drops wa
+        lets = lets_more s.adts tells passed lo a.free (suc b.free) a.drops ds wa wd
+            (lets_kept s.adts (Between lo a.free) (told code pc1) tells one passed a.drops wa
             (λ r d. put_other yes b.free r i (λ e. absurd (let y = d.1 in omega (arith, y, e, q)))
-            ∙ noted_same h one a.free true r (λ e. absurd (let y = d.1 in omega (arith, y, e)))) left.lets)
-            (mirror_passes s.adts h passed a.free b.drops (λ e. put_other yes b.free a.free i (λ e. absurd (omega (arith, e, q)))
+            ∙ noted_same h one a.free true r (λ e. absurd (let y = d.1 in omega (arith, y, e)))) (λ r d. kept r d.1) left.lets)
+            (mirror_passes s.adts tells h passed a.free b.drops (λ e. put_other yes b.free a.free i (λ e. absurd (omega (arith, e, q)))
             ∙ noted_there h one a.free true (omega arith) e));
         is = (ty.Int, put_same yes b.free i (omega arith), itself ty.Int);
+        agrees = (ty.Int, put_same yes b.free i (omega arith), g.there);
       })))
       (gb (suc pc1) no n has3.1 (omega arith)
       (λ two left2.
@@ -163,7 +178,7 @@ module _ (s : Scope) (answer : Ty) (code : List Instr) where
       let last = put two b.free i in
       let to_truth : pc + length (a.code ++ (skip ∷ b.code)) ≡ pc2 = omega arith in
       goes_to s answer code n pc2 (suc pc2) two last truth
-      (subst (λ (z : ℕ). slice_get code z ≡ Some truth) to_truth has2.0) (is_on two b.value tb ty.Int left2.is sb) refl
+      (subst (λ (z : ℕ). slice_get code z ≡ Some truth) to_truth has2.0) (is_on two b.value tb ty.Int left2.is sb) tt refl
       (same_place s answer code n (pc + length (lazy_code h c a b)) (suc pc2) last (omega arith)
       (k last (record {
         long = put_long two b.free i ∙ long2 ∙ long_no ∙ long1;
@@ -173,16 +188,19 @@ module _ (s : Scope) (answer : Ty) (code : List Instr) where
             ∙ noted_same h one a.free false r
             (λ e. absurd (elim d [ inl y ↦ omega (arith, y, e, p) | inr y ↦ omega (arith, y, e, q) ]))
             ∙ left.same r (elim d [ inl y ↦ inl y | inr y ↦ inr (omega arith) ]);
-        lets = lets_more s.adts last lo a.free (suc b.free) a.drops ds wa wd
-            (lets_kept s.adts (Between lo a.free) one last a.drops wa
+        lets = lets_more s.adts tells last lo a.free (suc b.free) a.drops ds wa wd
+            (lets_kept s.adts (Between lo a.free) (told code pc1) tells one last a.drops wa
             (λ r d. put_other two b.free r i (λ e. absurd (let y = d.1 in omega (arith, y, e, q)))
             ∙ left2.same r (inl (let y = d.1 in omega (arith, y)))
-            ∙ noted_same h one a.free false r (λ e. absurd (let y = d.1 in omega (arith, y, e)))) left.lets)
-            (mirror_enters s.adts h last a.free b.drops
+            ∙ noted_same h one a.free false r (λ e. absurd (let y = d.1 in omega (arith, y, e)))) (λ r d. kept r d.1) left.lets)
+            (mirror_enters s.adts tells h last a.free b.drops
             (λ e. put_other two b.free a.free i (λ e. absurd (omega (arith, e, q))) ∙ left2.same a.free (inl (omega arith))
             ∙ noted_there h one a.free false (omega arith) e)
-            (lets_put s.adts two (suc a.free) b.free i b.drops wb left2.lets));
+            (lets_put s.adts (told code pc2) tells two (suc a.free) b.free ty.Int b.drops
+            (gave_to code pc2 at_end b.free ty.Int truth (omega arith)
+            (subst (λ (z : ℕ). slice_get code z ≡ Some truth) to_truth has2.0) (λ r. refl)) wb left2.lets));
         is = (ty.Int, put_same two b.free i (omega arith), itself ty.Int);
+        agrees = (ty.Int, put_same two b.free i (omega arith), g.there);
       })))))))
 
   -- ---- updates
@@ -202,9 +220,15 @@ module _ (s : Scope) (answer : Ty) (code : List Instr) where
   given_is given.Old slots x y t e f = (t, e, itself t)
   given_is given.New slots x y t e f = (t, f, itself t)
 
+  given_told : (tells : ℕ → Option Ty) (g : Given) (slots : Slots) (x y : ℕ) (t : Ty) → IsTold tells slots x → IsTold tells slots y
+      → IsTold tells slots (given_slot s.adts g x y)
+  given_told tells given.Old slots x y t e f = e
+  given_told tells given.New slots x y t e f = f
+
   pub update_goes : (o : Operation) (g : Given) (t : Ty) (w : Way) (lo : ℕ) (a b : LoweredAll) (Ps Qs ps qs : List Ty) → lo ≤ a.free
       → suc a.free ≤ b.free → AllTouch (Between lo a.free) a.drops → AllTouch (Between (suc a.free) b.free) b.drops
-      → AllValued lo a.free a.drops a.values → AllStand Ps ps → AllStand Qs qs → WayIs s w ps t → Gives s.adts o (t ∷ qs) t
+      → ((r : ℕ) → Beside (suc a.free) b.free r → Quiet r b.code) → AllValued lo a.free a.drops a.values
+      → AllStand Ps ps → AllStand Qs qs → WayIs s w ps t → Gives s.adts o (t ∷ qs) t
       → HasRoom s.adts t → HasRoom s.adts (item_of t) → AllBy s answer code lo a Ps → AllBy s answer code (suc a.free) b Qs
       → GoesBy s answer code lo (record {
         code = update_code o t w a b;
@@ -212,7 +236,7 @@ module _ (s : Scope) (answer : Ty) (code : List Instr) where
         value = given_slot s.adts g a.free b.free;
         free = suc b.free;
       }) t
-  update_goes o g t w lo a b Ps Qs ps qs p q wa wb va sp sq way gives room item ga gb pc slots n has fits k =
+  update_goes o g t w lo a b Ps Qs ps qs p q wa wb quiet va sp sq way gives room item ga gb pc slots n has fits k =
       let read = Give t (tree.Read w) a.free a.values in
       let operate = Give t (Operate o) b.free (a.free ∷ b.values) in
       let write = Write t w a.values [] b.free in
@@ -231,7 +255,7 @@ module _ (s : Scope) (answer : Ty) (code : List Instr) where
       let next = put one a.free i in
       let long_next = put_long one a.free i in
       goes_to s answer code n pc1 (suc pc1) one next read has3.0
-      (ps, these_on one a.values Ps ps left.these sp, (way, room, inl refl)) refl
+      (ps, these_on one a.values Ps ps left.these sp, (way, room, inl refl)) tt refl
       (gb (suc pc1) next n has3.1 (omega arith)
       (λ two left2.
       let pc2 : ℕ = suc pc1 + length b.code in
@@ -246,10 +270,23 @@ module _ (s : Scope) (answer : Ty) (code : List Instr) where
       put_other two b.free r i (λ e. absurd (omega (arith, e, q, l))) ∙ left2.same r (inl (omega arith))
       ∙ put_other one a.free r i (λ e. absurd (omega (arith, e, l))) in
       let those = these_same one three lo a.free a.drops a.values Ps va (λ r x y. below r y) left.these in
+      let at_end : ℕ = pc + length (update_code o t w a b) in
+      let tells = told code at_end in
+      let g1 = gave code pc1 a.free t read has3.0 (λ r. refl) in
+      let g2 = gave code pc2 b.free t operate has4.0 (λ r. refl) in
+      let written : (r : ℕ) → tells r ≡ told code (suc pc2) r = λ r.
+      told_at code at_end (suc (suc pc2)) r (omega arith) ∙ told_same code (suc pc2) r write has4.1.0 refl in
+      let g3 : Gave (told code pc2) tells b.free t = record {
+        there = written b.free ∙ g2.there;
+        others = λ r e. written r ∙ g2.others r e;
+      } in
+      let over : (r : ℕ) → r < suc a.free → tells r ≡ told code (suc pc1) r = λ r l.
+      g3.others r (λ e. absurd (omega (arith, e, q, l))) ∙ told_over code (suc pc1) r b.code has3.1 (quiet r (inl l)) in
+      let old_told : tells a.free ≡ Some t = over a.free (omega arith) ∙ g1.there in
       goes_to s answer code n pc2 (suc pc2) two three operate has4.0
-      (t ∷ qs, ((t, old, itself t), these_on two b.values Qs qs left2.these sq), (gives, room, item, inl refl)) refl
+      (t ∷ qs, ((t, old, itself t), these_on two b.values Qs qs left2.these sq), (gives, room, item, inl refl)) tt refl
       (goes_to s answer code n (suc pc2) (suc (suc pc2)) three three write has4.1.0
-      (ps, these_on three a.values Ps ps those sp, way, inl (t, new, room, (t, refl, itself t))) refl
+      (ps, these_on three a.values Ps ps those sp, way, inl (t, new, room, (t, refl, itself t))) (t, new, g2.there) refl
       (same_place s answer code n (pc + length (update_code o t w a b)) (suc (suc pc2)) three (omega arith)
       (k three (record {
         long = put_long two b.free i ∙ long2 ∙ long_next ∙ long1;
@@ -259,24 +296,26 @@ module _ (s : Scope) (answer : Ty) (code : List Instr) where
             ∙ put_other one a.free r i
             (λ e. absurd (elim d [ inl y ↦ omega (arith, y, e, p) | inr y ↦ omega (arith, y, e, q) ]))
             ∙ left.same r (elim d [ inl y ↦ inl y | inr y ↦ inr (omega arith) ]);
-        lets = lets_more s.adts three lo a.free (suc b.free) a.drops _ wa
+        lets = lets_more s.adts tells three lo a.free (suc b.free) a.drops _ wa
             (touch_more (Between a.free (suc b.free)) olds _
             (touch_wide a.free (suc a.free) a.free (suc b.free) olds (omega arith) (omega arith) (touch_row a.free 0 (count_of s.adts t)))
             (touch_more (Between a.free (suc b.free)) b.drops own
             (touch_wide (suc a.free) b.free a.free (suc b.free) b.drops (omega arith) (omega arith) wb)
             (touch_wide b.free (suc b.free) a.free (suc b.free) own (omega arith) (omega arith)
             (touch_if (Between b.free (suc b.free)) (work_refers s.adts t (Operate o)) _ (touch_row b.free 0 (count_of s.adts t))))))
-            (lets_kept s.adts (Between lo a.free) one three a.drops wa (λ r d. below r d.1) left.lets)
-            (lets_more s.adts three a.free (suc a.free) (suc b.free) olds _ (touch_row a.free 0 (count_of s.adts t))
+            (lets_kept s.adts (Between lo a.free) (told code pc1) tells one three a.drops wa (λ r d. below r d.1)
+            (λ r d. over r (let y = d.1 in omega (arith, y)) ∙ g1.others r (λ e. absurd (let y = d.1 in omega (arith, y, e)))) left.lets)
+            (lets_more s.adts tells three a.free (suc a.free) (suc b.free) olds _ (touch_row a.free 0 (count_of s.adts t))
             (touch_more (Between (suc a.free) (suc b.free)) b.drops own
             (touch_wide (suc a.free) b.free (suc a.free) (suc b.free) b.drops (omega arith) (omega arith) wb)
             (touch_wide b.free (suc b.free) (suc a.free) (suc b.free) own (omega arith) (omega arith)
             (touch_if (Between b.free (suc b.free)) (work_refers s.adts t (Operate o)) _ (touch_row b.free 0 (count_of s.adts t)))))
-            (lets_from s.adts three a.free 0 (count_of s.adts t) t old3 (omega arith))
-            (lets_more s.adts three (suc a.free) b.free (suc b.free) b.drops own wb
+            (lets_from s.adts tells three a.free 0 (count_of s.adts t) t old3 old_told (omega arith))
+            (lets_more s.adts tells three (suc a.free) b.free (suc b.free) b.drops own wb
             (touch_if (Between b.free (suc b.free)) (work_refers s.adts t (Operate o)) _ (touch_row b.free 0 (count_of s.adts t)))
-            (lets_put s.adts two (suc a.free) b.free i b.drops wb left2.lets)
-            (lets_if s.adts three (work_refers s.adts t (Operate o)) _
-            (lets_from s.adts three b.free 0 (count_of s.adts t) t new (omega arith)))));
+            (lets_put s.adts (told code pc2) tells two (suc a.free) b.free t b.drops g3 wb left2.lets)
+            (lets_if s.adts tells three (work_refers s.adts t (Operate o)) _
+            (lets_from s.adts tells three b.free 0 (count_of s.adts t) t new g3.there (omega arith)))));
         is = given_is g three a.free b.free t old3 new;
+        agrees = given_told tells g three a.free b.free t (t, old3, old_told) (t, new, g3.there);
       })))))))

@@ -1,6 +1,6 @@
 -- Initialisers go well: a new array, its elements, and the element of the others, turn by turn.
 use Rattle.std.proofs.Common.{◌≡◌, ℕ, ℤ, zero, suc, ◌+◌, ◌-◌, ◌<◌, ◌≤◌, Bool, true, false, List, [], ◌∷◌, ◌++◌, length}
-use Rattle.std.proofs.Common.{refl, sym, ap, subst, ◌∙◌, arith, inl, inr, length-append, Some}
+use Rattle.std.proofs.Common.{refl, sym, ap, subst, ◌∙◌, arith, inl, inr, length-append, Option, Some}
 use Rattle.std.specs.Prelude.{slice_get, if◌then◌else◌}
 use Rattle.limbo_types.specs.Types as ty
 use Rattle.limbo_types.specs.Types.{Ty}
@@ -21,34 +21,46 @@ use Rattle.core_follows.proofs.Holding.{has_front, has_back}
 use Rattle.core_follows.proofs.Static.{no_drops, drops_within, touch_wide}
 use Rattle.core_typing.specs.Held.{Of, Turns, Regions, NoRegion, Slots, slot, put, chain_of, region, cleared, placed, chained}
 use Rattle.core_typing.specs.Needs.{IsA}
+use Rattle.core_typing.specs.Written.{told}
 use Rattle.core_typing.specs.Going.{Goes}
+use Rattle.core_typing.proofs.Telling.{gave, told_same, told_over, told_at, Quiet}
 use Rattle.core_typing.proofs.Going.{put_same, put_other, put_long, shorter, same_place, goes_to, goes_back, two_places}
-use Rattle.core_typing.proofs.Drops.{Lets, HasTurns, none, one, takes, last, lets_kept, lets_more, turns_add, region_size, placed_region}
-use Rattle.core_typing.proofs.Drops.{long_cleared, cleared_below, cleared_above}
+use Rattle.core_typing.proofs.Drops.{Lets, HasTurns, none, one, takes, last, lets_kept, lets_told, lets_more, turns_add}
+use Rattle.core_typing.proofs.Drops.{region_size, placed_region, long_cleared, cleared_below, cleared_above}
 use Rattle.core_typing.proofs.Standing.{itself, is_on}
 use Rattle.core_typing.proofs.Nodes.{Left, GoesBy}
 
 -- What elements leave behind those before them: of the slots that they share nothing is known.
-pub record Grown (defs : List Def) (before after : Slots) (shared from lo hi : ℕ) (drops : List Instr) : Type 0 where
+pub record Grown (defs : List Def) (tells : ℕ → Option Ty) (before after : Slots) (shared from lo hi : ℕ) (drops : List Instr)
+    : Type 0 where
   pub long : length after ≡ length before
   pub same : (r : ℕ) → Beside shared from r → Beside lo hi r → slot after r ≡ slot before r
-  pub lets : Lets defs after drops
+  pub lets : Lets defs tells after drops
 
-pub grown_none : (defs : List Def) (slots : Slots) (shared from lo : ℕ) → Grown defs slots slots shared from lo lo []
-grown_none defs slots shared from lo = record { long = refl; same = λ r b d. refl; lets = none }
+pub grown_none : (defs : List Def) (tells : ℕ → Option Ty) (slots : Slots) (shared from lo : ℕ)
+    → Grown defs tells slots slots shared from lo lo []
+grown_none defs tells slots shared from lo = record { long = refl; same = λ r b d. refl; lets = none }
 
-pub grown_more : (defs : List Def) (first second third : Slots) (shared from lo mid hi : ℕ) (ds es : List Instr) → from ≤ lo → lo ≤ mid
-    → mid ≤ hi → AllTouch (Between lo mid) ds → AllTouch (Between mid hi) es → Grown defs first second shared from lo mid ds
-    → Grown defs second third shared from mid hi es → Grown defs first third shared from lo hi (ds ++ es)
-grown_more defs first second third shared from lo mid hi ds es f l m wd we h k = record {
+pub grown_on : (defs : List Def) (tells tells' : ℕ → Option Ty) (before after : Slots) (shared from lo hi : ℕ) (ds : List Instr)
+    → ((r : ℕ) → tells' r ≡ tells r) → Grown defs tells before after shared from lo hi ds
+    → Grown defs tells' before after shared from lo hi ds
+grown_on defs tells tells' before after shared from lo hi ds e g =
+    record { long = g.long; same = g.same; lets = lets_told defs tells tells' after ds e g.lets }
+
+pub grown_more : (defs : List Def) (tells tells' : ℕ → Option Ty) (first second third : Slots) (shared from lo mid hi : ℕ)
+    (ds es : List Instr) → from ≤ lo → lo ≤ mid
+    → mid ≤ hi → AllTouch (Between lo mid) ds → AllTouch (Between mid hi) es → ((r : ℕ) → Between lo mid r → tells' r ≡ tells r)
+    → Grown defs tells first second shared from lo mid ds
+    → Grown defs tells' second third shared from mid hi es → Grown defs tells' first third shared from lo hi (ds ++ es)
+grown_more defs tells tells' first second third shared from lo mid hi ds es f l m wd we kept h k = record {
   long = k.long ∙ h.long;
   same = λ r b d. elim d [
     | inl x ↦ k.same r b (inl (omega arith)) ∙ h.same r b (inl x)
     | inr x ↦ k.same r b (inr x) ∙ h.same r b (inr (omega arith))
   ];
-  lets = lets_more defs third lo mid hi ds es wd we
-      (lets_kept defs (Between lo mid) second third ds wd
-      (λ r b. k.same r (inr (let x = b.0 in omega (arith, x, f))) (inl b.1)) h.lets) k.lets;
+  lets = lets_more defs tells' third lo mid hi ds es wd we
+      (lets_kept defs (Between lo mid) tells tells' second third ds wd
+      (λ r b. k.same r (inr (let x = b.0 in omega (arith, x, f))) (inl b.1)) kept h.lets) k.lets;
 }
 
 -- Where the slots of an element are, which are its own or shared.
@@ -103,32 +115,34 @@ module _ (s : Scope) (answer : Ty) (code : List Instr) where
     pub has : HasAt code pc (loop_own t a lo zs x)
 
   -- In front of the decision whether another turn follows.
-  pub record InTurns (before slots : Slots) (t : Ty) (x : Lowered) (a lo : ℕ) (rs : Regions) : Type 0 where
+  pub record InTurns (turned : ℕ → Option Ty) (before slots : Slots) (t : Ty) (x : Lowered) (a lo : ℕ) (rs : Regions) : Type 0 where
     pub long : length slots ≡ length before
     pub fits : x.free ≤ length before
     pub same : (r : ℕ) → Beside lo x.free r → slot slots r ≡ slot before r
     pub array : slot slots a ≡ Of (ty.ArrayOf t)
     pub loop : slot slots lo ≡ Turns rs
-    pub turns : HasTurns s.adts (suc lo) (x.free - suc lo) x.drops rs
+    pub turns : HasTurns s.adts turned (suc lo) (x.free - suc lo) x.drops rs
 
-  own_lets : (before slots : Slots) (t : Ty) (x : Lowered) (a lo : ℕ) (rs : Regions) → Between (suc lo) x.free x.value
-      → AllTouch (Between (suc lo) x.free) x.drops → InTurns before slots t x a lo rs → Lets s.adts slots (drops_own lo x)
-  own_lets before slots t x a lo rs v w b =
+  own_lets : (tells turned : ℕ → Option Ty) (before slots : Slots) (t : Ty) (x : Lowered) (a lo : ℕ) (rs : Regions)
+      → Between (suc lo) x.free x.value → AllTouch (Between (suc lo) x.free) x.drops → ((r : ℕ) → tells r ≡ turned r)
+      → InTurns turned before slots t x a lo rs → Lets s.adts tells slots (drops_own lo x)
+  own_lets tells turned before slots t x a lo rs v w e b =
       let v0 = v.0 in
       let v1 = v.1 in
       let fin : suc lo + (x.free - suc lo) ≡ x.free = omega arith in
-      takes lo (suc lo) (x.free - suc lo) (suc (length x.drops)) x.drops [] rs b.loop (omega arith) (omega arith)
+      takes lo (suc lo) (x.free - suc lo) (suc (length x.drops)) x.drops [] rs turned b.loop (omega arith) (omega arith)
       (touch_others (Between (suc lo) x.free) (Between (suc lo) (suc lo + (x.free - suc lo))) x.drops
-      (λ r d. (d.0, let y = d.1 in omega (arith, y, fin))) w) tt b.turns none refl refl
+      (λ r d. (d.0, let y = d.1 in omega (arith, y, fin))) w) tt (λ r p q. e r) b.turns none refl refl
 
   -- A turn is over, and its slots are kept in the chain.
-  kept_turn : (before slots two : Slots) (t u : Ty) (x : Lowered) (a lo : ℕ) (rs : Regions) → a < lo → Between (suc lo) x.free x.value
-      → AllTouch (Between (suc lo) x.free) x.drops → InTurns before slots t x a lo rs
-      → Left s.adts slots two (suc lo) x.free x.value x.drops u
-      → InTurns before (put (cleared two (suc lo) (x.free - suc lo)) lo
+  kept_turn : (turned : ℕ → Option Ty) (before slots two : Slots) (t u : Ty) (x : Lowered) (a lo : ℕ) (rs : Regions)
+      → a < lo → Between (suc lo) x.free x.value
+      → AllTouch (Between (suc lo) x.free) x.drops → InTurns turned before slots t x a lo rs
+      → Left s.adts turned slots two (suc lo) x.free x.value x.drops u
+      → InTurns turned before (put (cleared two (suc lo) (x.free - suc lo)) lo
       (Turns (chained (chain_of (slot two lo)) (region two (suc lo) (x.free - suc lo))))) t x a lo
       (chained (chain_of (slot two lo)) (region two (suc lo) (x.free - suc lo)))
-  kept_turn before slots two t u x a lo rs la v w b left =
+  kept_turn turned before slots two t u x a lo rs la v w b left =
       let from : ℕ = suc lo in
       let words : ℕ = x.free - from in
       let g = region two from words in
@@ -156,16 +170,17 @@ module _ (s : Scope) (answer : Ty) (code : List Instr) where
         ];
         array = low a la ∙ b.array;
         loop = put_same wiped lo loop (omega arith);
-        turns = subst (λ (c : Regions). HasTurns s.adts from words x.drops (chained c g)) (sym chain)
-            (turns_add s.adts from words x.drops rs g b.turns (region_size two from words)
-            (λ base l. lets_kept s.adts (Between from x.free) two (placed base from g) x.drops w
-            (λ r d. placed_region base two from words r l d.0 (let y = d.1 in omega (arith, y, fin))) left.lets));
+        turns = subst (λ (c : Regions). HasTurns s.adts turned from words x.drops (chained c g)) (sym chain)
+            (turns_add s.adts turned from words x.drops rs g b.turns (region_size two from words)
+            (λ base l. lets_kept s.adts (Between from x.free) turned turned two (placed base from g) x.drops w
+            (λ r d. placed_region base two from words r l d.0 (let y = d.1 in omega (arith, y, fin))) (λ r d. refl) left.lets));
       }
 
   pub turns_own : (fuel n : ℕ) (t u : Ty) (x : Lowered) (a lo pc : ℕ) (zs : List ℤ) → Own t u x a lo pc zs → n ≤ fuel
-      → (before slots : Slots) (rs : Regions) → InTurns before slots t x a lo rs
+      → (before slots : Slots) (rs : Regions) → InTurns (told code (suc pc + length x.code)) before slots t x a lo rs
       → ((after : Slots) → length after ≡ length before → ((r : ℕ) → Beside lo x.free r → slot after r ≡ slot before r)
-      → Lets s.adts after (drops_own lo x) → Goes s answer code n (pc + length (loop_own t a lo zs x)) after)
+      → Lets s.adts (told code (pc + length (loop_own t a lo zs x))) after (drops_own lo x)
+      → Goes s answer code n (pc + length (loop_own t a lo zs x)) after)
       → Goes s answer code n pc slots
   turns_own fuel zero t u x a lo pc zs own l before slots rs b k = tt
   turns_own zero (suc n) t u x a lo pc zs own l before slots rs b k = absurd (omega arith)
@@ -186,30 +201,34 @@ module _ (s : Scope) (answer : Ty) (code : List Instr) where
       let has_turn = has_front code (suc pc) turn (Back m ∷ []) own.has.1 in
       let has_back_way = has_back code (suc pc) turn (Back m ∷ []) own.has.1 in
       let has_store = has_back code (suc pc) x.code (store ∷ keep ∷ []) has_turn in
+      let pc2 : ℕ = suc pc + length x.code in
+      let to_back : suc pc + length turn ≡ suc (suc pc2) = omega arith in
+      let at_back = subst (λ (q : ℕ). slice_get code q ≡ Some (Back m)) to_back has_back_way.0 in
+      let at_end : ℕ = pc + length (loop_own t a lo zs x) in
+      let told_end : (r : ℕ) → told code at_end r ≡ told code pc2 r = λ r.
+      told_at code at_end (suc (suc (suc pc2))) r (omega arith) ∙ told_same code (suc (suc pc2)) r (Back m) at_back refl
+      ∙ told_same code (suc pc2) r keep has_store.1.0 refl ∙ told_same code pc2 r store has_store.0 refl in
       let is_array : IsA slots a (ty.ArrayOf t) = (ty.ArrayOf t, b.array, itself (ty.ArrayOf t)) in (
         Next a lo zs m,
         own.has.0,
         (t, is_array, (rs, b.loop)),
+        tt,
         two_places s answer code n (suc pc + m) (suc pc) slots slots
             (same_place s answer code n (pc + length (loop_own t a lo zs x)) (suc pc + m) slots (omega arith)
-            (shorter s answer code n (suc n) _ slots (omega arith)
-            (k slots b.long b.same (own_lets before slots t x a lo rs own.value own.touches
-            b))))
+            (shorter s answer code n (suc n) _ slots (omega arith) (k slots b.long b.same
+            (own_lets (told code at_end) (told code pc2) before slots t x a lo rs own.value own.touches told_end b))))
             (own.element (suc pc) slots n (has_front code (suc pc) x.code (store ∷ keep ∷ []) has_turn) (omega arith)
             (λ two left.
-            let pc2 : ℕ = suc pc + length x.code in
             let array2 : slot two a ≡ Of (ty.ArrayOf t) = left.same a (inl (omega arith)) ∙ b.array in
             let loop2 : slot two lo ≡ Turns rs = left.same lo (inl (omega arith)) ∙ b.loop in
             let rs3 = chained (chain_of (slot two lo)) (region two from words) in
             let three = put (cleared two from words) lo (Turns rs3) in
-            let to_back : suc pc + length turn ≡ suc (suc pc2) = omega arith in
-            let at_back = subst (λ (q : ℕ). slice_get code q ≡ Some (Back m)) to_back has_back_way.0 in
             goes_to s answer code n pc2 (suc pc2) two two store has_store.0
-            (own.room, (ty.ArrayOf t, array2, itself (ty.ArrayOf t)), (rs, loop2), is_on two x.value u t left.is own.stands) refl
-            (goes_to s answer code n (suc pc2) (suc (suc pc2)) two three keep has_store.1.0 (rs, loop2) refl
+            (own.room, (ty.ArrayOf t, array2, itself (ty.ArrayOf t)), (rs, loop2), is_on two x.value u t left.is own.stands) tt refl
+            (goes_to s answer code n (suc pc2) (suc (suc pc2)) two three keep has_store.1.0 (rs, loop2) tt refl
             (goes_back s answer code n (suc (suc pc2)) pc m three at_back (omega arith)
             (λ j lj. turns_own f j t u x a lo pc zs own (omega arith) before three rs3
-            (kept_turn before slots two t u x a lo rs la own.value own.touches b left)
+            (kept_turn (told code pc2) before slots two t u x a lo rs la own.value own.touches b left)
             (λ after long3 same3 lets3. shorter s answer code j (suc n) _ after (omega arith) (k after long3 same3 lets3))))))),
       )
 
@@ -236,7 +255,7 @@ module _ (s : Scope) (answer : Ty) (code : List Instr) where
       → n ≤ fuel → (before slots : Slots) (rs : Regions) → length slots ≡ length before → lo < length before
       → ((r : ℕ) → Beside shared from r → Beside lo (suc lo) r → slot slots r ≡ slot before r) → slot slots a ≡ Of (ty.ArrayOf t)
       → slot slots lo ≡ Turns rs
-      → ((after : Slots) → Grown s.adts before after shared from lo (suc lo) []
+      → ((after : Slots) → Grown s.adts (told code (pc + length (loop_shared t a lo zs x))) before after shared from lo (suc lo) []
       → Goes s answer code n (pc + length (loop_shared t a lo zs x)) after)
       → Goes s answer code n pc slots
   turns_shared fuel zero t u x a shared from lo pc zs own l before slots rs long fits same array loop k = tt
@@ -258,6 +277,7 @@ module _ (s : Scope) (answer : Ty) (code : List Instr) where
         Next a lo zs m,
         own.has.0,
         (t, is_array, (rs, loop)),
+        tt,
         two_places s answer code n (suc pc + m) (suc pc) slots slots
             (same_place s answer code n (pc + length (loop_shared t a lo zs x)) (suc pc + m) slots (omega arith)
             (shorter s answer code n (suc n) _ slots (omega arith) (k slots (record { long = long; same = same; lets = none }))))
@@ -269,7 +289,7 @@ module _ (s : Scope) (answer : Ty) (code : List Instr) where
             let to_back : suc pc + length turn ≡ suc pc2 = omega arith in
             let at_back = subst (λ (q : ℕ). slice_get code q ≡ Some (Back m)) to_back has_back_way.0 in
             goes_to s answer code n pc2 (suc pc2) two two store has_store.0
-            (own.room, (ty.ArrayOf t, array2, itself (ty.ArrayOf t)), (rs, loop2), is_on two x.value u t left.is own.stands) refl
+            (own.room, (ty.ArrayOf t, array2, itself (ty.ArrayOf t)), (rs, loop2), is_on two x.value u t left.is own.stands) tt refl
             (goes_back s answer code n (suc pc2) pc m two at_back (omega arith)
             (λ j lj. turns_shared f j t u x a shared from lo pc zs own (omega arith) before two rs (left.long ∙ long) fits
             (λ r b d. left.same r (elim b [ inl y ↦ inl y | inr y ↦ inr (omega arith) ]) ∙ same r b d) array2 loop2
@@ -286,7 +306,8 @@ module _ (s : Scope) (answer : Ty) (code : List Instr) where
       → (pc : ℕ) (slots : Slots) (n : ℕ) → slot slots a ≡ Of (ty.ArrayOf t)
       → HasAt code pc (others s.adts h t a zs lo (lower s.adts (if h then suc lo else shared) e)).code
       → (others s.adts h t a zs lo (lower s.adts (if h then suc lo else shared) e)).free ≤ length slots
-      → ((after : Slots) → Grown s.adts slots after shared from lo
+      → ((after : Slots) → Grown s.adts
+      (told code (pc + length (others s.adts h t a zs lo (lower s.adts (if h then suc lo else shared) e)).code)) slots after shared from lo
       (others s.adts h t a zs lo (lower s.adts (if h then suc lo else shared) e)).free
       (others s.adts h t a zs lo (lower s.adts (if h then suc lo else shared) e)).drops
       → Goes s answer code n (pc + length (others s.adts h t a zs lo (lower s.adts (if h then suc lo else shared) e)).code) after)
@@ -297,7 +318,7 @@ module _ (s : Scope) (answer : Ty) (code : List Instr) where
       let v0 = v.0 in
       let v1 = v.1 in
       let next = put slots lo (Turns NoRegion) in
-      goes_to s answer code n pc (suc pc) slots next (Start lo) has.0 tt refl
+      goes_to s answer code n pc (suc pc) slots next (Start lo) has.0 tt tt refl
       (turns_own n n t u x a lo (suc pc) zs (record {
         element = go (suc lo);
         stands = st;
@@ -317,11 +338,17 @@ module _ (s : Scope) (answer : Ty) (code : List Instr) where
       })
       (λ after long same lets. same_place s answer code n
       (pc + suc (length (loop_own t a lo zs x))) (suc pc + length (loop_own t a lo zs x)) after (omega arith)
-      (k after (record { long = long; same = λ r b d. same r d; lets = lets }))))
+      (k after (record {
+        long = long;
+        same = λ r b d. same r d;
+        lets = lets_told s.adts (told code (suc pc + length (loop_own t a lo zs x))) (told code (pc + suc (length (loop_own t a lo zs x))))
+            after (drops_own lo x)
+            (λ r. told_at code (pc + suc (length (loop_own t a lo zs x))) (suc pc + length (loop_own t a lo zs x)) r (omega arith)) lets;
+      }))))
   others_go false t u a shared from lo zs e eh room st l m f end go val pc slots n array has fits k =
       let x = lower s.adts shared e in
       let next = put slots lo (Turns NoRegion) in
-      goes_to s answer code n pc (suc pc) slots next (Start lo) has.0 tt refl
+      goes_to s answer code n pc (suc pc) slots next (Start lo) has.0 tt tt refl
       (turns_shared n n t u x a shared from lo (suc pc) zs (record {
         element = go shared;
         stands = st;
@@ -337,14 +364,16 @@ module _ (s : Scope) (answer : Ty) (code : List Instr) where
       (put_other slots lo a (Turns NoRegion) (λ q. absurd (omega (arith, q, l, m, f))) ∙ array)
       (put_same slots lo (Turns NoRegion) (omega arith))
       (λ after grown. same_place s answer code n
-      (pc + suc (length (loop_shared t a lo zs x))) (suc pc + length (loop_shared t a lo zs x)) after (omega arith) (k after grown)))
+      (pc + suc (length (loop_shared t a lo zs x))) (suc pc + length (loop_shared t a lo zs x)) after (omega arith)
+      (k after (record { long = grown.long; same = grown.same; lets = none }))))
 
   -- ---- the whole initialiser
 
   abbrev pub ElementsGo : (t : Ty) (a shared from lo : ℕ) → Lowered → Type 0
   ElementsGo t a shared from lo x =
       (pc : ℕ) (slots : Slots) (n : ℕ) → slot slots a ≡ Of (ty.ArrayOf t) → HasAt code pc x.code → x.free ≤ length slots
-      → ((after : Slots) → Grown s.adts slots after shared from lo x.free x.drops → Goes s answer code n (pc + length x.code) after)
+      → ((after : Slots) → Grown s.adts (told code (pc + length x.code)) slots after shared from lo x.free x.drops
+      → Goes s answer code n (pc + length x.code) after)
       → Goes s answer code n pc slots
 
   abbrev pub fill_code : Ty → (l es os : Lowered) → List Instr
@@ -355,7 +384,9 @@ module _ (s : Scope) (answer : Ty) (code : List Instr) where
 
   pub fill_goes : (t : Ty) (lo from : ℕ) (l es os : Lowered) → lo ≤ l.free → suc l.free ≤ from → from ≤ es.free → es.free ≤ os.free
       → AllTouch (Between lo l.free) l.drops → AllTouch (Between from es.free) es.drops → AllTouch (Between es.free os.free) os.drops
-      → HasRoom s.adts t → GoesBy s answer code lo l ty.Int → ElementsGo t l.free (suc l.free) from from es
+      → ((r : ℕ) → Beside (suc l.free) from r → Beside from es.free r → Quiet r es.code)
+      → ((r : ℕ) → Beside (suc l.free) from r → Beside es.free os.free r → Quiet r os.code) → HasRoom s.adts t
+      → GoesBy s answer code lo l ty.Int → ElementsGo t l.free (suc l.free) from from es
       → ElementsGo t l.free (suc l.free) from es.free os
       → GoesBy s answer code lo (record {
         code = fill_code t l es os;
@@ -363,7 +394,7 @@ module _ (s : Scope) (answer : Ty) (code : List Instr) where
         value = l.free;
         free = os.free;
       }) (ty.ArrayOf t)
-  fill_goes t lo from l es os p q m r wl we wo room gl ge go pc slots n has fits k =
+  fill_goes t lo from l es os p q m r wl we wo qe qo room gl ge go pc slots n has fits k =
       let give = Give (ty.ArrayOf t) (Operate operation.NewArray) l.free (l.value ∷ []) in
       let has1 = has_front code pc (l.code ++ (give ∷ es.code)) os.code has in
       let has2 = has_back code pc (l.code ++ (give ∷ es.code)) os.code has in
@@ -382,20 +413,31 @@ module _ (s : Scope) (answer : Ty) (code : List Instr) where
         ty.Int ∷ [],
         (left.is, tt),
         ((t, refl, refl), (reference, is_alone (ty.ArrayOf t) reference refl), room, inl refl),
-      ) refl
+      ) tt refl
       (ge (suc pc1) next n array has3.1 (omega arith)
       (λ two g2.
       let pc2 : ℕ = suc pc1 + length es.code in
       let to_rest : pc + length (l.code ++ (give ∷ es.code)) ≡ pc2 = omega arith in
       let long2 = g2.long in
       let array2 : slot two l.free ≡ i = g2.same l.free (inl (omega arith)) (inl (omega arith)) ∙ array in
-      go pc2 two n array2 (subst (λ (z : ℕ). HasAt code z os.code) to_rest has2) (omega arith)
+      let has_rest = subst (λ (z : ℕ). HasAt code z os.code) to_rest has2 in
+      go pc2 two n array2 has_rest (omega arith)
       (λ three g3.
       let array3 : slot three l.free ≡ i = g3.same l.free (inl (omega arith)) (inl (omega arith)) ∙ array2 in
       let below : (d : ℕ) → d < l.free → slot three d ≡ slot first d = λ d y.
       g3.same d (inl (omega arith)) (inl (omega arith)) ∙ g2.same d (inl (omega arith)) (inl (omega arith))
       ∙ put_other first l.free d i (λ e. absurd (omega (arith, e, y))) in
-      same_place s answer code n (pc + length (fill_code t l es os)) (pc2 + length os.code) three (omega arith)
+      let at_end : ℕ = pc + length (fill_code t l es os) in
+      let tells = told code at_end in
+      let g1 = gave code pc1 l.free (ty.ArrayOf t) give has3.0 (λ d. refl) in
+      let to_end : (d : ℕ) → tells d ≡ told code (pc2 + length os.code) d = λ d.
+      told_at code at_end (pc2 + length os.code) d (omega arith) in
+      let over : (d : ℕ) → Beside (suc l.free) from d → Beside es.free os.free d → tells d ≡ told code pc2 d = λ d b c.
+      to_end d ∙ told_over code pc2 d os.code has_rest (qo d b c) in
+      let below_told : (d : ℕ) → d < suc l.free → tells d ≡ told code (suc pc1) d = λ d y.
+      over d (inl y) (inl (omega arith)) ∙ told_over code (suc pc1) d es.code has3.1 (qe d (inl y) (inl (omega arith))) in
+      let array_told : tells l.free ≡ Some (ty.ArrayOf t) = below_told l.free (omega arith) ∙ g1.there in
+      same_place s answer code n at_end (pc2 + length os.code) three (omega arith)
       (k three (record {
         long = g3.long ∙ long2 ∙ long_next ∙ long1;
         same = λ d b. elim b [
@@ -403,15 +445,19 @@ module _ (s : Scope) (answer : Ty) (code : List Instr) where
           | inr y ↦ g3.same d (inr (omega arith)) (inr y) ∙ g2.same d (inr (omega arith)) (inr (omega arith))
               ∙ put_other first l.free d i (λ e. absurd (omega (arith, e, y, p, q, m, r))) ∙ left.same d (inr (omega arith))
         ];
-        lets = lets_more s.adts three lo es.free os.free (l.drops ++ (Drop l.free 0 ∷ es.drops)) os.drops
+        lets = lets_more s.adts tells three lo es.free os.free (l.drops ++ (Drop l.free 0 ∷ es.drops)) os.drops
             (touch_more (Between lo es.free) l.drops (Drop l.free 0 ∷ es.drops)
             (touch_wide lo l.free lo es.free l.drops (omega arith) (omega arith) wl)
             ((p, omega arith), touch_wide from es.free lo es.free es.drops (omega arith) (omega arith) we)) wo
-            (lets_more s.adts three lo l.free es.free l.drops (Drop l.free 0 ∷ es.drops) wl
+            (lets_more s.adts tells three lo l.free es.free l.drops (Drop l.free 0 ∷ es.drops) wl
             ((omega arith, omega arith), touch_wide from es.free l.free es.free es.drops (omega arith) (omega arith) we)
-            (lets_kept s.adts (Between lo l.free) first three l.drops wl (λ d b. below d b.1) left.lets)
-            (one l.free 0 (ty.ArrayOf t) array3 (omega arith)
-            (lets_kept s.adts (Between from es.free) two three es.drops we (λ d b. g3.same d (inr b.0) (inl b.1)) g2.lets)))
-            g3.lets;
+            (lets_kept s.adts (Between lo l.free) (told code pc1) tells first three l.drops wl (λ d b. below d b.1)
+            (λ d b. below_told d (let y = b.1 in omega (arith, y))
+            ∙ g1.others d (λ e. absurd (let y = b.1 in omega (arith, y, e)))) left.lets)
+            (one l.free 0 (ty.ArrayOf t) array3 array_told (omega arith)
+            (lets_kept s.adts (Between from es.free) (told code pc2) tells two three es.drops we (λ d b. g3.same d (inr b.0) (inl b.1))
+            (λ d b. over d (inr b.0) (inl b.1)) g2.lets)))
+            (lets_told s.adts (told code (pc2 + length os.code)) tells three os.drops to_end g3.lets);
         is = (ty.ArrayOf t, array3, itself (ty.ArrayOf t));
+        agrees = (ty.ArrayOf t, array3, array_told);
       }))))))

@@ -24,7 +24,7 @@ use Rattle.core_follows.proofs.Follows.{join_done, has_all}
 use Rattle.core_typing.specs.Held.{Slots, empty}
 use Rattle.core_typing.specs.Needs.{IsA, Finds}
 use Rattle.core_typing.specs.Going as going
-use Rattle.core_typing.specs.Going.{Stand, stand, Goes}
+use Rattle.core_typing.specs.Going.{Stand, stand, Agrees, Goes}
 use Rattle.core_typing.specs.Trees.{HasValue, Formed, FormedIf, TestFormed, LoopFormed, BlockFormed}
 use Rattle.core_typing.specs.Functions.{TreesGoWell, ValuesGoWell, FunctionsGoWell}
 use Rattle.core_typing.proofs.Standing.{is_on, term_stands}
@@ -37,10 +37,11 @@ use Rattle.core_typing.proofs.Loops.{entered_has_test, entered_has_rest}
 module _ (s : Scope) (answer : Ty) (code : List Instr) where
   -- An instruction is there and finds what it needs, and behind it all goes well with less.
   goes_by : (n pc : ℕ) (slots : Slots) (i : Instr) → slice_get code pc ≡ Some i → Finds s answer slots i
-      → ((m : ℕ) → n ≡ suc m → All (λ (a : Stand). Goes s answer code m a.pc a.slots) (going.behind pc slots i)) → Goes s answer code n pc
-      slots
-  goes_by zero pc slots i e f k = tt
-  goes_by (suc m) pc slots i e f k = (i, e, f, k m refl)
+      → Agrees s answer code pc slots i
+      → ((m : ℕ) → n ≡ suc m → All (λ (a : Stand). Goes s answer code m a.pc a.slots) (going.behind pc slots i))
+      → Goes s answer code n pc slots
+  goes_by zero pc slots i e f a k = tt
+  goes_by (suc m) pc slots i e f a k = (i, e, f, a, k m refl)
 
   abbrev AllGo : ℕ → List Stand → Type 0
   AllGo m places = All (λ (a : Stand). Goes s answer code m a.pc a.slots) places
@@ -105,18 +106,18 @@ module _ (trees : TreesGoWell) (values : ValuesGoWell) (s : Scope) (answer : Ty)
         → length slots ≡ size
         → G n pc slots
     jump_well pc k b e d g slots long =
-        goes_by s answer code n pc slots (Jump k) e tt
+        goes_by s answer code n pc slots (Jump k) e tt tt
         (λ m q. one_goes s answer code m (suc pc + k) slots (less m q (suc pc + k) b d g slots long))
 
     back_well : (pc to k : ℕ) (b : Block) → slice_get code pc ≡ Some (Back k) → to + k ≡ pc → D to b → Good b → (slots : Slots)
         → length slots ≡ size → G n pc slots
     back_well pc to k b e z d g slots long =
-        goes_by s answer code n pc slots (Back k) e tt
+        goes_by s answer code n pc slots (Back k) e tt tt
         (λ m q. one_goes s answer code m (pc - k) slots
         (less m q (pc - k) b (does_at s.adts code size to (pc - k) b (omega arith) d) g slots long))
 
     none_well : (pc : ℕ) → slice_get code pc ≡ Some (Return None) → (slots : Slots) → G n pc slots
-    none_well pc e slots = goes_by s answer code n pc slots (Return None) e tt (λ m q. none_go s answer code m)
+    none_well pc e slots = goes_by s answer code n pc slots (Return None) e tt tt (λ m q. none_go s answer code m)
 
     -- An expression with its drops.
     expression_well : (t : Term) (u : Ty) → TermIs s [] None t u → Ready s.adts code size t → Formed s t → (pc : ℕ)
@@ -139,7 +140,7 @@ module _ (trees : TreesGoWell) (values : ValuesGoWell) (s : Scope) (answer : Ty)
         let at : ℕ = pc + length w in
         expression_well t ty.Int h.0 r h.2 pc (has_front code pc w (Unless x k ∷ []) has) slots long
         (λ after l a. goes_by s answer code n at after (Unless x k) (has_back code pc w (Unless x k ∷ []) has).0
-        (is_on after x (type_of s.adts t) ty.Int a (term_stands s t ty.Int h.0 r.0 h.1 h.2))
+        (is_on after x (type_of s.adts t) ty.Int a (term_stands s t ty.Int h.0 r.0 h.1 h.2)) tt
         (λ m q. two_go s answer code m (suc at + k) (suc at) after
         (less m q (suc at + k) miss (does_at s.adts code size (end + k) (suc at + k) miss (omega arith) dm) gm after l)
         (less m q (suc at) hit (does_at s.adts code size end (suc at) hit (omega arith) dh) gh after l)))
@@ -224,7 +225,7 @@ module _ (trees : TreesGoWell) (values : ValuesGoWell) (s : Scope) (answer : Ty)
     place_well pc todo (over {rest = rest} d) g slots long = place_well pc rest d (g.0.1, g.1.1) slots long
     place_well pc todo (jumps {rest = rest} k i d) g slots long = jump_well pc k rest i d (g.0.1, g.1.1) slots long
     place_well pc todo (backs {rest = rest} k i d) g slots long =
-        goes_by s answer code n pc slots (Back k) i tt
+        goes_by s answer code n pc slots (Back k) i tt tt
         (λ m q. one_goes s answer code m (pc - k) slots (less m q (pc - k) rest d (g.0.1, g.1.1) slots long))
     place_well pc todo (evaluates {t = t} {rest = rest} r has d) g slots long =
         expression_well t g.0.0.0 g.0.0.1 r g.1.0 pc has slots long
@@ -243,7 +244,7 @@ module _ (trees : TreesGoWell) (values : ValuesGoWell) (s : Scope) (answer : Ty)
         let last = Return (Some x.value) ∷ [] in
         values s answer code t answer g.0.0 r.0 g.1.0.1 pc slots (has_front code pc x.code last has) (let l = r.1 in omega arith) n
         (λ after e a. goes_by s answer code n (pc + length x.code) after (Return (Some x.value)) (has_back code pc x.code last has).0
-        (is_on after x.value (type_of s.adts t) answer a (term_stands s t answer g.0.0 r.0 g.1.0.0 g.1.0.1))
+        (is_on after x.value (type_of s.adts t) answer a (term_stands s t answer g.0.0 r.0 g.1.0.0 g.1.0.1)) tt
         (λ m q. none_go s answer code m))
     place_well pc todo (leaves i) g slots long = none_well pc i slots
     place_well pc todo (enters {l = l} {rest = rest} d) g slots long =

@@ -8,7 +8,7 @@ use Rattle.limbo_kept.specs.Trees.{Scope}
 use Rattle.core_code.specs.Code.{Instr, Back}
 use Rattle.core_typing.specs.Held.{Held, Slots, empty, slot, put}
 use Rattle.core_typing.specs.Needs.{Finds}
-use Rattle.core_typing.specs.Going.{Stand, stand, behind, Goes}
+use Rattle.core_typing.specs.Going.{Stand, stand, behind, Agrees, Goes}
 
 -- ---- slots
 
@@ -26,12 +26,12 @@ put_long slots s h = length-set slots s h
 module _ (s : Scope) (answer : Ty) (code : List Instr) where
   pub less : (n : ℕ) (pc : ℕ) (slots : Slots) → Goes s answer code (suc n) pc slots → Goes s answer code n pc slots
   less zero pc slots g = tt
-  less (suc n) pc slots g = (g.0, g.1, g.2, λ k d l. less n _ _ (g.3 k d l))
+  less (suc n) pc slots g = (g.0, g.1, g.2, g.3, λ k d l. less n _ _ (g.4 k d l))
 
   pub shorter : (m n : ℕ) (pc : ℕ) (slots : Slots) → m ≤ n → Goes s answer code n pc slots → Goes s answer code m pc slots
   shorter zero n pc slots l g = tt
   shorter (suc m) zero pc slots l g = absurd (omega arith)
-  shorter (suc m) (suc n) pc slots l g = (g.0, g.1, g.2, λ k d q. shorter m n _ _ (omega arith) (g.3 k d q))
+  shorter (suc m) (suc n) pc slots l g = (g.0, g.1, g.2, g.3, λ k d q. shorter m n _ _ (omega arith) (g.4 k d q))
 
   pub same_place : (n pc pc' : ℕ) (slots : Slots) → pc ≡ pc' → Goes s answer code n pc slots → Goes s answer code n pc' slots
   same_place n pc pc' slots e g = subst (λ (q : ℕ). Goes s answer code n q slots) e g
@@ -49,24 +49,27 @@ module _ (s : Scope) (answer : Ty) (code : List Instr) where
 
   -- One instruction: what is behind it goes well for as long.
   pub goes_one : (n pc : ℕ) (slots : Slots) (i : Instr) → slice_get code pc ≡ Some i → Finds s answer slots i
+      → Agrees s answer code pc slots i
       → All (λ (a : Stand). Goes s answer code n a.pc a.slots) (behind pc slots i) → Goes s answer code n pc slots
-  goes_one zero pc slots i e f g = tt
-  goes_one (suc n) pc slots i e f g = (i, e, f, λ k d l. less n _ _ (g k d l))
+  goes_one zero pc slots i e f a g = tt
+  goes_one (suc n) pc slots i e f a g = (i, e, f, a, λ k d l. less n _ _ (g k d l))
 
   -- An instruction with one place behind it.
   pub goes_to : (n pc pc' : ℕ) (slots slots' : Slots) (i : Instr) → slice_get code pc ≡ Some i → Finds s answer slots i
+      → Agrees s answer code pc slots i
       → behind pc slots i ≡ stand pc' slots' ∷ [] → Goes s answer code n pc' slots' → Goes s answer code n pc slots
-  goes_to n pc pc' slots slots' i e f b g =
-      goes_one n pc slots i e f (subst (All (λ (a : Stand). Goes s answer code n a.pc a.slots)) (sym b) (one_place n pc' slots' g))
+  goes_to n pc pc' slots slots' i e f a b g =
+      goes_one n pc slots i e f a (subst (All (λ (a : Stand). Goes s answer code n a.pc a.slots)) (sym b) (one_place n pc' slots' g))
 
   pub goes_next : (n pc pc' : ℕ) (slots slots' : Slots) (i : Instr) → slice_get code pc ≡ Some i → Finds s answer slots i
+      → Agrees s answer code pc slots i
       → behind pc slots i ≡ stand pc' slots' ∷ [] → Goes s answer code n pc' slots' → Goes s answer code (suc n) pc slots
-  goes_next n pc pc' slots slots' i e f b g =
-      (i, e, f, subst (All (λ (a : Stand). Goes s answer code n a.pc a.slots)) (sym b) (one_place n pc' slots' g))
+  goes_next n pc pc' slots slots' i e f a b g =
+      (i, e, f, a, subst (All (λ (a : Stand). Goes s answer code n a.pc a.slots)) (sym b) (one_place n pc' slots' g))
 
   -- A way back, from where it goes well for less.
   pub goes_back : (n pc pc' k : ℕ) (slots : Slots) → slice_get code pc ≡ Some (Back k) → pc - k ≡ pc'
       → ((m : ℕ) → m < n → Goes s answer code m pc' slots) → Goes s answer code n pc slots
   goes_back zero pc pc' k slots e b g = tt
-  goes_back (suc n) pc pc' k slots e b g = goes_next n pc (pc - k) slots slots (Back k) e tt refl
+  goes_back (suc n) pc pc' k slots e b g = goes_next n pc (pc - k) slots slots (Back k) e tt tt refl
       (same_place n pc' (pc - k) slots (sym b) (g n (omega arith)))

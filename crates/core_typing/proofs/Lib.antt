@@ -1,3 +1,4 @@
+pub mod Telling
 pub mod Going
 pub mod Drops
 pub mod Standing

@@ -1,5 +1,5 @@
 -- Drops of references that moved into another slot go well.
-use Rattle.std.proofs.Common.{◌≡◌, ℕ, zero, suc, ◌+◌, ◌-◌, ◌<◌, ◌≤◌, List, [], ◌∷◌, ◌++◌, length}
+use Rattle.std.proofs.Common.{◌≡◌, ℕ, zero, suc, ◌+◌, ◌-◌, ◌<◌, ◌≤◌, List, [], ◌∷◌, ◌++◌, length, Option, Some}
 use Rattle.std.proofs.Common.{refl, sym, ap, subst, ◌∙◌, arith, inl, inr, ⊎_elim, ◌⊎◌, take, length-append}
 use Rattle.std.proofs.lemmas.Bool.{cases_eq}
 use Rattle.std.specs.Prelude.{slice_set, slice_index_or}
@@ -24,33 +24,36 @@ use Rattle.core_follows.proofs.Given.{counted}
 use Rattle.core_typing.specs.Held.{Held, Of, Slots, empty, slot, put, emptied}
 use Rattle.core_typing.specs.Needs.{AreThese}
 use Rattle.core_typing.proofs.Going.{put_same, put_other}
+use Rattle.core_typing.proofs.Telling.{Gave}
 use Rattle.core_typing.proofs.Drops.{Lets, none, one, enters, passes, takes, lets_kept}
 use Rattle.core_typing.proofs.Standing.{count_as}
 
 -- ---- one move
 
-pub record GoesOver (defs : List Def) (v : Moved) (slots slots' : Slots) : Type 0 where
+pub record GoesOver (defs : List Def) (tells : ℕ → Option Ty) (v : Moved) (slots slots' : Slots) : Type 0 where
   pub type : Ty
   pub there : slot slots' v.into ≡ Of type
+  pub told : tells v.into ≡ Some type
   pub moved : (k : ℕ) → v.first ≤ k → k < v.first + v.count → v.at + (k - v.first) < count_of defs type
-  pub left : (k : ℕ) (u : Ty) → (k < v.first) ⊎ (v.first + v.count ≤ k) → slot slots v.slot ≡ Of u → k < count_of defs u
-      → (w : Ty) × (slot slots' v.slot ≡ Of w) × (k < count_of defs w)
+  pub left : (k : ℕ) (u : Ty) → (k < v.first) ⊎ (v.first + v.count ≤ k) → slot slots v.slot ≡ Of u
+      → tells v.slot ≡ Some u → k < count_of defs u → (w : Ty) × (slot slots' v.slot ≡ Of w) × (tells v.slot ≡ Some w)
+      × (k < count_of defs w)
   pub others : (d : ℕ) → (d ≡ v.slot → ⊥) → slot slots' d ≡ slot slots d
 
-module _ (defs : List Def) where
-  pub move_lets : (v : Moved) (slots slots' : Slots) (ds : List Instr) → GoesOver defs v slots slots' → AllSpare v.slot ds
-      → AllSpare v.into ds → Lets defs slots ds → Lets defs slots' (drops_after v ds)
+module _ (defs : List Def) (tells : ℕ → Option Ty) where
+  pub move_lets : (v : Moved) (slots slots' : Slots) (ds : List Instr) → GoesOver defs tells v slots slots' → AllSpare v.slot ds
+      → AllSpare v.into ds → Lets defs tells slots ds → Lets defs tells slots' (drops_after v ds)
   move_lets v slots slots' ds g sp si none = none
-  move_lets v slots slots' ds g sp si (one {is = is} s k t e c d) =
+  move_lets v slots slots' ds g sp si (one {is = is} s k t e o c d) =
       let next = move_lets v slots slots' is g sp.1 si.1 d in
       ⊎_elim
-      (λ (n : IsMoved v s k). subst (λ (i : Instr). Lets defs slots' (i ∷ drops_after v is)) (sym (to_moved v s k n.is))
-      (one v.into (v.at + (k - v.first)) g.type g.there (g.moved k n.from n.to) next))
-      (λ (n : IsNotMoved v s k). subst (λ (i : Instr). Lets defs slots' (i ∷ drops_after v is)) (sym (to_same v s k n.is)) (⊎_elim
+      (λ (n : IsMoved v s k). subst (λ (i : Instr). Lets defs tells slots' (i ∷ drops_after v is)) (sym (to_moved v s k n.is))
+      (one v.into (v.at + (k - v.first)) g.type g.there g.told (g.moved k n.from n.to) next))
+      (λ (n : IsNotMoved v s k). subst (λ (i : Instr). Lets defs tells slots' (i ∷ drops_after v is)) (sym (to_same v s k n.is)) (⊎_elim
       (λ (f : s ≡ v.slot).
-      let x = g.left k t (n.apart (sym f)) (subst (λ (r : ℕ). slot slots r ≡ Of t) f e) c in
-      one s k x.0 (subst (λ (r : ℕ). slot slots' r ≡ Of x.0) (sym f) x.1) x.2 next)
-      (λ (f : s ≡ v.slot → ⊥). one s k t (g.others s f ∙ e) c next)
+      let x = g.left k t (n.apart (sym f)) (subst (λ (r : ℕ). slot slots r ≡ Of t) f e) (subst (λ (r : ℕ). tells r ≡ Some t) f o) c in
+      one s k x.0 (subst (λ (r : ℕ). slot slots' r ≡ Of x.0) (sym f) x.1) (subst (λ (r : ℕ). tells r ≡ Some x.0) (sym f) x.2) x.3 next)
+      (λ (f : s ≡ v.slot → ⊥). one s k t (g.others s f ∙ e) o c next)
       (cases_eq s v.slot)))
       (moved_or v s k)
   move_lets v slots slots' ds g sp si (enters {is = is} d n e x) =
@@ -60,10 +63,10 @@ module _ (defs : List Def) where
       (ap (drops_after v) f ∙ after_more v skipped is) (l ∙ sym (after_long v skipped))
       (move_lets v slots slots' is g (spare_tail v.slot skipped is (subst (AllSpare v.slot) f sp.1))
       (spare_tail v.into skipped is (subst (AllSpare v.into) f si.1)) x)
-  move_lets v slots slots' ds g sp si (takes c from words n es is rs e l wl te tj ts x f ln) =
+  move_lets v slots slots' ds g sp si (takes c from words n es is rs turned e l wl te tj tu ts x f ln) =
       let back = Back (suc (length es)) ∷ is in
-      takes c from words n es (drops_after v is) rs (g.others c (λ q. sp.0.0 (sym q)) ∙ e) l wl te
-      (after_touch (Apart c from words) v is si.0 tj) ts
+      takes c from words n es (drops_after v is) rs turned (g.others c (λ q. sp.0.0 (sym q)) ∙ e) l wl te
+      (after_touch (Apart c from words) v is si.0 tj) tu ts
       (move_lets v slots slots' is g ((spare_tail v.slot es back (subst (AllSpare v.slot) f sp.1)).1)
       ((spare_tail v.into es back (subst (AllSpare v.into) f si.1)).1) x)
       (ap (drops_after v) f ∙ after_more v es back
@@ -105,24 +108,25 @@ module _ (defs : List Def) (P : List Ty) where
   suit_put slots s h (n ∷ ns) (r ∷ ss) d f =
       ((f.0.0, put_other slots s r h (λ e. d.0 (sym e)) ∙ f.0.1, f.0.2), suit_put slots s h ns ss d.1 f.1)
 
-  pub moves_lets : (t : Ty) (into : ℕ) (ns ss : List ℕ) (slots : Slots) (ds : List Instr)
+  pub moves_lets : (tells : ℕ → Option Ty) (t : Ty) (into : ℕ) (ns ss : List ℕ) (slots : Slots) (ds : List Instr)
       → ((n : ℕ) → count_all defs (take n P) + count_of defs (slice_index_or P n ty.Int) ≤ count_of defs t) → slot slots into ≡ Of t
-      → Suit slots ns ss → AllDiffer ss → DiffersFrom into ss → SpareEach ss ds → AllSpare into ds → Lets defs slots ds
-      → Lets defs (emptied slots ss) (drops_after_all (moves_into defs P into ns ss) ds)
-  moves_lets t into [] [] slots ds b e f a ai sp si d = d
-  moves_lets t into [] (s ∷ ss) slots ds b e f a ai sp si d = absurd f
-  moves_lets t into (n ∷ ns) [] slots ds b e f a ai sp si d = absurd f
-  moves_lets t into (n ∷ ns) (s ∷ ss) slots ds b e f a ai sp si d =
+      → tells into ≡ Some t → Suit slots ns ss → AllDiffer ss → DiffersFrom into ss → SpareEach ss ds → AllSpare into ds
+      → Lets defs tells slots ds → Lets defs tells (emptied slots ss) (drops_after_all (moves_into defs P into ns ss) ds)
+  moves_lets tells t into [] [] slots ds b e o f a ai sp si d = d
+  moves_lets tells t into [] (s ∷ ss) slots ds b e o f a ai sp si d = absurd f
+  moves_lets tells t into (n ∷ ns) [] slots ds b e o f a ai sp si d = absurd f
+  moves_lets tells t into (n ∷ ns) (s ∷ ss) slots ds b e o f a ai sp si d =
       let at : ℕ = count_all defs (take n P) in
       let c : ℕ = count_of defs (slice_index_or P n ty.Int) in
       let m : Moved = record { slot = s; first = 0; count = c; into = into; at = at } in
       let next = put slots s empty in
       let here : slot next into ≡ Of t = put_other slots s into empty ai.0 ∙ e in
-      let over : GoesOver defs m slots next = record {
+      let over : GoesOver defs tells m slots next = record {
         type = t;
         there = here;
+        told = o;
         moved = λ k p q. let x = b n in omega (arith, x, q);
-        left = λ k u p g l. absurd
+        left = λ k u p g j l. absurd
             (let x = f.0.2 in
             let y : Of u ≡ Of f.0.0 = sym g ∙ f.0.1 in
             let z : u ≡ f.0.0 = cc in
@@ -130,10 +134,10 @@ module _ (defs : List Def) (P : List Ty) where
             elim p [ inl h ↦ omega (arith, h) | inr h ↦ omega (arith, h, x, w, l) ]);
         others = λ r p. put_other slots s r empty p;
       } in
-      subst (λ (xs : Slots). Lets defs xs (drops_after_all (moves_into defs P into ns ss) (drops_after m ds)))
+      subst (λ (xs : Slots). Lets defs tells xs (drops_after_all (moves_into defs P into ns ss) (drops_after m ds)))
       (emptied_put slots s empty ss a.0)
-      (moves_lets t into ns ss next (drops_after m ds) b here (suit_put slots s empty ns ss a.0 f.1) a.1 ai.1
-      (spare_each_after m ss ds sp.1) (spare_after_one into m ds si) (move_lets defs m slots next ds over sp.0 si d))
+      (moves_lets tells t into ns ss next (drops_after m ds) b here o (suit_put slots s empty ns ss a.0 f.1) a.1 ai.1
+      (spare_each_after m ss ds sp.1) (spare_after_one into m ds si) (move_lets defs tells m slots next ds over sp.0 si d))
 
 -- ---- the parts of tuples and of adts' values
 
@@ -217,19 +221,22 @@ module _ (defs : List Def) where
   stands_counted : (t u : Ty) → StandsFor defs t u → count_of defs t ≡ count_of defs u
   stands_counted t u s = sym (ap length (s (fitted defs t nothing) (inl (nothing, refl)))) ∙ counted defs u (fitted defs t nothing)
 
-  pub pick_lets : (u t : Ty) (k : ℕ) (slots : Slots) (lo mid from : ℕ) (ds : List Instr) → mid < length slots
-      → AllTouch (Between lo mid) ds → AllSpare from ds → AllSpare mid ds → Takes defs u k t → Lets defs slots ds
-      → Lets defs (put slots mid (Of t)) (drops_after (moves_out defs u k from mid) ds)
-  pick_lets u t k slots lo mid from ds l w sp si s d =
+  pub pick_lets : (tells tells' : ℕ → Option Ty) (u t : Ty) (k : ℕ) (slots : Slots) (lo mid from : ℕ) (ds : List Instr)
+      → Gave tells tells' mid t
+      → mid < length slots → AllTouch (Between lo mid) ds → AllSpare from ds → AllSpare mid ds → Takes defs u k t
+      → Lets defs tells slots ds → Lets defs tells' (put slots mid (Of t)) (drops_after (moves_out defs u k from mid) ds)
+  pick_lets tells tells' u t k slots lo mid from ds o l w sp si s d =
       let m : Moved = moves_out defs u k from mid in
       let last = put slots mid (Of t) in
       let n = stands_counted (slice_index_or (part_types defs u) k ty.Nothing) t s.2 in
-      let over : GoesOver defs m last last = record {
+      let over : GoesOver defs tells' m last last = record {
         type = t;
         there = put_same slots mid (Of t) l;
+        told = o.there;
         moved = λ j p q. omega (arith, p, q, n);
-        left = λ j v p e c. (v, e, c);
+        left = λ j v p e z c. (v, e, z, c);
         others = λ r p. refl;
       } in
-      move_lets defs m last last ds over sp si (lets_kept defs (Between lo mid) slots last ds w
-      (λ r b. put_other slots mid r (Of t) (λ e. absurd (let y = b.1 in omega (arith, y, e)))) d)
+      move_lets defs tells' m last last ds over sp si (lets_kept defs (Between lo mid) tells tells' slots last ds w
+      (λ r b. put_other slots mid r (Of t) (λ e. absurd (let y = b.1 in omega (arith, y, e))))
+      (λ r b. o.others r (λ e. absurd (let y = b.1 in omega (arith, y, e)))) d)

@@ -33,60 +33,104 @@ use Rattle.core_follows.proofs.Gathers.{SpareEach}
 use Rattle.core_follows.proofs.Valued.{AllValued, valued_at, spare_outside}
 use Rattle.core_typing.specs.Held.{Held, Of, Slots, empty, slot, put, emptied}
 use Rattle.core_typing.specs.Needs.{StandsAs, IsA, AreThese, IsAIf, Fills, Finds, printed}
-use Rattle.core_typing.specs.Going.{stand, behind, Goes}
+use Rattle.core_typing.specs.Written.{told}
+use Rattle.core_typing.specs.Going.{stand, behind, IsTold, Agrees, Goes}
+use Rattle.core_typing.proofs.Telling.{Gave, gave, told_same, told_over, told_at, writes_quiet, cells_quiet, cells_told}
 use Rattle.core_typing.proofs.Going.{put_same, put_other, put_long, same_place, goes_to}
-use Rattle.core_typing.proofs.Drops.{Lets, none, one, lets_kept, lets_more, lets_from, lets_if}
+use Rattle.core_typing.proofs.Drops.{Lets, none, one, lets_kept, lets_told, lets_more, lets_from, lets_if}
 use Rattle.core_typing.proofs.Standing.{as_on, itself, solid_part, exactly, room_as, is_on, is_same, these_on, these_same}
 use Rattle.core_typing.proofs.Standing.{these_at, these_take, these_drop, type_at_in}
 use Rattle.core_typing.proofs.Moving.{emptied_other, emptied_put, moves_lets, part_below, whole_counted, made_laid, suits_parts, pick_lets}
 
--- What the evaluation of a tree leaves, and of trees in a row: as many slots as before, the others as they were, drops that go well, and
--- values of these types.
-pub record Left (defs : List Def) (before after : Slots) (lo hi value : ℕ) (drops : List Instr) (t : Ty) : Type 0 where
-  pub long : length after ≡ length before
-  pub same : (r : ℕ) → Beside lo hi r → slot after r ≡ slot before r
-  pub lets : Lets defs after drops
-  pub is : IsA after value t
+-- What is told of values in slots, one after the other.
+abbrev pub AllTold : (tells : ℕ → Option Ty) → Slots → List ℕ → Type 0
+AllTold tells slots [] = Unit {0}
+AllTold tells slots (s ∷ ss) = IsTold tells slots s × AllTold tells slots ss
 
-pub record AllLeft (defs : List Def) (before after : Slots) (lo hi : ℕ) (values : List ℕ) (drops : List Instr) (ts : List Ty)
+pub these_told : (tells : ℕ → Option Ty) (slots : Slots) (ss : List ℕ) (ts : List Ty) (k : ℕ) (t : Ty) → AllTold tells slots ss
+    → AreThese slots ss ts → slice_get ts k ≡ Some t → IsTold tells slots (slot_at k ss)
+these_told tells slots [] [] k t w a e = absurd cc
+these_told tells slots [] (u ∷ ts) k t w a e = absurd a
+these_told tells slots (s ∷ ss) [] k t w a e = absurd a
+these_told tells slots (s ∷ ss) (u ∷ ts) zero t w a e = w.0
+these_told tells slots (s ∷ ss) (u ∷ ts) (suc k) t w a e = these_told tells slots ss ts k t w.1 a.1 e
+
+pub told_on : (tells tells' : ℕ → Option Ty) (slots slots' : Slots) (r : ℕ) → slot slots' r ≡ slot slots r → tells' r ≡ tells r
+    → IsTold tells slots r → IsTold tells' slots' r
+told_on tells tells' slots slots' r e f w = (w.0, e ∙ w.1, f ∙ w.2)
+
+pub all_told_on : (tells tells' : ℕ → Option Ty) (slots : Slots) (ss : List ℕ) → ((r : ℕ) → tells' r ≡ tells r)
+    → AllTold tells slots ss → AllTold tells' slots ss
+all_told_on tells tells' slots [] e w = tt
+all_told_on tells tells' slots (s ∷ ss) e w = (told_on tells tells' slots slots s refl (e s) w.0, all_told_on tells tells' slots ss e w.1)
+
+-- What the evaluation of a tree leaves, and of trees in a row: as many slots as before, the others as they were, drops that go well, and
+-- values of these types, which are told.
+pub record Left (defs : List Def) (tells : ℕ → Option Ty) (before after : Slots) (lo hi value : ℕ) (drops : List Instr) (t : Ty)
     : Type 0 where
   pub long : length after ≡ length before
   pub same : (r : ℕ) → Beside lo hi r → slot after r ≡ slot before r
-  pub lets : Lets defs after drops
+  pub lets : Lets defs tells after drops
+  pub is : IsA after value t
+  pub agrees : IsTold tells after value
+
+pub record AllLeft (defs : List Def) (tells : ℕ → Option Ty) (before after : Slots) (lo hi : ℕ) (values : List ℕ) (drops : List Instr)
+    (ts : List Ty) : Type 0 where
+  pub long : length after ≡ length before
+  pub same : (r : ℕ) → Beside lo hi r → slot after r ≡ slot before r
+  pub lets : Lets defs tells after drops
   pub these : AreThese after values ts
+  pub agree : AllTold tells after values
+
+pub left_on : (defs : List Def) (tells tells' : ℕ → Option Ty) (before after : Slots) (lo hi value : ℕ) (drops : List Instr) (t : Ty)
+    → ((r : ℕ) → tells' r ≡ tells r) → Left defs tells before after lo hi value drops t
+    → Left defs tells' before after lo hi value drops t
+left_on defs tells tells' before after lo hi value drops t e left = record {
+  long = left.long;
+  same = left.same;
+  lets = lets_told defs tells tells' after drops e left.lets;
+  is = left.is;
+  agrees = told_on tells tells' after after value refl (e value) left.agrees;
+}
 
 pub touch_row : (d k n : ℕ) → AllTouch (Between d (suc d)) (drops_from d k n)
 touch_row d k zero = tt
 touch_row d k (suc n) = ((omega arith, omega arith), touch_row d (suc k) n)
 
 -- A value comes into the slot behind.
-pub left_put : (defs : List Def) (before after : Slots) (lo mid : ℕ) (values : List ℕ) (ds es : List Instr) (ts : List Ty) (t : Ty)
-    → lo ≤ mid → mid < length before → AllLeft defs before after lo mid values ds ts → Lets defs (put after mid (Of t)) es
-    → Left defs before (put after mid (Of t)) lo (suc mid) mid es t
-left_put defs before after lo mid values ds es ts t p l a lets = record {
-  long = put_long after mid (Of t) ∙ a.long;
-  same = λ r b. put_other after mid r (Of t)
-      (λ e. absurd (elim b [ inl y ↦ omega (arith, y, e, p) | inr y ↦ omega (arith, y, e) ]))
-      ∙ a.same r (elim b [ inl y ↦ inl y | inr y ↦ inr (omega arith) ]);
-  lets = lets;
-  is = (t, put_same after mid (Of t) (let q = a.long in omega arith), itself t);
-}
+pub left_put : (defs : List Def) (tells tells' : ℕ → Option Ty) (before after : Slots) (lo mid : ℕ) (values : List ℕ) (ds es : List Instr)
+    (ts : List Ty) (t : Ty) → Gave tells tells' mid t
+    → lo ≤ mid → mid < length before → AllLeft defs tells before after lo mid values ds ts → Lets defs tells' (put after mid (Of t)) es
+    → Left defs tells' before (put after mid (Of t)) lo (suc mid) mid es t
+left_put defs tells tells' before after lo mid values ds es ts t g p l a lets =
+    let there = put_same after mid (Of t) (let q = a.long in omega arith) in
+    record {
+      long = put_long after mid (Of t) ∙ a.long;
+      same = λ r b. put_other after mid r (Of t)
+          (λ e. absurd (elim b [ inl y ↦ omega (arith, y, e, p) | inr y ↦ omega (arith, y, e) ]))
+          ∙ a.same r (elim b [ inl y ↦ inl y | inr y ↦ inr (omega arith) ]);
+      lets = lets;
+      is = (t, there, itself t);
+      agrees = (t, there, g.there);
+    }
 
-pub lets_put : (defs : List Def) (after : Slots) (lo mid : ℕ) (h : Held) (ds : List Instr) → AllTouch (Between lo mid) ds
-    → Lets defs after ds → Lets defs (put after mid h) ds
-lets_put defs after lo mid h ds w d =
-    lets_kept defs (Between lo mid) after (put after mid h) ds w
-    (λ r b. put_other after mid r h (λ e. absurd (let y = b.1 in omega (arith, y, e)))) d
+pub lets_put : (defs : List Def) (tells tells' : ℕ → Option Ty) (after : Slots) (lo mid : ℕ) (t : Ty) (ds : List Instr)
+    → Gave tells tells' mid t → AllTouch (Between lo mid) ds → Lets defs tells after ds → Lets defs tells' (put after mid (Of t)) ds
+lets_put defs tells tells' after lo mid t ds g w d =
+    lets_kept defs (Between lo mid) tells tells' after (put after mid (Of t)) ds w
+    (λ r b. put_other after mid r (Of t) (λ e. absurd (let y = b.1 in omega (arith, y, e))))
+    (λ r b. g.others r (λ e. absurd (let y = b.1 in omega (arith, y, e)))) d
 
 -- all references of what came there
-pub lets_own : (defs : List Def) (after : Slots) (lo mid : ℕ) (t : Ty) (b : Bool) (ds : List Instr) → lo ≤ mid → mid < length after
-    → AllTouch (Between lo mid) ds → Lets defs after ds
-    → Lets defs (put after mid (Of t)) (ds ++ drops_if b (drops_from mid 0 (count_of defs t)))
-lets_own defs after lo mid t b ds p l w d =
+pub lets_own : (defs : List Def) (tells tells' : ℕ → Option Ty) (after : Slots) (lo mid : ℕ) (t : Ty) (b : Bool) (ds : List Instr)
+    → Gave tells tells' mid t → lo ≤ mid → mid < length after → AllTouch (Between lo mid) ds → Lets defs tells after ds
+    → Lets defs tells' (put after mid (Of t)) (ds ++ drops_if b (drops_from mid 0 (count_of defs t)))
+lets_own defs tells tells' after lo mid t b ds g p l w d =
     let last = put after mid (Of t) in
-    lets_more defs last lo mid (suc mid) ds _ w (touch_if (Between mid (suc mid)) b _ (touch_row mid 0 (count_of defs t)))
-    (lets_put defs after lo mid (Of t) ds w d)
-    (lets_if defs last b _ (lets_from defs last mid 0 (count_of defs t) t (put_same after mid (Of t) l) (omega arith)))
+    lets_more defs tells' last lo mid (suc mid) ds _ w (touch_if (Between mid (suc mid)) b _ (touch_row mid 0 (count_of defs t)))
+    (lets_put defs tells tells' after lo mid t ds g w d)
+    (lets_if defs tells' last b _ (lets_from defs tells' last mid 0 (count_of defs t) t (put_same after mid (Of t) l) g.there
+    (omega arith)))
 
 spare_each : (lo hi : ℕ) (ds : List Instr) (ss : List ℕ) → AllValued lo hi ds ss → SpareEach ss ds
 spare_each lo hi ds [] h = tt
@@ -154,42 +198,52 @@ module _ (s : Scope) (answer : Ty) (code : List Instr) where
   abbrev pub GoesBy : (lo : ℕ) → Lowered → Ty → Type 0
   GoesBy lo x t =
       (pc : ℕ) (slots : Slots) (n : ℕ) → HasAt code pc x.code → x.free ≤ length slots
-      → ((after : Slots) → Left s.adts slots after lo x.free x.value x.drops t → Goes s answer code n (pc + length x.code) after)
+      → ((after : Slots) → Left s.adts (told code (pc + length x.code)) slots after lo x.free x.value x.drops t
+      → Goes s answer code n (pc + length x.code) after)
       → Goes s answer code n pc slots
 
   abbrev pub AllBy : (lo : ℕ) → LoweredAll → List Ty → Type 0
   AllBy lo x ts =
       (pc : ℕ) (slots : Slots) (n : ℕ) → HasAt code pc x.code → x.free ≤ length slots
-      → ((after : Slots) → AllLeft s.adts slots after lo x.free x.values x.drops ts
+      → ((after : Slots) → AllLeft s.adts (told code (pc + length x.code)) slots after lo x.free x.values x.drops ts
       → Goes s answer code n (pc + length x.code) after)
       → Goes s answer code n pc slots
 
   -- Instructions go well in front of what goes well behind them.
-  abbrev pub Leaves : (before after : Slots) → (lo hi value : ℕ) → (is ds : List Instr) → Ty → Type 0
-  Leaves before after lo hi value is ds t =
-      (pc n : ℕ) → HasAt code pc is
-      → ((last : Slots) → Left s.adts before last lo hi value ds t → Goes s answer code n (pc + length is) last)
+  abbrev pub Leaves : (pc : ℕ) (before after : Slots) → (lo hi value : ℕ) → (is ds : List Instr) → Ty → Type 0
+  Leaves pc before after lo hi value is ds t =
+      (n : ℕ) → HasAt code pc is
+      → ((last : Slots) → Left s.adts (told code (pc + length is)) before last lo hi value ds t
+      → Goes s answer code n (pc + length is) last)
       → Goes s answer code n pc after
+
+  pub left_at : (pc pc' : ℕ) (before after : Slots) (lo hi value : ℕ) (ds : List Instr) (t : Ty) → pc ≡ pc'
+      → Left s.adts (told code pc') before after lo hi value ds t → Left s.adts (told code pc) before after lo hi value ds t
+  left_at pc pc' before after lo hi value ds t e left =
+      left_on s.adts (told code pc') (told code pc) before after lo hi value ds t (λ r. told_at code pc pc' r e) left
 
   -- Instructions behind operands.
   pub behind_all : (lo : ℕ) (t : Ty) (l : LoweredAll) (ts : List Ty) (is ds : List Instr) (value free : ℕ) → l.free ≤ free
       → AllBy lo l ts
-      → ((before after : Slots) → AllLeft s.adts before after lo l.free l.values l.drops ts → free ≤ length before
-      → Leaves before after lo free value is ds t)
+      → ((pc : ℕ) (before after : Slots) → AllLeft s.adts (told code pc) before after lo l.free l.values l.drops ts
+      → free ≤ length before → Leaves pc before after lo free value is ds t)
       → GoesBy lo (record { code = l.code ++ is; drops = ds; value = value; free = free }) t
   behind_all lo t l ts is ds value free u all f pc slots n has fits k =
+      let e : pc + length (l.code ++ is) ≡ pc + length l.code + length is = let e = length-append l.code is in omega arith in
       all pc slots n (has_front code pc l.code is has) (omega arith)
-      (λ after left. f slots after left fits (pc + length l.code) n (has_back code pc l.code is has)
-      (λ last left2. same_place s answer code n (pc + length (l.code ++ is)) (pc + length l.code + length is) last
-      (let e = length-append l.code is in omega arith) (k last left2)))
+      (λ after left. f (pc + length l.code) slots after left fits n (has_back code pc l.code is has)
+      (λ last left2. same_place s answer code n (pc + length (l.code ++ is)) (pc + length l.code + length is) last e
+      (k last (left_at (pc + length (l.code ++ is)) (pc + length l.code + length is) slots last lo free value ds t e left2))))
 
   -- One instruction, which changes slots in one way.
-  pub one_leaves : (before after last : Slots) (lo hi value : ℕ) (i : Instr) (ds : List Instr) (t : Ty) → Finds s answer after i
-      → ((pc : ℕ) → behind pc after i ≡ stand (suc pc) last ∷ []) → Left s.adts before last lo hi value ds t
-      → Leaves before after lo hi value (i ∷ []) ds t
-  one_leaves before after last lo hi value i ds t f b left pc n has k =
-      goes_to s answer code n pc (suc pc) after last i has.0 f (b pc)
-      (same_place s answer code n (pc + 1) (suc pc) last (omega arith) (k last left))
+  pub one_leaves : (pc : ℕ) (before after last : Slots) (lo hi value : ℕ) (i : Instr) (ds : List Instr) (t : Ty)
+      → Finds s answer after i → Agrees s answer code pc after i → behind pc after i ≡ stand (suc pc) last ∷ []
+      → (slice_get code pc ≡ Some i → Left s.adts (told code (suc pc)) before last lo hi value ds t)
+      → Leaves pc before after lo hi value (i ∷ []) ds t
+  one_leaves pc before after last lo hi value i ds t f a b left n has k =
+      goes_to s answer code n pc (suc pc) after last i has.0 f a b
+      (same_place s answer code n (pc + 1) (suc pc) last (omega arith)
+      (k last (left_at (pc + 1) (suc pc) before last lo hi value ds t (omega arith) (left has.0))))
 
   -- ---- one instruction that gives a value
 
@@ -198,76 +252,84 @@ module _ (s : Scope) (answer : Ty) (code : List Instr) where
       → GoesBy lo (gives s.adts t o l) t
   gives_goes lo t o l ts p w f all =
       behind_all lo t l ts (Give t o l.free l.values ∷ []) _ l.free (suc l.free) (omega arith) all
-      (λ before after left fits. one_leaves before after (put after l.free (Of t)) lo (suc l.free) l.free _ _ t (f after left.these)
-      (λ pc. refl)
-      (left_put s.adts before after lo l.free l.values l.drops _ ts t p (omega arith) left
-      (lets_own s.adts after lo l.free t (work_refers s.adts t o) l.drops p (let q = left.long in omega arith) w left.lets)))
+      (λ pc before after left fits. one_leaves pc before after (put after l.free (Of t)) lo (suc l.free) l.free _ _ t (f after left.these)
+      tt refl
+      (λ e. let g = gave code pc l.free t (Give t o l.free l.values) e (λ r. refl) in
+      left_put s.adts (told code pc) (told code (suc pc)) before after lo l.free l.values l.drops _ ts t g p (omega arith) left
+      (lets_own s.adts (told code pc) (told code (suc pc)) after lo l.free t (work_refers s.adts t o) l.drops g p
+      (let q = left.long in omega arith) w left.lets)))
 
   pub call_goes : (lo : ℕ) (t : Ty) (f : ℕ) (l : LoweredAll) (ts : List Ty) → lo ≤ l.free → AllTouch (Between lo l.free) l.drops
       → ((after : Slots) → AreThese after l.values ts → Finds s answer after (Call t f l.free l.values)) → AllBy lo l ts
       → GoesBy lo (node s.adts ty.Nothing t (tree.Call f) l) t
   call_goes lo t f l ts p w h all =
       behind_all lo t l ts (Call t f l.free l.values ∷ []) _ l.free (suc l.free) (omega arith) all
-      (λ before after left fits. one_leaves before after (put after l.free (Of t)) lo (suc l.free) l.free _ _ t (h after left.these)
-      (λ pc. refl)
-      (left_put s.adts before after lo l.free l.values l.drops _ ts t p (omega arith) left
-      (lets_own s.adts after lo l.free t true l.drops p (let q = left.long in omega arith) w left.lets)))
+      (λ pc before after left fits. one_leaves pc before after (put after l.free (Of t)) lo (suc l.free) l.free _ _ t (h after left.these)
+      tt refl
+      (λ e. let g = gave code pc l.free t (Call t f l.free l.values) e (λ r. refl) in
+      left_put s.adts (told code pc) (told code (suc pc)) before after lo l.free l.values l.drops _ ts t g p (omega arith) left
+      (lets_own s.adts (told code pc) (told code (suc pc)) after lo l.free t true l.drops g p
+      (let q = left.long in omega arith) w left.lets)))
 
   pub print_goes : (lo : ℕ) (u : Ty) (ps : List Piece) (l : LoweredAll) (ts : List Ty) → lo ≤ l.free → AllTouch (Between lo l.free) l.drops
       → ts ≡ printed ps → AllBy lo l ts → GoesBy lo (node s.adts u ty.Int (tree.Print ps) l) ty.Int
   print_goes lo u ps l ts p w e all =
       behind_all lo ty.Int l ts (Print ps l.free l.values ∷ []) l.drops l.free (suc l.free) (omega arith) all
-      (λ before after left fits. one_leaves before after (put after l.free (Of ty.Int)) lo (suc l.free) l.free _ _ ty.Int
+      (λ pc before after left fits. one_leaves pc before after (put after l.free (Of ty.Int)) lo (suc l.free) l.free _ _ ty.Int
       (subst (AreThese after l.values) e left.these)
-      (λ pc. refl)
-      (left_put s.adts before after lo l.free l.values l.drops l.drops ts ty.Int p (omega arith) left
-      (lets_put s.adts after lo l.free (Of ty.Int) l.drops w left.lets)))
+      tt refl
+      (λ h. let g = gave code pc l.free ty.Int (Print ps l.free l.values) h (λ r. refl) in
+      left_put s.adts (told code pc) (told code (suc pc)) before after lo l.free l.values l.drops l.drops ts ty.Int g p (omega arith) left
+      (lets_put s.adts (told code pc) (told code (suc pc)) after lo l.free ty.Int l.drops g w left.lets)))
 
   pub channel_goes : (lo : ℕ) (u t : Ty) (l : LoweredAll) (ts : List Ty) (i : Ty) → lo ≤ l.free → AllTouch (Between lo l.free) l.drops
       → t ≡ ty.ChanOf i → AllBy lo l ts → GoesBy lo (node s.adts u t tree.NewChannel l) t
   channel_goes lo u t l ts i p w e all =
       behind_all lo t l ts (Give t tree.NewChannel l.free [] ∷ []) _ l.free (suc l.free) (omega arith) all
-      (λ before after left fits.
+      (λ pc before after left fits.
       let last = put after l.free (Of t) in
       let there : slot last l.free ≡ Of t = put_same after l.free (Of t) (let q = left.long in omega arith) in
-      one_leaves before after last lo (suc l.free) l.free _ _ t ([], tt, (i, e, inl refl))
-      (λ pc. refl)
-      (left_put s.adts before after lo l.free l.values l.drops _ ts t p (omega arith) left
-      (lets_more s.adts last lo l.free (suc l.free) l.drops (Drop l.free 0 ∷ []) w ((omega arith, omega arith), tt)
-      (lets_put s.adts after lo l.free (Of t) l.drops w left.lets)
-      (one l.free 0 t there (subst (λ (x : Ty). 0 < count_of s.adts x) (sym e) (omega arith)) none))))
+      one_leaves pc before after last lo (suc l.free) l.free _ _ t ([], tt, (i, e, inl refl)) tt refl
+      (λ h. let g = gave code pc l.free t (Give t tree.NewChannel l.free []) h (λ r. refl) in
+      left_put s.adts (told code pc) (told code (suc pc)) before after lo l.free l.values l.drops _ ts t g p (omega arith) left
+      (lets_more s.adts (told code (suc pc)) last lo l.free (suc l.free) l.drops (Drop l.free 0 ∷ []) w ((omega arith, omega arith), tt)
+      (lets_put s.adts (told code pc) (told code (suc pc)) after lo l.free t l.drops g w left.lets)
+      (one l.free 0 t there g.there (subst (λ (x : Ty). 0 < count_of s.adts x) (sym e) (omega arith)) none))))
 
   -- ---- assignments and copies
 
   pub writes_go : (aims : List Aim) (slots : Slots) (us : List Ty) (ss : List ℕ) (value : ℕ) (v : Ty) (n pc : ℕ)
-      → AreThese slots ss us → IsA slots value v → HasRoom s.adts v → AimsAre s aims us v → HasAt code pc (writes s.adts aims ss value)
+      → AreThese slots ss us → IsA slots value v → IsTold (told code pc) slots value → HasRoom s.adts v → AimsAre s aims us v
+      → HasAt code pc (writes s.adts aims ss value)
       → Goes s answer code n (pc + length (writes s.adts aims ss value)) slots → Goes s answer code n pc slots
-  writes_go [] slots us ss value v n pc a e r w has k = same_place s answer code n (pc + 0) pc slots (omega arith) k
-  writes_go (x ∷ aims) slots us ss value v n pc a e r w has k =
+  writes_go [] slots us ss value v n pc a e z r w has k = same_place s answer code n (pc + 0) pc slots (omega arith) k
+  writes_go (x ∷ aims) slots us ss value v n pc a e z r w has k =
       let rest = writes s.adts aims (drop (operands_of x.way) ss) value in
       goes_to s answer code n pc (suc pc) slots slots (Write x.type x.way (take (operands_of x.way) ss) x.part value) has.0 (
         take (operands_of x.way) us,
         these_take slots (operands_of x.way) ss us a,
         w.0,
         fills_from s slots value v w.2.0 x.type x.part e r w.2.1 w.2.2,
-      ) refl
+      ) z refl
       (writes_go aims slots (drop (operands_of x.way) us) (drop (operands_of x.way) ss) value v n (suc pc)
-      (these_drop slots (operands_of x.way) ss us a) e r w.3 has.1
+      (these_drop slots (operands_of x.way) ss us a) e
+      (z.0, z.1, told_same code pc value (Write x.type x.way (take (operands_of x.way) ss) x.part value) has.0 refl ∙ z.2) r w.3 has.1
       (same_place s answer code n (pc + suc (length rest)) (suc pc + length rest) slots (omega arith) k))
 
   pub declares_go : (aims : List Aim) (slots : Slots) (ss : List ℕ) (value : ℕ) (n pc : ℕ) → slot slots value ≡ Of ty.Nothing
-      → DeclaresAll s aims → HasAt code pc (writes s.adts aims ss value)
+      → told code pc value ≡ Some ty.Nothing → DeclaresAll s aims → HasAt code pc (writes s.adts aims ss value)
       → Goes s answer code n (pc + length (writes s.adts aims ss value)) slots → Goes s answer code n pc slots
-  declares_go [] slots ss value n pc e w has k = same_place s answer code n (pc + 0) pc slots (omega arith) k
-  declares_go (x ∷ aims) slots ss value n pc e w has k =
+  declares_go [] slots ss value n pc e z w has k = same_place s answer code n (pc + 0) pc slots (omega arith) k
+  declares_go (x ∷ aims) slots ss value n pc e z w has k =
       let rest = writes s.adts aims (drop (operands_of x.way) ss) value in
       goes_to s answer code n pc (suc pc) slots slots (Write x.type x.way (take (operands_of x.way) ss) x.part value) has.0 (
         [],
         subst (λ (k : ℕ). AreThese slots (take k ss) []) (sym w.0.1) tt,
         w.0.0,
         inr (e, w.0.2, w.0.3),
-      ) refl
-      (declares_go aims slots (drop (operands_of x.way) ss) value n (suc pc) e w.1 has.1
+      ) (ty.Nothing, e, z) refl
+      (declares_go aims slots (drop (operands_of x.way) ss) value n (suc pc) e
+      (told_same code pc value (Write x.type x.way (take (operands_of x.way) ss) x.part value) has.0 refl ∙ z) w.1 has.1
       (same_place s answer code n (pc + suc (length rest)) (suc pc + length rest) slots (omega arith) k))
 
   pub assign_goes : (lo : ℕ) (u t : Ty) (aims : List Aim) (ts : Terms) (us : List Ty) (v : Ty) (l : LoweredAll)
@@ -276,38 +338,44 @@ module _ (s : Scope) (answer : Ty) (code : List Instr) where
       → GoesBy lo (node s.adts u t (tree.Assign aims) l) (type_at s.adts (operands_for aims) ts)
   assign_goes lo u t aims ts us v l c st e r w all =
       let value = slot_at (operands_for aims) l.values in
-      behind_all lo (type_at s.adts (operands_for aims) ts) l (types_in s.adts ts) (writes s.adts aims l.values value) l.drops value l.free
+      let is = writes s.adts aims l.values value in
+      behind_all lo (type_at s.adts (operands_for aims) ts) l (types_in s.adts ts) is l.drops value l.free
       (omega arith) all
-      (λ before after left fits pc n has k.
+      (λ pc before after left fits n has k.
       let those = these_on after l.values (types_in s.adts ts) us left.these st in
-      writes_go aims after us l.values value v n pc those (these_at after l.values us (operands_for aims) v those e) r w has
-      (k after (record {
+      let agrees = these_told (told code pc) after l.values us (operands_for aims) v left.agree those e in
+      writes_go aims after us l.values value v n pc those (these_at after l.values us (operands_for aims) v those e) agrees r w has
+      (k after (left_on s.adts (told code pc) (told code (pc + length is)) before after lo l.free value l.drops _
+      (λ q. told_over code pc q is has (writes_quiet s.adts q aims l.values value)) (record {
         long = left.long;
         same = left.same;
         lets = left.lets;
         is = these_at after l.values (types_in s.adts ts) (operands_for aims) _ left.these (type_at_in s ts (operands_for aims) c);
-      })))
+        agrees = agrees;
+      }))))
 
   pub copy_goes : (lo : ℕ) (u t : Ty) (ts : Terms) (us : List Ty) (i : Ty) (l : LoweredAll) → 2 < count ts
       → AllStand (types_in s.adts ts) us → slice_get us 0 ≡ Some (ty.ArrayOf i) → slice_get us 2 ≡ Some (ty.ArrayOf i)
       → slice_get (types_in s.adts ts) 1 ≡ Some ty.Int → AllBy lo l (types_in s.adts ts)
       → GoesBy lo (node s.adts u t tree.Copy l) (type_at s.adts 2 ts)
   copy_goes lo u t ts us i l c st e g f all =
-      behind_all lo (type_at s.adts 2 ts) l (types_in s.adts ts)
-      (CopyInto (slot_at 0 l.values) (slot_at 1 l.values) (slot_at 2 l.values) ∷ []) l.drops (slot_at 2 l.values) l.free (omega arith) all
-      (λ before after left fits.
+      let copy = CopyInto (slot_at 0 l.values) (slot_at 1 l.values) (slot_at 2 l.values) in
+      behind_all lo (type_at s.adts 2 ts) l (types_in s.adts ts) (copy ∷ []) l.drops (slot_at 2 l.values) l.free (omega arith) all
+      (λ pc before after left fits.
       let those = these_on after l.values (types_in s.adts ts) us left.these st in
-      one_leaves before after after lo l.free (slot_at 2 l.values) _ l.drops (type_at s.adts 2 ts) (
+      one_leaves pc before after after lo l.free (slot_at 2 l.values) _ l.drops (type_at s.adts 2 ts) (
         i,
         these_at after l.values us 0 (ty.ArrayOf i) those e,
         these_at after l.values (types_in s.adts ts) 1 ty.Int left.these f,
         these_at after l.values us 2 (ty.ArrayOf i) those g,
-      ) (λ pc. refl) (record {
+      ) tt refl (λ h. left_on s.adts (told code pc) (told code (suc pc)) before after lo l.free (slot_at 2 l.values) l.drops _
+      (λ r. told_same code pc r copy h refl) (record {
         long = left.long;
         same = left.same;
         lets = left.lets;
         is = these_at after l.values (types_in s.adts ts) 2 _ left.these (type_at_in s ts 2 c);
-      }))
+        agrees = these_told (told code pc) after l.values us 2 (ty.ArrayOf i) left.agree those g;
+      })))
 
   -- ---- lists
 
@@ -329,7 +397,7 @@ module _ (s : Scope) (answer : Ty) (code : List Instr) where
       let long = put_long slots free h in
       let there : slot next free ≡ h = put_same slots free h (omega arith) in
       let rest = cells s.adts i ss (Some free) (suc free) in
-      goes_to s answer code n pc (suc pc) slots next (Cell i free x b) has.0 (r, e.1, a) refl
+      goes_to s answer code n pc (suc pc) slots next (Cell i free x b) has.0 (r, e.1, a) tt refl
       (cells_go i mid ss (Some free) (suc free) next n (suc pc) r (each_put mid i slots free h ss l e.2) (omega arith)
       (ty.ListOf i, there, itself (ty.ListOf i)) (omega arith) has.1
       (λ after long2 same filled. same_place s answer code n (pc + suc (length rest)) (suc pc + length rest) after (omega arith)
@@ -341,12 +409,14 @@ module _ (s : Scope) (answer : Ty) (code : List Instr) where
       (λ (f : q ≡ free → ⊥). filled q (omega (arith, f)) (omega arith))
       (cases_eq q free)))))
 
-  lets_cells : (slots : Slots) (i : Ty) (count free : ℕ) → ((r : ℕ) → free ≤ r → r < free + count → slot slots r ≡ Of (ty.ListOf i))
-      → Lets s.adts slots (cell_drops s.adts count free)
-  lets_cells slots i zero free h = none
-  lets_cells slots i (suc n) free h =
-      one free 0 (ty.ListOf i) (h free (omega arith) (omega arith)) (omega arith)
-      (lets_cells slots i n (suc free) (λ r p q. h r (omega arith) (omega arith)))
+  lets_cells : (tells : ℕ → Option Ty) (slots : Slots) (i : Ty) (count free : ℕ)
+      → ((r : ℕ) → free ≤ r → r < free + count → slot slots r ≡ Of (ty.ListOf i))
+      → ((r : ℕ) → free ≤ r → r < free + count → tells r ≡ Some (ty.ListOf i))
+      → Lets s.adts tells slots (cell_drops s.adts count free)
+  lets_cells tells slots i zero free h w = none
+  lets_cells tells slots i (suc n) free h w =
+      one free 0 (ty.ListOf i) (h free (omega arith) (omega arith)) (w free (omega arith) (omega arith)) (omega arith)
+      (lets_cells tells slots i n (suc free) (λ r p q. h r (omega arith) (omega arith)) (λ r p q. w r (omega arith) (omega arith)))
 
   touch_cells : (n free : ℕ) → AllTouch (Between free (free + n)) (cell_drops s.adts n free)
   touch_cells zero free = tt
@@ -357,40 +427,53 @@ module _ (s : Scope) (answer : Ty) (code : List Instr) where
         (touch_cells n (suc free)),
   )
 
-  list_leaves : (i : Ty) (before after : Slots) (lo mid : ℕ) (ss : List ℕ) (ds : List Instr) (ts : List Ty) → lo ≤ mid
-      → AllTouch (Between lo mid) ds → HasRoom s.adts i → AllLeft s.adts before after lo mid ss ds ts → EachIs mid i after ss
+  list_leaves : (i : Ty) (pc : ℕ) (before after : Slots) (lo mid : ℕ) (ss : List ℕ) (ds : List Instr) (ts : List Ty) → lo ≤ mid
+      → AllTouch (Between lo mid) ds → HasRoom s.adts i → AllLeft s.adts (told code pc) before after lo mid ss ds ts → EachIs mid i after ss
       → suc (mid + (length ss - 1)) ≤ length before
-      → Leaves before after lo (suc (mid + (length ss - 1))) (mid + (length ss - 1)) (list_code s.adts i ss mid)
+      → Leaves pc before after lo (suc (mid + (length ss - 1))) (mid + (length ss - 1)) (list_code s.adts i ss mid)
       (ds ++ cell_drops s.adts (length ss) mid) (ty.ListOf i)
-  list_leaves i before after lo mid [] ds ts p w r left each fits pc n has k =
+  list_leaves i pc before after lo mid [] ds ts p w r left each fits n has k =
       let last = put after mid (Of ty.Nil) in
       let e : mid ≡ mid + (0 - 1) = omega arith in
-      subst (λ (z : ℕ). Leaves before after lo (suc z) z (Known (Ref None) mid ∷ []) (ds ++ []) (ty.ListOf i)) e
-      (one_leaves before after last lo (suc mid) mid (Known (Ref None) mid) (ds ++ []) (ty.ListOf i) tt (λ pc. refl)
-      (let x = left_put s.adts before after lo mid [] ds (ds ++ []) ts ty.Nil p (omega arith) left
-      (subst (Lets s.adts last) (sym (append-nil ds)) (lets_put s.adts after lo mid (Of ty.Nil) ds w left.lets)) in
+      subst (λ (z : ℕ). Leaves pc before after lo (suc z) z (Known (Ref None) mid ∷ []) (ds ++ []) (ty.ListOf i)) e
+      (one_leaves pc before after last lo (suc mid) mid (Known (Ref None) mid) (ds ++ []) (ty.ListOf i) tt tt refl
+      (λ h.
+      let g = gave code pc mid ty.Nil (Known (Ref None) mid) h (λ r. refl) in
+      let x = left_put s.adts (told code pc) (told code (suc pc)) before after lo mid [] ds (ds ++ []) ts ty.Nil g p (omega arith) left
+      (subst (Lets s.adts (told code (suc pc)) last) (sym (append-nil ds))
+      (lets_put s.adts (told code pc) (told code (suc pc)) after lo mid ty.Nil ds g w left.lets)) in
       record {
         long = x.long;
         same = x.same;
         lets = x.lets;
         is = (ty.Nil, put_same after mid (Of ty.Nil) (let q = left.long in omega arith), inr (refl, tt));
-      })) pc n has k
-  list_leaves i before after lo mid (x ∷ ss) ds ts p w r left each fits pc n has k =
+        agrees = x.agrees;
+      })) n has k
+  list_leaves i pc before after lo mid (x ∷ ss) ds ts p w r left each fits n has k =
       let items = reverse (x ∷ ss) in
       let m : length items ≡ suc (length ss) = length-reverse (x ∷ ss) in
       let long = left.long in
+      let is = cells s.adts i items None mid in
+      let end : ℕ = pc + length is in
       cells_go i mid items None mid after n pc r (each_reverse mid i after (x ∷ ss) each) (omega arith) tt (omega arith) has
       (λ last long2 same filled. k last (record {
         long = long2 ∙ long;
         same = λ q b. same q (elim b [ inl y ↦ inl (omega arith) | inr y ↦ inr (omega arith) ])
             ∙ left.same q (elim b [ inl y ↦ inl y | inr y ↦ inr (omega arith) ]);
-        lets = lets_more s.adts last lo mid (mid + suc (length ss)) ds _ w (touch_cells (suc (length ss)) mid)
-            (lets_kept s.adts (Between lo mid) after last ds w (λ q b. same q (inl b.1)) left.lets)
-            (lets_cells last i (suc (length ss)) mid (λ q y z. filled q y (omega arith)));
+        lets = lets_more s.adts (told code end) last lo mid (mid + suc (length ss)) ds _ w (touch_cells (suc (length ss)) mid)
+            (lets_kept s.adts (Between lo mid) (told code pc) (told code end) after last ds w (λ q b. same q (inl b.1))
+            (λ q b. told_over code pc q is has (cells_quiet s.adts q i items None mid (inl b.1))) left.lets)
+            (lets_cells (told code end) last i (suc (length ss)) mid (λ q y z. filled q y (omega arith))
+            (λ q y z. cells_told s.adts code pc i items None mid q has y (omega arith)));
         is = (
           ty.ListOf i,
           filled (mid + (suc (length ss) - 1)) (omega arith) (omega arith),
           itself (ty.ListOf i),
+        );
+        agrees = (
+          ty.ListOf i,
+          filled (mid + (suc (length ss) - 1)) (omega arith) (omega arith),
+          cells_told s.adts code pc i items None mid (mid + (suc (length ss) - 1)) has (omega arith) (omega arith),
         );
       }))
 
@@ -401,7 +484,7 @@ module _ (s : Scope) (answer : Ty) (code : List Instr) where
       subst (λ (x : Ty). GoesBy lo (node s.adts u x tree.Link l) x) (sym e)
       (behind_all lo (ty.ListOf i) l ts (list_code s.adts i l.values l.free) (l.drops ++ cell_drops s.adts (length l.values) l.free)
       (l.free + (length l.values - 1)) (suc (l.free + (length l.values - 1))) (omega arith) all
-      (λ before after left fits. list_leaves i before after lo l.free l.values l.drops ts p w r left
+      (λ pc before after left fits. list_leaves i pc before after lo l.free l.values l.drops ts p w r left
       (each_these lo l.free l.drops i after l.values us v (these_on after l.values ts us left.these st) each) fits))
 
   -- ---- parts that move
@@ -416,7 +499,7 @@ module _ (s : Scope) (answer : Ty) (code : List Instr) where
       let ns = part_numbers s.adts o (length ss) in
       let es = drops_after_all (moves_into s.adts P mid ns ss) l.drops in
       behind_all lo t l ts (Gather t (Operate o) mid ss ∷ []) es mid (suc mid) (omega arith) all
-      (λ before after left fits.
+      (λ pc before after left fits.
       let inside : mid < length after = let q = left.long in omega arith in
       let placed = put after mid (Of t) in
       let last = put (emptied after ss) mid (Of t) in
@@ -424,19 +507,27 @@ module _ (s : Scope) (answer : Ty) (code : List Instr) where
       let those : AreThese placed ss ts = these_same after placed lo mid l.drops ss ts v
       (λ r a b. put_other after mid r (Of t) (λ e. absurd (omega (arith, e, b)))) left.these in
       let counts = whole_counted s.adts t (made_laid s.adts t o ts m) in
-      let lets0 = moves_lets s.adts P t mid ns ss placed l.drops
-      (λ n. let b = part_below s.adts P n in omega (arith, b, counts)) (put_same after mid (Of t) inside)
+      let there = put_same (emptied after ss) mid (Of t) (let q = long_emptied after ss in omega arith) in
+      one_leaves pc before after last lo (suc mid) mid _ es t (us, these_on after ss ts us left.these st, work) tt refl
+      (λ h.
+      let g = gave code pc mid t (Gather t (Operate o) mid ss) h (λ r. refl) in
+      let tells = told code (suc pc) in
+      let lets0 = moves_lets s.adts P tells t mid ns ss placed l.drops
+      (λ n. let b = part_below s.adts P n in omega (arith, b, counts)) (put_same after mid (Of t) inside) g.there
       (suits_parts s.adts t o placed ss ts m those) differ apart (spare_each lo mid l.drops ss v)
-      (spare_outside lo mid mid l.drops (inr (omega arith)) w) (lets_put s.adts after lo mid (Of t) l.drops w left.lets) in
-      let lets1 : Lets s.adts last es = subst (λ (xs : Slots). Lets s.adts xs es) (emptied_put after mid (Of t) ss apart) lets0 in
-      one_leaves before after last lo (suc mid) mid _ es t (us, these_on after ss ts us left.these st, work) (λ pc. refl) (record {
+      (spare_outside lo mid mid l.drops (inr (omega arith)) w)
+      (lets_put s.adts (told code pc) tells after lo mid t l.drops g w left.lets) in
+      let lets1 : Lets s.adts tells last es =
+      subst (λ (xs : Slots). Lets s.adts tells xs es) (emptied_put after mid (Of t) ss apart) lets0 in
+      record {
         long = put_long (emptied after ss) mid (Of t) ∙ long_emptied after ss ∙ left.long;
         same = λ r b. put_other (emptied after ss) mid r (Of t)
             (λ e. absurd (elim b [ inl y ↦ omega (arith, y, e, p) | inr y ↦ omega (arith, y, e) ]))
             ∙ emptied_other after ss r (apart_from lo mid r l.drops ss (elim b [ inl y ↦ inl y | inr y ↦ inr (omega arith) ]) v)
             ∙ left.same r (elim b [ inl y ↦ inl y | inr y ↦ inr (omega arith) ]);
         lets = lets1;
-        is = (t, put_same (emptied after ss) mid (Of t) (let q = long_emptied after ss in omega arith), itself t);
+        is = (t, there, itself t);
+        agrees = (t, there, g.there);
       }))
 
   pub pick_goes : (lo : ℕ) (t v : Ty) (k : ℕ) (ts : Terms) (l : LoweredAll) (us : List Ty) → lo ≤ l.free
@@ -450,16 +541,20 @@ module _ (s : Scope) (answer : Ty) (code : List Instr) where
       let u = type_at s.adts 0 ts in
       let es = drops_after (moves_out s.adts u k from mid) l.drops in
       behind_all lo t l (types_in s.adts ts) (Pick t k mid from ∷ []) es mid (suc mid) (omega arith) all
-      (λ before after left fits.
+      (λ pc before after left fits.
       let inside : mid < length after = let q = left.long in omega arith in
-      let a = these_at after l.values us 0 v (these_on after l.values (types_in s.adts ts) us left.these st) e in
+      let those = these_on after l.values (types_in s.adts ts) us left.these st in
+      let a = these_at after l.values us 0 v those e in
       let same = exactly a.0 v (solid_part s.adts v k t part) a.2 in
-      let some : 0 < length l.values = first us l.values after (these_on after l.values (types_in s.adts ts) us left.these st) e in
+      let some : 0 < length l.values = first us l.values after those e in
       let at0 = valued_at lo mid l.drops l.values 0 some vd in
-      one_leaves before after (put after mid (Of t)) lo (suc mid) mid _ es t (v, a.1 ∙ ap Of same, r, part) (λ pc. refl)
-      (left_put s.adts before after lo mid l.values l.drops es (types_in s.adts ts) t p (omega arith) left
-      (pick_lets s.adts u t k after lo mid from l.drops inside w at0.1 (spare_outside lo mid mid l.drops (inr (omega arith)) w) h
-      left.lets)))
+      one_leaves pc before after (put after mid (Of t)) lo (suc mid) mid _ es t (v, a.1 ∙ ap Of same, r, part)
+      (these_told (told code pc) after l.values us 0 v left.agree those e) refl
+      (λ z. let g = gave code pc mid t (Pick t k mid from) z (λ r. refl) in
+      left_put s.adts (told code pc) (told code (suc pc)) before after lo mid l.values l.drops es (types_in s.adts ts) t g p (omega arith)
+      left
+      (pick_lets s.adts (told code pc) (told code (suc pc)) u t k after lo mid from l.drops g inside w at0.1
+      (spare_outside lo mid mid l.drops (inr (omega arith)) w) h left.lets)))
     where
       first : (us : List Ty) (ss : List ℕ) (slots : Slots) → AreThese slots ss us → slice_get us 0 ≡ Some v → 0 < length ss
       first [] [] slots a e = absurd cc

@@ -1,5 +1,5 @@
 -- The code of typed trees goes well.
-use Rattle.std.proofs.Common.{◌≡◌, ℕ, ℤ, suc, ◌+◌, ◌<◌, ◌≤◌, List, [], ◌∷◌, ◌++◌, length, max, None}
+use Rattle.std.proofs.Common.{◌≡◌, ℕ, ℤ, suc, ◌+◌, ◌<◌, ◌≤◌, List, [], ◌∷◌, ◌++◌, length, max, Some, None}
 use Rattle.std.proofs.Common.{refl, sym, ap, subst, ◌∙◌, arith, inl, inr, ⊎_elim, length-append}
 use Rattle.std.specs.Prelude.{if◌then◌else◌}
 use Rattle.limbo_types.specs.Types as ty
@@ -22,15 +22,17 @@ use Rattle.core_follows.proofs.Static.{drops_within, all_within, items_within, r
 use Rattle.core_follows.proofs.Valued.{value_stands, values_stand, values_differ}
 use Rattle.core_typing.specs.Held.{Of, slot, put}
 use Rattle.core_typing.specs.Needs.{StandsAs}
-use Rattle.core_typing.specs.Going.{type_known}
+use Rattle.core_typing.specs.Written.{type_known, told}
 use Rattle.core_typing.specs.Trees.{HasValue, LengthSo, DeclaresSo, Formed, AllFormed, ItemsFormed}
 use Rattle.core_typing.specs.Functions.{TreesGoWell, ValuesGoWell}
 use Rattle.core_typing.proofs.Going.{put_same, put_other, put_long, same_place, goes_to}
-use Rattle.core_typing.proofs.Drops.{none, lets_kept, lets_more, drops_go}
+use Rattle.core_typing.proofs.Telling.{gave, gave_to, told_same, told_over, told_at, writes_quiet, drops_still, term_quiet, terms_quiet}
+use Rattle.core_typing.proofs.Telling.{items_quiet, rest_quiet}
+use Rattle.core_typing.proofs.Drops.{none, lets_kept, lets_told, lets_more, drops_go}
 use Rattle.core_typing.proofs.Standing.{itself, is_on, is_same, term_stands, terms_stand}
-use Rattle.core_typing.proofs.Nodes.{GoesBy, AllBy, declares_go}
+use Rattle.core_typing.proofs.Nodes.{GoesBy, AllBy, told_on, all_told_on, declares_go}
 use Rattle.core_typing.proofs.Expressions.{node_goes, lazy_goes, update_goes}
-use Rattle.core_typing.proofs.Filling.{grown_none, grown_more, sides, others_go, ElementsGo, fill_goes}
+use Rattle.core_typing.proofs.Filling.{grown_none, grown_on, grown_more, sides, others_go, ElementsGo, fill_goes}
 
 module _ (s : Scope) (answer : Ty) (code : List Instr) where
   -- ---- what is known
@@ -38,13 +40,15 @@ module _ (s : Scope) (answer : Ty) (code : List Instr) where
   known_goes : (lo : ℕ) (v : Value) → GoesBy s answer code lo (lower s.adts lo (Evaluated v)) (type_known v)
   known_goes lo v pc slots n has fits k =
       let i = Of (type_known v) in
-      goes_to s answer code n pc (suc pc) slots (put slots lo i) (Known v lo) has.0 tt refl
+      let g = gave_to code pc (pc + 1) lo (type_known v) (Known v lo) (omega arith) has.0 (λ r. refl) in
+      goes_to s answer code n pc (suc pc) slots (put slots lo i) (Known v lo) has.0 tt tt refl
       (same_place s answer code n (pc + 1) (suc pc) (put slots lo i) (omega arith)
       (k (put slots lo i) (record {
         long = put_long slots lo i;
         same = λ r b. put_other slots lo r i (λ e. absurd (elim b [ inl y ↦ omega (arith, y, e) | inr y ↦ omega (arith, y, e) ]));
         lets = none;
         is = (type_known v, put_same slots lo i fits, itself (type_known v));
+        agrees = (type_known v, put_same slots lo i fits, g.there);
       })))
 
   length_goes : (lo : ℕ) (t : Term) → IsKnown t → LengthSo t → GoesBy s answer code lo (lower s.adts lo t) ty.Int
@@ -67,8 +71,10 @@ module _ (s : Scope) (answer : Ty) (code : List Instr) where
       let known : type_known v ≡ ty.Nothing = ap type_known d.1 in
       let there : slot last value ≡ Of ty.Nothing = ap (slot last) at ∙ put_same slots lo i fits ∙ ap Of known in
       let rest = writes s.adts (a ∷ aims) (lo ∷ []) value in
-      goes_to s answer code n pc (suc pc) slots last (Known v lo) has.0 tt refl
-      (declares_go s answer code (a ∷ aims) last (lo ∷ []) value n (suc pc) there f has.1
+      let g = gave code pc lo (type_known v) (Known v lo) has.0 (λ r. refl) in
+      let told_value : told code (suc pc) value ≡ Some ty.Nothing = ap (told code (suc pc)) at ∙ g.there ∙ ap (λ (u : Ty). Some u) known in
+      goes_to s answer code n pc (suc pc) slots last (Known v lo) has.0 tt tt refl
+      (declares_go s answer code (a ∷ aims) last (lo ∷ []) value n (suc pc) there told_value f has.1
       (same_place s answer code n (pc + suc (length rest)) (suc pc + length rest) last (omega arith)
       (k last (record {
         long = put_long slots lo i;
@@ -79,6 +85,12 @@ module _ (s : Scope) (answer : Ty) (code : List Instr) where
           there,
           subst (λ (j : ℕ). StandsAs ty.Nothing (type_at s.adts j (MoreTerms (Evaluated v) NoTerms))) (sym d.0)
               (itself ty.Nothing),
+        );
+        agrees = (
+          ty.Nothing,
+          there,
+          told_at code (pc + suc (length rest)) (suc pc + length rest) value (omega arith)
+              ∙ told_over code (suc pc) value rest has.1 (writes_quiet s.adts value (a ∷ aims) (lo ∷ []) value) ∙ told_value,
         );
       }))))
   declared_goes lo t _ _ d f pc slots n has fits k = absurd d
@@ -101,12 +113,14 @@ module _ (s : Scope) (answer : Ty) (code : List Instr) where
         let a = lower s.adts lo l in
         lazy_goes s answer code (may_hold s.adts r) c lo a (lower s.adts (suc a.free) r) (type_of s.adts l) (type_of s.adts r)
         (term_up s.adts lo l) (term_up s.adts (suc a.free) r) (drops_within s.adts lo l) (drops_within s.adts (suc a.free) r)
+        (λ q d. term_quiet s.adts q (suc a.free) r d)
         (term_goes l ty.Int is.0 h.0 f.1 lo) (term_goes r ty.Int is.1 h.1 f.3 (suc a.free))
         (term_stands s l ty.Int is.0 h.0 f.0 f.1) (term_stands s r ty.Int is.1 h.1 f.2 f.3)
     term_goes (Update o g t w ts us) u is h f lo =
         let a = lower_all s.adts lo ts in
         update_goes s answer code o g t w lo a (lower_all s.adts (suc a.free) us) (types_in s.adts ts) (types_in s.adts us) is.0 is.1
         (terms_up s.adts lo ts) (terms_up s.adts (suc a.free) us) (all_within s.adts lo ts) (all_within s.adts (suc a.free) us)
+        (λ q d. terms_quiet s.adts q (suc a.free) us d)
         (values_stand s.adts ts h.1 lo) (terms_stand s ts is.0 is.2 h.1 f.0) (terms_stand s us is.1 is.3 h.2 f.1) is.4 is.6 is.7 is.8
         (terms_go ts is.0 is.2 h.1 f.0 lo) (terms_go us is.1 is.3 h.2 f.1 (suc a.free))
     term_goes (Fill t l items rest) u is h f lo =
@@ -127,11 +141,14 @@ module _ (s : Scope) (answer : Ty) (code : List Instr) where
           same = left.same;
           lets = left.lets;
           is = is_on after n.value (type_of s.adts l) ty.Int left.is (term_stands s l ty.Int is.1 x (length_value l x f.0) f.1);
+          agrees = left.agrees;
         })))
         h.0 in
         fill_goes s answer code t lo from n es os p (omega arith) v w (drops_within s.adts lo l)
         (items_within s.adts from es.free t n.free shared from items (omega arith) (omega arith))
         (rest_within s.adts es.free os.free t n.free (named s.adts items) shared es.free rest (omega arith) (omega arith))
+        (λ r b d. items_quiet s.adts r t n.free shared from from items (omega arith) (omega arith) (omega arith) b d)
+        (λ r b d. rest_quiet s.adts r t n.free (named s.adts items) shared from es.free rest (omega arith) (omega arith) v b d)
         is.0 length_go
         (items_go items t n.free shared from is.0 is.2 h.1 f.2 (omega arith) (omega arith) (omega arith) from (omega arith))
         (rest_go rest t n.free shared from is.0 is.3 h.2 f.3 (omega arith) (omega arith) (omega arith) es.free v (named s.adts items))
@@ -141,7 +158,7 @@ module _ (s : Scope) (answer : Ty) (code : List Instr) where
         → AllBy s answer code lo (lower_all s.adts lo ts) (types_in s.adts ts)
     terms_go NoTerms us is h f lo pc slots n has fits k =
         same_place s answer code n (pc + 0) pc slots (omega arith)
-        (k slots (record { long = refl; same = λ r b. refl; lets = none; these = tt }))
+        (k slots (record { long = refl; same = λ r b. refl; lets = none; these = tt; agree = tt }))
     terms_go (MoreTerms t ts) [] is h f lo pc slots n has fits k = absurd is
     terms_go (MoreTerms t ts) (u ∷ us) is h f lo pc slots n has fits k =
         let a = lower s.adts lo t in
@@ -150,27 +167,41 @@ module _ (s : Scope) (answer : Ty) (code : List Instr) where
         let q = terms_up s.adts a.free ts in
         let v = (value_stands s.adts t h.0 lo).between in
         let wa = drops_within s.adts lo t in
+        let e1 = length-append a.code b.code in
+        let pc1 : ℕ = pc + length a.code in
+        let at_end : ℕ = pc + length (a.code ++ b.code) in
+        let tells = told code at_end in
+        let has_more = has_back code pc a.code b.code has in
+        let to_end : (r : ℕ) → tells r ≡ told code (pc1 + length b.code) r = λ r.
+        told_at code at_end (pc1 + length b.code) r (omega arith) in
+        let kept : (r : ℕ) → r < a.free → tells r ≡ told code pc1 r = λ r l.
+        to_end r ∙ told_over code pc1 r b.code has_more (terms_quiet s.adts r a.free ts (inl l)) in
         term_goes t u is.0 h.0 f.1 lo pc slots n (has_front code pc a.code b.code has) (omega arith)
-        (λ one left. terms_go ts us is.1 h.1 f.2 a.free (pc + length a.code) one n (has_back code pc a.code b.code has)
+        (λ one left. terms_go ts us is.1 h.1 f.2 a.free pc1 one n has_more
         (let e = left.long in omega arith)
-        (λ two more. same_place s answer code n (pc + length (a.code ++ b.code)) (pc + length a.code + length b.code) two
-        (let e = length-append a.code b.code in omega arith)
+        (λ two more. same_place s answer code n at_end (pc1 + length b.code) two (omega arith)
         (k two (record {
           long = more.long ∙ left.long;
           same = λ r d. elim d [
             | inl y ↦ more.same r (inl (omega arith)) ∙ left.same r (inl y)
             | inr y ↦ more.same r (inr y) ∙ left.same r (inr (omega arith))
           ];
-          lets = lets_more s.adts two lo a.free b.free a.drops b.drops wa (all_within s.adts a.free ts)
-              (lets_kept s.adts (Between lo a.free) one two a.drops wa (λ r d. more.same r (inl d.1)) left.lets) more.lets;
+          lets = lets_more s.adts tells two lo a.free b.free a.drops b.drops wa (all_within s.adts a.free ts)
+              (lets_kept s.adts (Between lo a.free) (told code pc1) tells one two a.drops wa (λ r d. more.same r (inl d.1))
+              (λ r d. kept r d.1) left.lets)
+              (lets_told s.adts (told code (pc1 + length b.code)) tells two b.drops to_end more.lets);
           these = (is_same one two a.value (type_of s.adts t) (more.same a.value (inl v.1)) left.is, more.these);
+          agree = (
+            told_on (told code pc1) tells one two a.value (more.same a.value (inl v.1)) (kept a.value v.1) left.agrees,
+            all_told_on (told code (pc1 + length b.code)) tells two b.values to_end more.agree,
+          );
         }))))
 
     items_go : (items : Items) (t : Ty) (a shared from : ℕ) → HasRoom s.adts t → ItemsAre s [] None items t
         → HandledItems s.adts items → ItemsFormed s items → a < shared → shared ≤ from → items_end s.adts shared items ≤ from
         → (lo : ℕ) → from ≤ lo → ElementsGo s answer code t a shared from lo (lower_items s.adts t a shared lo items)
     items_go NoItems t a shared from room is h f l m end lo p pc slots n array has fits k =
-        same_place s answer code n (pc + 0) pc slots (omega arith) (k slots (grown_none s.adts slots shared from lo))
+        same_place s answer code n (pc + 0) pc slots (omega arith) (k slots (grown_none s.adts (told code (pc + 0)) slots shared from lo))
     items_go (MoreItems z e items) t a shared from room is h f l m end lo p pc slots n array has fits k =
         let b = may_hold s.adts e in
         let base : ℕ = if b then lo else shared in
@@ -185,6 +216,12 @@ module _ (s : Scope) (answer : Ty) (code : List Instr) where
         let more_up = items_up s.adts t a shared lo' items in
         let e1 = length-append x.code (element ∷ y.code) in
         let has1 = has_back code pc x.code (element ∷ y.code) has in
+        let behind : ℕ = pc + length x.code in
+        let at_end : ℕ = suc behind + length y.code in
+        let kept : (r : ℕ) → Between lo lo' r → told code at_end r ≡ told code behind r = λ r b.
+        told_over code (suc behind) r y.code has1.1
+        (items_quiet s.adts r t a shared from lo' items m (omega arith) (omega arith) (inr (let c = b.0 in omega (arith, c, p))) (inl b.1))
+        ∙ told_same code behind r element has1.0 refl in
         term_goes e t is.0 h.0 f.1 base pc slots n (has_front code pc x.code (element ∷ y.code) has) (omega arith)
         (λ one left.
         let pc1 : ℕ = pc + length x.code in
@@ -193,19 +230,22 @@ module _ (s : Scope) (answer : Ty) (code : List Instr) where
           room,
           (ty.ArrayOf t, array1, itself (ty.ArrayOf t)),
           is_on one x.value (type_of s.adts e) t left.is (term_stands s e t is.0 h.0 f.0 f.1),
-        ) refl
+        ) tt refl
         (items_go items t a shared from room is.1 h.1 f.2 l m (omega arith) lo' (omega arith) (suc pc1) one n array1 has1.1
         (let q = left.long in omega arith)
         (λ two grown. same_place s answer code n (pc + length (x.code ++ (element ∷ y.code))) (suc pc1 + length y.code) two (omega arith)
-        (k two (grown_more s.adts slots one two shared from lo lo' y.free x.drops y.drops p up more_up side.touch
-        (items_within s.adts lo' y.free t a shared lo' items (omega arith) (omega arith))
-        (record { long = left.long; same = λ r c d. left.same r (side.beside r c d); lets = left.lets }) grown)))))
+        (k two (grown_on s.adts (told code at_end) (told code (pc + length (x.code ++ (element ∷ y.code)))) slots two shared from lo y.free
+        (x.drops ++ y.drops) (λ r. told_at code (pc + length (x.code ++ (element ∷ y.code))) at_end r (omega arith))
+        (grown_more s.adts (told code behind) (told code at_end) slots one two shared from lo lo' y.free x.drops y.drops p up more_up
+        side.touch
+        (items_within s.adts lo' y.free t a shared lo' items (omega arith) (omega arith)) kept
+        (record { long = left.long; same = λ r c d. left.same r (side.beside r c d); lets = left.lets }) grown))))))
 
     rest_go : (rest : Terms) (t : Ty) (a shared from : ℕ) → HasRoom s.adts t → RestIs s [] rest t → HandledRest s.adts rest
         → AllFormed s rest → a < shared → shared ≤ from → rest_end s.adts shared rest ≤ from → (lo : ℕ) → from ≤ lo → (zs : List ℤ)
         → ElementsGo s answer code t a shared from lo (lower_rest s.adts t a zs shared lo rest)
     rest_go NoTerms t a shared from room is h f l m end lo p zs pc slots n array has fits k =
-        same_place s answer code n (pc + 0) pc slots (omega arith) (k slots (grown_none s.adts slots shared from lo))
+        same_place s answer code n (pc + 0) pc slots (omega arith) (k slots (grown_none s.adts (told code (pc + 0)) slots shared from lo))
     rest_go (MoreTerms e es) t a shared from room is h f l m end lo p zs pc slots n array has fits k =
         others_go s answer code (may_hold s.adts e) t (type_of s.adts e) a shared from lo zs e refl room
         (term_stands s e t is h f.0 f.1) l m p end (λ base. term_goes e t is h f.1 base) (λ base. (value_stands s.adts e h base).between)
@@ -218,7 +258,9 @@ trees_go_well s answer code t u is h f pc slots has fits n k =
     let l = lower s.adts 0 t in
     let v = value_stands s.adts t h 0 in
     term_goes s answer code t u is h f 0 pc slots n (has_front code pc l.code l.drops has) fits
-    (λ one left. drops_go s answer code n n 0 l.free (pc + length l.code) one l.drops (omega arith) left.lets (drops_within s.adts 0 t)
+    (λ one left. drops_go s answer code n n 0 l.free (pc + length l.code) (told code (pc + length l.code)) one l.drops (omega arith)
+    left.lets
+    (λ r. refl) (λ r. drops_still s.adts r 0 t) (drops_within s.adts 0 t)
     (let q = left.long in omega arith) (has_back code pc l.code l.drops has)
     (λ after long same. same_place s answer code n (pc + length (whole s.adts t)) (pc + length l.code + length l.drops) after
     (let e = length-append l.code l.drops in omega arith)

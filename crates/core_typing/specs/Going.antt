@@ -1,15 +1,16 @@
--- Where code goes on, and what is known of its slots then; and that wherever it comes to, each instruction finds what it needs.
-use Rattle.std.specs.Prelude.{ℕ, zero, suc, ◌+◌, ◌-◌, ◌≡◌, true, false, List, [], ◌∷◌, Some, slice_get}
+-- Where code goes on, and what is known of its slots then; and that wherever it comes to, each instruction finds what it needs, and
+-- the code in front tells of which type a value is whose part is taken or whose reference is dropped.
+use Rattle.std.specs.Prelude.{ℕ, zero, suc, ◌+◌, ◌-◌, ◌≡◌, true, false, List, [], ◌∷◌, Option, Some, slice_get}
 use Rattle.std.specs.List.{All}
 use Rattle.limbo_types.specs.Types as ty
 use Rattle.limbo_types.specs.Types.{Ty}
-use Rattle.limbo_meaning.specs.Values.{Value, Num, Ref}
 use Rattle.limbo_kept.specs.Trees.{Scope}
 use Rattle.core_code.specs.Code.{Instr, Give, Gather, Pick, Known, Write, CopyInto, Cell, Call, Print, Skip, Truth, Element, Start, Next}
 use Rattle.core_code.specs.Code.{Other, Keep, Take, Drop, Mirror, Unless, Jump, Back, Return}
 use Rattle.core_typing.specs.Held.{Held, Of, Decided, Turns, Regions, NoRegion, MoreRegions, Slots, empty, slot, put, emptied}
 use Rattle.core_typing.specs.Held.{chain_of, region, cleared, placed, chained, noted}
 use Rattle.core_typing.specs.Needs.{Finds}
+use Rattle.core_typing.specs.Written.{type_known, told}
 
 -- A place in the code, and what is known of the slots there.
 pub record Stand : Type 0 where
@@ -18,12 +19,6 @@ pub record Stand : Type 0 where
 
 abbrev pub stand : ℕ → Slots → Stand
 stand pc slots = record { pc = pc; slots = slots }
-
--- As of which type a value stands that no step gives: a length, the list without items, nothing.
-abbrev pub type_known : Value → Ty
-type_known (Num z) = ty.Int
-type_known (Ref r) = ty.Nil
-type_known v = ty.Nothing
 
 -- The drops behind a decision are passed where that was so.
 abbrev pub mirrored : (pc passes : ℕ) → Slots → Held → List Stand
@@ -67,9 +62,21 @@ module _ (pc : ℕ) (slots : Slots) where
   behind (Back n) = stand (pc - n) slots ∷ []
   behind (Return from) = []
 
+-- Of a slot's value the type is told that it is of.
+abbrev pub IsTold : (told : ℕ → Option Ty) → Slots → (slot : ℕ) → Type 0
+IsTold tells slots r = (u : Ty) × (slot slots r ≡ Of u) × (tells r ≡ Some u)
+
 module _ (s : Scope) (answer : Ty) (code : List Instr) where
-  -- In so many instructions, whichever way it goes, each is there and finds what it needs.
+  -- Where an instruction takes a part of a slot's value or drops a reference of it, the code in front tells of which type that is.
+  abbrev pub Agrees : (pc : ℕ) → Slots → Instr → Type 0
+  Agrees pc slots (Pick t n into from) = IsTold (told code pc) slots from
+  Agrees pc slots (Write t way operands part from) = IsTold (told code pc) slots from
+  Agrees pc slots (Drop r k) = IsTold (told code pc) slots r
+  Agrees pc slots i = Unit {0}
+
+  -- In so many instructions, whichever way it goes, each is there, finds what it needs, and agrees with what is told.
   abbrev pub Goes : ℕ → (pc : ℕ) → Slots → Type 0
   Goes zero pc slots = Unit {0}
   Goes (suc n) pc slots =
-      (i : Instr) × (slice_get code pc ≡ Some i) × Finds s answer slots i × All (λ (a : Stand). Goes n a.pc a.slots) (behind pc slots i)
+      (i : Instr) × (slice_get code pc ≡ Some i) × Finds s answer slots i × Agrees pc slots i
+      × All (λ (a : Stand). Goes n a.pc a.slots) (behind pc slots i)

@@ -1,5 +1,6 @@
 pub mod Held
 pub mod Needs
+pub mod Written
 pub mod Going
 pub mod Trees
 pub mod Functions

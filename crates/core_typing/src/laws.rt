@@ -3,7 +3,7 @@
 ghost use Rattle.core_typing.specs.Functions.{TreesGoWell, ValuesGoWell, FunctionsGoWell, SoundModulesGoWell};
 
 /// Wherever the code of a typed tree comes to, each instruction finds operands of the types that it needs, and so does what stands behind
-/// it.
+/// it; and where it takes a part of a slot's value or drops a reference of it, the code in front tells of which type that is.
 pub fn trees_go_well()
     ensures { TreesGoWell }
 {}
