@@ -6,14 +6,14 @@ use Rattle.heap_model.specs.Alike.{SameHeaps, SameRoots, Chain, word, next}
 use Rattle.heap_model.proofs.Kept.{held_more, reached_kept}
 
 -- what is known of a block, by cases
-pub data Known {B : Type 0} (k : Facts B) (q : ℕ) : Type 0 where
+pub data Known {B F : Type 0} (k : Facts B F) (q : ℕ) : Type 0 where
   is_named : (m : ℕ) → Is k m q → Known k q
   is_text : (t : List ℕ) → k.fact q ≡ Some (Chars t) → Known k q
   is_part : (m s l : ℕ) → k.fact q ≡ Some (Part m s l) → Known k q
   is_free : Free k q → Known k q
   is_carrier : (d : B) → k.fact q ≡ Some (Carrier d) → Known k q
 
-pub known : {B : Type 0} (k : Facts B) (q : ℕ) → Known k q
+pub known : {B F : Type 0} (k : Facts B F) (q : ℕ) → Known k q
 known {B = B} k q = go (k.fact q) refl
   where
     go : (f : Option (Fact B)) → k.fact q ≡ f → Known k q
@@ -29,43 +29,43 @@ name_in (Some (Named m)) = m
 name_in (Some (Part m s l)) = m
 name_in _ = 0
 
-pub same_name : {B : Type 0} (k : Facts B) (m m' q : ℕ) → Is k m q → Is k m' q → m ≡ m'
+pub same_name : {B F : Type 0} (k : Facts B F) (m m' q : ℕ) → Is k m q → Is k m' q → m ≡ m'
 unfolding name_in
 same_name k m m' q a b = ap name_in (sym a ∙ b)
 
-same_part : {B : Type 0} (k : Facts B) (m s l m' s' l' q : ℕ) → k.fact q ≡ Some (Part m s l) → k.fact q ≡ Some (Part m' s' l') → m ≡ m'
+same_part : {B F : Type 0} (k : Facts B F) (m s l m' s' l' q : ℕ) → k.fact q ≡ Some (Part m s l) → k.fact q ≡ Some (Part m' s' l') → m ≡ m'
 unfolding name_in
 same_part k m s l m' s' l' q a b = ap name_in (sym a ∙ b)
 
-refers_itself : {B : Type 0} (k : Facts B) (m m' q : ℕ) → Is k m q → Refers k m' q → m' ≡ m
+refers_itself : {B F : Type 0} (k : Facts B F) (m m' q : ℕ) → Is k m q → Refers k m' q → m' ≡ m
 refers_itself k m m' q e (itself f) = same_name k m' m q f e
 refers_itself k m m' q e (slice s l f) = absurd cc
 
-refers_part : {B : Type 0} (k : Facts B) (m s l m' q : ℕ) → k.fact q ≡ Some (Part m s l) → Refers k m' q → m' ≡ m
+refers_part : {B F : Type 0} (k : Facts B F) (m s l m' q : ℕ) → k.fact q ≡ Some (Part m s l) → Refers k m' q → m' ≡ m
 refers_part k m s l m' q e (itself f) = absurd cc
 refers_part k m s l m' q e (slice s' l' f) = same_part k m' s' l' m s l q f e
 
-free_not : {B : Type 0} (k : Facts B) (q : ℕ) (f : Fact B) → Free k q → k.fact q ≡ Some f → IsFree (Some f)
+free_not : {B F : Type 0} (k : Facts B F) (q : ℕ) (f : Fact B) → Free k q → k.fact q ≡ Some f → IsFree (Some f)
 free_not k q f h e = subst IsFree e h
 
-refers_not_free : {B : Type 0} (k : Facts B) (m q : ℕ) → Free k q → Refers k m q → ⊥
+refers_not_free : {B F : Type 0} (k : Facts B F) (m q : ℕ) → Free k q → Refers k m q → ⊥
 refers_not_free k m q h (itself e) = free_not k q _ h e
 refers_not_free k m q h (slice s l e) = free_not k q _ h e
 
-pub covers_not_free : {B : Type 0} (k : Facts B) (named : ℕ → Type 0) (q : ℕ) → Free k q → Covers k named q → ⊥
+pub covers_not_free : {B F : Type 0} (k : Facts B F) (named : ℕ → Type 0) (q : ℕ) → Free k q → Covers k named q → ⊥
 covers_not_free k named q h (refers m n r) = refers_not_free k m q h r
 covers_not_free k named q h (chars t e) = free_not k q _ h e
 
 -- what accounts for a reference to a heap value's block, or to part of it, names this value
-pub covers_named : {B : Type 0} (k : Facts B) (named : ℕ → Type 0) (m q : ℕ) → Is k m q → Covers k named q → named m
+pub covers_named : {B F : Type 0} (k : Facts B F) (named : ℕ → Type 0) (m q : ℕ) → Is k m q → Covers k named q → named m
 covers_named k named m q e (refers m' n r) = subst named (refers_itself k m m' q e r) n
 covers_named k named m q e (chars t f) = absurd cc
 
-pub covers_part : {B : Type 0} (k : Facts B) (named : ℕ → Type 0) (m s l q : ℕ) → k.fact q ≡ Some (Part m s l) → Covers k named q → named m
+pub covers_part : {B F : Type 0} (k : Facts B F) (named : ℕ → Type 0) (m s l q : ℕ) → k.fact q ≡ Some (Part m s l) → Covers k named q → named m
 covers_part k named m s l q e (refers m' n r) = subst named (refers_part k m s l m' q e r) n
 covers_part k named m s l q e (chars t f) = absurd cc
 
-inner_not : {B : Type 0} (k : Facts B) (q : ℕ) (f : Fact B) → Inner k q → k.fact q ≡ Some f → IsInner (Some f)
+inner_not : {B F : Type 0} (k : Facts B F) (q : ℕ) (f : Fact B) → Inner k q → k.fact q ≡ Some f → IsInner (Some f)
 inner_not k q f h e = subst IsInner e h
 
 pub is_inner : {B : Type 0} (o : Option (Fact B)) → IsFree o → IsInner o
@@ -76,16 +76,16 @@ is_inner (Some (Chars t)) f = absurd f
 is_inner (Some (Part m s l)) f = absurd f
 is_inner (Some (Carrier ws)) f = absurd f
 
-pub covers_not_inner : {B : Type 0} (k : Facts B) (named : ℕ → Type 0) (q : ℕ) → Inner k q → Covers k named q → ⊥
+pub covers_not_inner : {B F : Type 0} (k : Facts B F) (named : ℕ → Type 0) (q : ℕ) → Inner k q → Covers k named q → ⊥
 covers_not_inner k named q h (refers m n (itself e)) = inner_not k q _ h e
 covers_not_inner k named q h (refers m n (slice s l e)) = inner_not k q _ h e
 covers_not_inner k named q h (chars t e) = inner_not k q _ h e
 
-pub chain_reached : {B : Type 0} (k : Facts B) (h : Graph) (words : ℕ → ℕ) (q : ℕ) → Chain k h words q → Reached h words q
+pub chain_reached : {B F : Type 0} (k : Facts B F) (h : Graph) (words : ℕ → ℕ) (q : ℕ) → Chain k h words q → Reached h words q
 chain_reached k h words q (word w) = record { root = q; is = w; way = here }
 chain_reached k h words q (next {a = a} c f l u) = let r = chain_reached k h words a c in record { root = r.root; is = r.is; way = on r.way l u }
 
-module _ {B : Type 0} (k : Facts B) (g h : Graph) (names words : ℕ → ℕ) (heaps : SameHeaps k g h) (roots : SameRoots k h names words) where
+module _ {B F : Type 0} (k : Facts B F) (g h : Graph) (names words : ℕ → ℕ) (heaps : SameHeaps k g h) (roots : SameRoots k h names words) where
   module _ (sources blocks : ℕ → Bool) (is : IsKept g names sources) (its : IsKept h words blocks) where
     -- why a block stays
     data Why (q : ℕ) : Type 0 where

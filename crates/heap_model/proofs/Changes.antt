@@ -25,7 +25,7 @@ there_on old new k v s q l = elim (eqb_tells q k) [
   | inr y ↦ ap there (s.apart q y.1) ∙ l
 ]
 
-module _ {V B : Type 0} (c : Contents V B) where
+module _ {V B F : Type 0} (c : Contents V B F) where
   -- a block is set whose words name what is there
   closed_on : (x x' : Heap B) (n : ℕ) (b : B) → Sets x x' n (Some b) → ((q : ℕ) → 0 < c.words b q → there (at x q) ≡ true) → IsClosed (blocks c x) → IsClosed (blocks c x')
   closed_on x x' n b s live cl = record {
@@ -36,12 +36,12 @@ module _ {V B : Type 0} (c : Contents V B) where
         ]);
   }
 
-  pub not_free : (k : Facts B) (n m : ℕ) → Is k m n → Free k n → ⊥
+  pub not_free : (k : Facts B F) (n m : ℕ) → Is k m n → Free k n → ⊥
   not_free k n m e f = subst IsFree e f
 
   -- a heap value and its block get another content
-  pub set_value : (k : Facts B) (w w' : Heap V) (x x' : Heap B) (m n : ℕ) (v' : V) (b' : B)
-      → WorldsAlike c k w x → Is k m n → c.stands k v' b'
+  pub set_value : (k : Facts B F) (w w' : Heap V) (x x' : Heap B) (m n : ℕ) (v' : V) (b' : B)
+      → WorldsAlike c k w x → Is k m n → c.stands k n v' b'
       → length w' ≡ length w → length x' ≡ length x → Sets w w' m (Some v') → Sets x x' n (Some b')
       → ((q : ℕ) → 0 < c.words b' q → there (at x q) ≡ true)
       → WorldsAlike c k w' x'
@@ -49,7 +49,7 @@ module _ {V B : Type 0} (c : Contents V B) where
     unmade = λ q l. s.unmade q (omega (arith, xm));
     unnamed = λ q r l e. s.unnamed q r (omega (arith, wm)) e;
     there = λ q v e. elim (cases w w' m _ sw q v e) [
-      | inl y ↦ (n, b', subst (λ q. Is k q n) (sym y.0) is, sx.here, subst (λ v. c.stands k v b') (some_is v' v y.1) new)
+      | inl y ↦ (n, b', subst (λ q. Is k q n) (sym y.0) is, sx.here, subst (λ v. c.stands k n v b') (some_is v' v y.1) new)
       | inr y ↦
           let t = s.there q v y.1 in
           (t.0, t.1, t.2, sx.apart t.0 (λ e. y.0 (same_name k q m t.0 t.2 (subst (λ z. Is k m z) (sym e) is))) ∙ t.3, t.4)
@@ -80,7 +80,7 @@ module _ {V B : Type 0} (c : Contents V B) where
   }
 
   -- a block that stands for nothing gets other words, or a new one comes of which nothing is known
-  pub set_free : (k : Facts B) (w : Heap V) (x x' : Heap B) (n : ℕ) (b' : B)
+  pub set_free : (k : Facts B F) (w : Heap V) (x x' : Heap B) (n : ℕ) (b' : B)
       → WorldsAlike c k w x → Free k n
       → length x ≤ length x' → n < length x' → Sets x x' n (Some b')
       → ((q : ℕ) → 0 < c.words b' q → there (at x q) ≡ true)

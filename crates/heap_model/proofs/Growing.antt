@@ -11,49 +11,49 @@ use Rattle.heap_model.proofs.Heap.{within, there_of}
 use Rattle.heap_model.proofs.Settle.{refers_grows, covers_grows}
 use Rattle.heap_model.proofs.Changes.{cases, some_is}
 
-pub grows_same : {B : Type 0} (k : Facts B) → Grows k k
-grows_same k = record { facts = λ n f e. e; makers = λ n i e. e; lengths = λ n l e. e }
+pub grows_same : {B F : Type 0} (k : Facts B F) → Grows k k
+grows_same k = record { facts = λ n f e. e; makers = λ n i e. e; forms = λ n o e. e }
 
-pub grows_on : {B : Type 0} (a b c : Facts B) → Grows a b → Grows b c → Grows a c
+pub grows_on : {B F : Type 0} (a b c : Facts B F) → Grows a b → Grows b c → Grows a c
 grows_on a b c g h = record {
   facts = λ q f e. h.facts q f (g.facts q f e);
   makers = λ q i e. h.makers q i (g.makers q i e);
-  lengths = λ q l e. h.lengths q l (g.lengths q l e);
+  forms = λ q o e. h.forms q o (g.forms q o e);
 }
 
-pub learns_grows : {B : Type 0} (k k' : Facts B) (n : ℕ) (f : Fact B) → Learns k k' n f → Grows k k'
+pub learns_grows : {B F : Type 0} (k k' : Facts B F) (n : ℕ) (f : Fact B) → Learns k k' n f → Grows k k'
 learns_grows k k' n f l = record {
   facts = λ q h e. l.apart q (λ z. absurd (let y : None ≡ Some h = sym l.before ∙ (sym (ap k.fact z) ∙ e) in cc)) ∙ e;
   makers = λ q i e. l.makers q ∙ e;
-  lengths = λ q i e. l.lengths q ∙ e;
+  forms = λ q o e. l.forms q ∙ e;
 }
 
-learned_free : {B : Type 0} (k k' : Facts B) (n : ℕ) (f : Fact B) → Learns k k' n f → (q : ℕ) → Free k' q → Free k q
+learned_free : {B F : Type 0} (k k' : Facts B F) (n : ℕ) (f : Fact B) → Learns k k' n f → (q : ℕ) → Free k' q → Free k q
 learned_free k k' n f l q h = elim (eqb_tells q n) [
   | inl y ↦ subst IsFree (sym (ap k.fact y.1 ∙ l.before)) tt
   | inr y ↦ subst IsFree (l.apart q y.1) h
 ]
 
-learned_inner : {B : Type 0} (k k' : Facts B) (n : ℕ) (f : Fact B) → Learns k k' n f → (q : ℕ) → Inner k' q → Inner k q
+learned_inner : {B F : Type 0} (k k' : Facts B F) (n : ℕ) (f : Fact B) → Learns k k' n f → (q : ℕ) → Inner k' q → Inner k q
 learned_inner k k' n f l q h = elim (eqb_tells q n) [
   | inl y ↦ subst IsInner (sym (ap k.fact y.1 ∙ l.before)) tt
   | inr y ↦ subst IsInner (l.apart q y.1) h
 ]
 
 -- what k' knows is of block n, or was known
-learned : {B : Type 0} (k k' : Facts B) (n : ℕ) (f : Fact B) → Learns k k' n f → (q : ℕ) (h : Fact B) → k'.fact q ≡ Some h → ((q ≡ n) × (f ≡ h)) ⊎ ((q ≢ n) × (k.fact q ≡ Some h))
+learned : {B F : Type 0} (k k' : Facts B F) (n : ℕ) (f : Fact B) → Learns k k' n f → (q : ℕ) (h : Fact B) → k'.fact q ≡ Some h → ((q ≡ n) × (f ≡ h)) ⊎ ((q ≢ n) × (k.fact q ≡ Some h))
 learned k k' n f l q h e = elim (eqb_tells q n) [
   | inl y ↦ inl (y.1, some_is f h (sym l.now ∙ (sym (ap k'.fact y.1) ∙ e)))
   | inr y ↦ inr (y.1, sym (l.apart q y.1) ∙ e)
 ]
 
-unmade_on : {B : Type 0} (k k' : Facts B) (n : ℕ) (f : Fact B) → Learns k k' n f → (q : ℕ) → q ≢ n → IsUnmade k q → IsUnmade k' q
-unmade_on k k' n f l q d u = record { fact = l.apart q d ∙ u.fact; maker = l.makers q ∙ u.maker; long = l.lengths q ∙ u.long }
+unmade_on : {B F : Type 0} (k k' : Facts B F) (n : ℕ) (f : Fact B) → Learns k k' n f → (q : ℕ) → q ≢ n → IsUnmade k q → IsUnmade k' q
+unmade_on k k' n f l q d u = record { fact = l.apart q d ∙ u.fact; maker = l.makers q ∙ u.maker; form = l.forms q ∙ u.form }
 
-module _ {V B : Type 0} (c : Contents V B) where
+module _ {V B F : Type 0} (c : Contents V B F) where
   -- a block that is made comes to stand for a new heap value
-  pub name_it : (k k' : Facts B) (w w' : Heap V) (x : Heap B) (m n : ℕ) (v : V) (b : B)
-      → WorldsAlike c k w x → Learns k k' n (Named m) → at x n ≡ Some b → c.stands k' v b
+  pub name_it : (k k' : Facts B F) (w w' : Heap V) (x : Heap B) (m n : ℕ) (v : V) (b : B)
+      → WorldsAlike c k w x → Learns k k' n (Named m) → at x n ≡ Some b → c.stands k' n v b
       → length w ≤ m → m < length w' → Sets w w' m (Some v)
       → WorldsAlike c k' w' x
   name_it k k' w w' x m n v b s l here is le lt sw =
@@ -65,8 +65,8 @@ module _ {V B : Type 0} (c : Contents V B) where
           | inr y ↦ s.unnamed q r (omega arith) y.1
         ];
         there = λ q u e. elim (cases w w' m _ sw q u e) [
-          | inl y ↦ (n, b, subst (λ q. Is k' q n) (sym y.0) l.now, here, subst (λ u. c.stands k' u b) (some_is v u y.1) is)
-          | inr y ↦ let t = s.there q u y.1 in (t.0, t.1, g.facts t.0 (Named q) t.2, t.3, c.grows k k' u t.1 g t.4)
+          | inl y ↦ (n, b, subst (λ q. Is k' q n) (sym y.0) l.now, here, subst (λ u. c.stands k' n u b) (some_is v u y.1) is)
+          | inr y ↦ let t = s.there q u y.1 in (t.0, t.1, g.facts t.0 (Named q) t.2, t.3, c.grows k k' t.0 u t.1 g t.4)
         ];
         here = λ q r d e f. elim (learned k k' n (Named m) l r (Named q) e) [
           | inl y ↦ (v, ap (at w') (sym (name_is m q y.1)) ∙ sw.here)
@@ -92,7 +92,7 @@ module _ {V B : Type 0} (c : Contents V B) where
       name_is a b e = cc
 
   -- a block that is made turns out to be a string, a part of an array, or nothing
-  pub tell : (k k' : Facts B) (w : Heap V) (x : Heap B) (n : ℕ) (f : Fact B)
+  pub tell : (k k' : Facts B F) (w : Heap V) (x : Heap B) (n : ℕ) (f : Fact B)
       → WorldsAlike c k w x → Learns k k' n f → n < length x
       → ((m : ℕ) → f ≡ Named m → ⊥)
       → ((t : List ℕ) (b : B) → f ≡ Chars t → at x n ≡ Some b → b ≡ c.text t)
@@ -104,7 +104,7 @@ module _ {V B : Type 0} (c : Contents V B) where
       record {
         unmade = λ q z. unmade_on k k' n f l q (λ e. absurd (omega (arith, e))) (s.unmade q z);
         unnamed = λ q r z e. s.unnamed q r z (was q r e);
-        there = λ q u e. let t = s.there q u e in (t.0, t.1, g.facts t.0 (Named q) t.2, t.3, c.grows k k' u t.1 g t.4);
+        there = λ q u e. let t = s.there q u e in (t.0, t.1, g.facts t.0 (Named q) t.2, t.3, c.grows k k' t.0 u t.1 g t.4);
         here = λ q r d e f. s.here q r d (was q r e) f;
         texts = λ q t d h e. elim (learned k k' n f l q (Chars t) h) [ inl y ↦ texts t d y.1 (sym (ap (at x) y.0) ∙ e) | inr y ↦ s.texts q t d y.1 e ];
         parts = λ q m' st len d h e. elim (learned k k' n f l q (Part m' st len) h) [
@@ -128,7 +128,7 @@ decided b (Some f) = Some f
 decided true None = Some Bare
 decided false None = None
 
-module _ {B : Type 0} (k : Facts B) (part : ℕ → Bool) where
+module _ {B F : Type 0} (k : Facts B F) (part : ℕ → Bool) where
   pub decided_named : (b : Bool) (o : Option (Fact B)) (m : ℕ) → decided b o ≡ Some (Named m) → o ≡ Some (Named m)
   decided_named b (Some f) m e = e
   decided_named true None m e = absurd cc
@@ -181,16 +181,16 @@ module _ {B : Type 0} (k : Facts B) (part : ℕ → Bool) where
   not_decided true None p e = absurd cc
   not_decided false None p e = refl
 
-  abbrev pub deciding : Facts B
+  abbrev pub deciding : Facts B F
   deciding = record {
     fact = λ q. decided (part q) (k.fact q);
     maker = k.maker;
-    long = k.long;
+    form = k.form;
     once = λ m n n' e f. k.once m n n' (decided_named (part n) (k.fact n) m e) (decided_named (part n') (k.fact n') m f);
   }
 
   pub deciding_grows : Grows k deciding
-  deciding_grows = record { facts = λ q f e. decided_on (part q) (k.fact q) f e; makers = λ q i e. e; lengths = λ q l e. e }
+  deciding_grows = record { facts = λ q f e. decided_on (part q) (k.fact q) f e; makers = λ q i e. e; forms = λ q o e. e }
 
   pub deciding_is : (m n : ℕ) → Is deciding m n → Is k m n
   deciding_is m n e = decided_named (part n) (k.fact n) m e
@@ -220,12 +220,12 @@ module _ {B : Type 0} (k : Facts B) (part : ℕ → Bool) where
     mine = λ q o f. held.mine q o (decided_free (part q) (k.fact q) f);
   }
 
-module _ {V B : Type 0} (c : Contents V B) (k : Facts B) (part : ℕ → Bool) where
+module _ {V B F : Type 0} (c : Contents V B F) (k : Facts B F) (part : ℕ → Bool) where
   pub deciding_world : (w : Heap V) (x : Heap B) → ((n : ℕ) → length x ≤ n → part n ≡ false) → WorldsAlike c k w x → WorldsAlike c (deciding k part) w x
   deciding_world w x none s = record {
-    unmade = λ q z. let u = s.unmade q z in record { fact = not_decided k part (part q) (k.fact q) (none q z) u.fact; maker = u.maker; long = u.long };
+    unmade = λ q z. let u = s.unmade q z in record { fact = not_decided k part (part q) (k.fact q) (none q z) u.fact; maker = u.maker; form = u.form };
     unnamed = λ q r z e. s.unnamed q r z (deciding_is k part q r e);
-    there = λ q u e. let t = s.there q u e in (t.0, t.1, (deciding_grows k part).facts t.0 (Named q) t.2, t.3, c.grows k (deciding k part) u t.1 (deciding_grows k part) t.4);
+    there = λ q u e. let t = s.there q u e in (t.0, t.1, (deciding_grows k part).facts t.0 (Named q) t.2, t.3, c.grows k (deciding k part) t.0 u t.1 (deciding_grows k part) t.4);
     here = λ q r d e f. s.here q r d (deciding_is k part q r e) f;
     texts = λ q t d h e. s.texts q t d (decided_text k part (part q) (k.fact q) t h) e;
     parts = λ q m' st len d h e. let t = s.parts q m' st len d (decided_part k part (part q) (k.fact q) m' st len h) e in (t.0, t.1, (deciding_grows k part).facts t.0 (Named m') t.2);

@@ -18,7 +18,7 @@ same_name : {B : Type 0} (m m' : ℕ) → ◌≡◌ {A = Option (Fact B)} (Some 
 same_name m m' e = cc
 
 -- what is known stays what it is
-was_named : {B : Type 0} (a b : Facts B) (m n : ℕ) → Grows a b → (a.fact n ≡ None → ⊥) → Is b m n → Is a m n
+was_named : {B F : Type 0} (a b : Facts B F) (m n : ℕ) → Grows a b → (a.fact n ≡ None → ⊥) → Is b m n → Is a m n
 was_named {B = B} a b m n g k e = go (a.fact n) refl
   where
     go : (o : Option (Fact B)) → a.fact n ≡ o → a.fact n ≡ Some (Named m)
@@ -27,14 +27,14 @@ was_named {B = B} a b m n g k e = go (a.fact n) refl
         let u : b.fact n ≡ Some h = g.facts n h f in
         f ∙ (sym u ∙ e)
 
-was_known : {B : Type 0} (a b : Facts B) (n : ℕ) → Grows a b → (a.fact n ≡ None → ⊥) → b.fact n ≡ None → ⊥
+was_known : {B F : Type 0} (a b : Facts B F) (n : ℕ) → Grows a b → (a.fact n ≡ None → ⊥) → b.fact n ≡ None → ⊥
 was_known {B = B} a b n g k e = go (a.fact n) refl
   where
     go : (o : Option (Fact B)) → a.fact n ≡ o → ⊥
     go None f = k f
     go (Some h) f = let u : b.fact n ≡ Some h = g.facts n h f in absurd cc
 
-pub heap_link : {B D U : Type 0} (value : Facts B → D → U → Type 0) → ((a b : Facts B) (x : D) (y : U) → Grows a b → value a x y → value b x y) → Link (heap_map value)
+pub heap_link : {B F D U : Type 0} (value : Facts B F → D → U → Type 0) → ((a b : Facts B F) (x : D) (y : U) → Grows a b → value a x y → value b x y) → Link (heap_map value)
 heap_link value on = record {
   same = grows_same;
   on = grows_on;
@@ -47,7 +47,7 @@ heap_link value on = record {
 }
 
 -- a change leaves the others alone
-changes_alone : {V B : Type 0} (c : Contents V B) (these : ℕ → Type 0) (k k' : Facts B) (x x' : Heap B) → Changes these k k' x x' → LeavesAlone these k k' (blocks c x) (blocks c x')
+changes_alone : {V B F : Type 0} (c : Contents V B F) (these : ℕ → Type 0) (k k' : Facts B F) (x x' : Heap B) → Changes these k k' x x' → LeavesAlone these k k' (blocks c x) (blocks c x')
 changes_alone c these k k' x x' h = record {
   grows = h.grows;
   live = λ q e. let b = there_is (at x q) e in let d = h.there q b.0 b.1 in there_of (at x' q) d.0 d.1;
@@ -63,7 +63,7 @@ kept_or_gone o (Some h) false e = inr (e, refl)
 kept_or_gone (Some c) None false e = inr (tt, refl)
 kept_or_gone None None false e = inr (tt, refl)
 
-module _ {V B : Type 0} (c : Contents V B) (k : Facts B) (x : Heap B) (words : ℕ → ℕ) where
+module _ {V B F : Type 0} (c : Contents V B F) (k : Facts B F) (x : Heap B) (words : ℕ → ℕ) where
   -- the blocks that go
   abbrev pub goes : ℕ → Bool
   goes n = went (there (at x n)) (part c.words words x n)
@@ -88,19 +88,19 @@ module _ {V B : Type 0} (c : Contents V B) (k : Facts B) (x : Heap B) (words : �
     | inr e ↦ e
   ]
 
-module _ {V B : Type 0} (c : Contents V B) (k : Facts B) (w : Heap V) (x : Heap B) (names words : ℕ → ℕ) (alike : WorldsAlike c k w x) (roots : SameRoots k (blocks c x) names words) where
+module _ {V B F : Type 0} (c : Contents V B F) (k : Facts B F) (w : Heap V) (x : Heap B) (names words : ℕ → ℕ) (alike : WorldsAlike c k w x) (roots : SameRoots k (blocks c x) names words) where
   cut_world : WorldsAlike c (deciding k (goes c k x words)) (stays c.inside names w) (stays c.words words x)
   cut_world = deciding_world c k (goes c k x words) _ _ (late c k x words) (world_after c k w x names words alike roots)
 
   cut_holds : (who : ℕ → Type 0) (f g : ℕ → ℕ) → ((m : ℕ) → 0 < g m → 0 < words m) → Holds k who (blocks c x) f g → Holds (deciding k (goes c k x words)) who (blocks c (stays c.words words x)) f g
   cut_holds who f g less h = deciding_holds k (goes c k x words) _ _ f g (world_holds c k w x names words alike roots who f g h less)
 
-nothing_held : {B : Type 0} (k : Facts B) (who : ℕ → Type 0) (h : Graph) → Holds k who h (λ n. 0) (λ n. 0)
+nothing_held : {B F : Type 0} (k : Facts B F) (who : ℕ → Type 0) (h : Graph) → Holds k who h (λ n. 0) (λ n. 0)
 unfolding holds_none
 nothing_held k who h = record { same = holds_none k h; mine = λ q p f. absurd (omega arith) }
 
-module _ {V B O P Q D U M A H : Type 0} (a : Parts V B O P Q D U M A H) (value_on : (k now : Facts B) (x : D) (y : U) → Grows k now → a.value k x y → a.value now x y) where
-  cuts : (k : Facts B) (w : World V O) (x : World B O) (named referred : ℕ → ℕ) → WorldsAlike a.contents k w.heap x.heap → w.outside ≡ x.outside → Holds k (Among Everyone) (blocks a.contents x.heap) named referred → Cuts (sides a) k w x named referred
+module _ {V B F O P Q D U M A H : Type 0} (a : Parts V B F O P Q D U M A H) (value_on : (k now : Facts B F) (x : D) (y : U) → Grows k now → a.value k x y → a.value now x y) where
+  cuts : (k : Facts B F) (w : World V O) (x : World B O) (named referred : ℕ → ℕ) → WorldsAlike a.contents k w.heap x.heap → w.outside ≡ x.outside → Holds k (Among Everyone) (blocks a.contents x.heap) named referred → Cuts (sides a) k w x named referred
   cuts k w x named referred s same h =
       let part = goes a.contents k x.heap referred in
       record {

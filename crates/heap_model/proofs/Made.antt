@@ -21,15 +21,15 @@ last_sets h a = record { here = at_last h (Some a) (length h) refl; apart = λ q
 pub last_length : {A : Type 0} (h : Heap A) (a : A) → length (with_last h a) ≡ suc (length h)
 last_length h a = let e = length-append h (Some a ∷ []) in omega arith
 
-module _ {V B : Type 0} (c : Contents V B) where
+module _ {V B F : Type 0} (c : Contents V B F) where
   -- the worlds after a block is made that is known at once
-  pub record IsMade (i : ℕ) (k : Facts B) (w : Heap V) (x : Heap B) (f : Fact B) (b : B) : Type 0 where
-    pub now : Facts B
+  pub record IsMade (i : ℕ) (k : Facts B F) (w : Heap V) (x : Heap B) (f : Fact B) (b : B) : Type 0 where
+    pub now : Facts B F
     pub known : now.fact (length x) ≡ Some f
     pub world : WorldsAlike c now w (with_last x b)
     pub changes : Changes (λ n. n ≡ i) k now x (with_last x b)
 
-  pub made : (i : ℕ) (k : Facts B) (w : Heap V) (x : Heap B) (f : Fact B) (b : B) → WorldsAlike c k w x
+  pub made : (i : ℕ) (k : Facts B F) (w : Heap V) (x : Heap B) (f : Fact B) (b : B) → WorldsAlike c k w x
       → ((m : ℕ) → f ≡ Named m → ⊥)
       → ((t : List ℕ) → f ≡ Chars t → b ≡ c.text t)
       → ((m s l : ℕ) → f ≡ Part m s l → (q : ℕ) × (b ≡ c.part s l q) × Is k m q)
@@ -40,14 +40,14 @@ module _ {V B : Type 0} (c : Contents V B) where
     now = now;
     known = learns.now;
     world = tell c k1 now w (with_last x b) n f
-        (maker_world c k n i w (with_last x b) u.maker more
+        (maker_world c k n i None w (with_last x b) u more
         (set_free c k w x (with_last x b) n b s (subst IsFree (sym u.fact) tt) (omega (arith, last_length x b)) more sets (λ q p. (words q p).0) (λ q e p. absurd ((words q p).1 (is_inner _ e)))))
         learns more not_named
         (λ t d e there_now. sym (is d there_now) ∙ text t e)
         (λ m st l d e there_now. let t = part m st l e in (t.0, sym (is d there_now) ∙ t.1, t.2))
         (λ held d e there_now. (sym (is d there_now) ∙ carrier held e, λ q p. (words q (subst (λ z. 0 < c.words z q) (sym (carrier held e)) p)).1));
     changes = record {
-      grows = grows_on k k1 now (maker_grows k n i u.maker) (learns_grows k1 now n f learns);
+      grows = grows_on k k1 now (maker_grows k n i None u) (learns_grows k1 now n f learns);
       there = λ q d e. there_is (at (with_last x b) q) (there_on x (with_last x b) n b sets q (there_of (at x q) d e));
       free = λ q j e m ne. let d = other q j m in (learns.apart q d, sets.apart q d);
       carriers = λ q held e. sets.apart q (λ z. absurd (let y : None ≡ Some (Carrier held) = sym u.fact ∙ (ap k.fact (sym z) ∙ e) in cc));
@@ -63,10 +63,10 @@ module _ {V B : Type 0} (c : Contents V B) where
       u : IsUnmade k n
       u = s.unmade n (omega arith)
 
-      k1 : Facts B
-      k1 = with_maker k n i
+      k1 : Facts B F
+      k1 = with_maker k n i None
 
-      now : Facts B
+      now : Facts B F
       now = with_fact k1 n f not_named
 
       learns : Learns k1 now n f
@@ -82,7 +82,7 @@ module _ {V B : Type 0} (c : Contents V B) where
       other q j m z = let y : None ≡ Some j = sym u.maker ∙ (ap k.maker (sym z) ∙ m) in cc
 
   -- a string
-  pub text_made : (i : ℕ) (k : Facts B) (w : Heap V) (x : Heap B) (t : List ℕ) → WorldsAlike c k w x → IsMade i k w x (Chars t) (c.text t)
+  pub text_made : (i : ℕ) (k : Facts B F) (w : Heap V) (x : Heap B) (t : List ℕ) → WorldsAlike c k w x → IsMade i k w x (Chars t) (c.text t)
   text_made i k w x t s = made i k w x (Chars t) (c.text t) s
       (λ m e. cc) (λ u e. ap c.text (same u e)) (λ m st l e. absurd cc) (λ d e. absurd cc) (λ q p. absurd (let z = c.text_names t q in omega arith))
     where
@@ -90,12 +90,12 @@ module _ {V B : Type 0} (c : Contents V B) where
       same u e = cc
 
   -- the array itself, of a whole array or of a part of it
-  pub record Base (k : Facts B) (x : Heap B) (name : ℕ) : Type 0 where
+  pub record Base (k : Facts B F) (x : Heap B) (name : ℕ) : Type 0 where
     pub block : ℕ
     pub is : Is k name block
     pub live : there (at x block) ≡ true
 
-  pub base : (k : Facts B) (w : Heap V) (x : Heap B) (name q : ℕ) → WorldsAlike c k w x → Refers k name q → there (at x q) ≡ true → Base k x name
+  pub base : (k : Facts B F) (w : Heap V) (x : Heap B) (name q : ℕ) → WorldsAlike c k w x → Refers k name q → there (at x q) ≡ true → Base k x name
   base k w x name q s (itself e) live = record { block = q; is = e; live = live }
   base k w x name q s (slice st l f) live =
       let b = there_is (at x q) live in
@@ -103,7 +103,7 @@ module _ {V B : Type 0} (c : Contents V B) where
       record { block = p.0; is = p.2; live = s.closed.closed q p.0 live (subst (λ (o : Option B). 0 < in_one c.words o p.0) (sym (b.1 ∙ ap Some p.1)) (c.part_names st l p.0)) }
 
   -- a part of an array, from this place of it on
-  pub part_made : (i : ℕ) (k : Facts B) (w : Heap V) (x : Heap B) (name start length : ℕ) → WorldsAlike c k w x → (b : Base k x name)
+  pub part_made : (i : ℕ) (k : Facts B F) (w : Heap V) (x : Heap B) (name start length : ℕ) → WorldsAlike c k w x → (b : Base k x name)
       → IsMade i k w x (Part name start length) (c.part start length b.block)
   part_made i k w x name start length s b = made i k w x (Part name start length) (c.part start length b.block) s
       (λ m e. cc) (λ t e. absurd cc)
@@ -118,7 +118,7 @@ module _ {V B : Type 0} (c : Contents V B) where
       named m st l z = cc
 
   -- a carrier: a block that never changes, and holds what its words refer to
-  pub carrier_made : (i : ℕ) (k : Facts B) (w : Heap V) (x : Heap B) (d : B) → WorldsAlike c k w x
+  pub carrier_made : (i : ℕ) (k : Facts B F) (w : Heap V) (x : Heap B) (d : B) → WorldsAlike c k w x
       → ((q : ℕ) → 0 < c.words d q → (there (at x q) ≡ true) × (Inner k q → ⊥))
       → IsMade i k w x (Carrier d) d
   carrier_made i k w x d s words = made i k w x (Carrier d) d s (λ m e. cc) (λ t e. absurd cc) (λ m st l e. absurd cc) (λ h e. same h e) words
@@ -127,7 +127,7 @@ module _ {V B : Type 0} (c : Contents V B) where
       same h e = cc
 
   -- words that name what is there, each for names of the source and each of these by a word
-  pub words_hold : (k : Facts B) (who : ℕ → Type 0) (x : Heap B) (names words : ℕ → ℕ)
+  pub words_hold : (k : Facts B F) (who : ℕ → Type 0) (x : Heap B) (names words : ℕ → ℕ)
       → ((q : ℕ) → 0 < words q → there (at x q) ≡ true)
       → ((q : ℕ) → 0 < words q → Covers k (λ m. 0 < names m) q)
       → ((m : ℕ) → 0 < names m → (q : ℕ) × (0 < words q) × Refers k m q)
@@ -146,7 +146,7 @@ module _ {V B : Type 0} (c : Contents V B) where
   }
 
   -- who has a reference to a carrier holds what its words refer to, whoever made it
-  pub carrier_holds : (k : Facts B) (who : ℕ → Type 0) (w : Heap V) (x : Heap B) (n : ℕ) (d : B) (names words : ℕ → ℕ) → WorldsAlike c k w x → k.fact n ≡ Some (Carrier d) → there (at x n) ≡ true
+  pub carrier_holds : (k : Facts B F) (who : ℕ → Type 0) (w : Heap V) (x : Heap B) (n : ℕ) (d : B) (names words : ℕ → ℕ) → WorldsAlike c k w x → k.fact n ≡ Some (Carrier d) → there (at x n) ≡ true
       → ((q : ℕ) → 0 < words q → n ≡ q) → 0 < words n
       → ((q : ℕ) → 0 < c.words d q → Covers k (λ m. 0 < names m) q)
       → ((m : ℕ) → 0 < names m → (q : ℕ) × (0 < c.words d q) × Refers k m q)

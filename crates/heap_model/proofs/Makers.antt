@@ -20,10 +20,10 @@ use Rattle.heap_model.proofs.Alike.{covers_not_free}
 use Rattle.heap_model.proofs.Settle.{holds_pair}
 use Rattle.heap_model.proofs.Changes.{set_free, there_on}
 use Rattle.heap_model.proofs.Growing.{grows_same, learns_grows, name_it}
-use Rattle.heap_model.proofs.Building.{with_maker, maker_is, maker_grows, maker_world, with_name, name_learns}
+use Rattle.heap_model.proofs.Building.{with_maker, maker_is, form_is, maker_grows, maker_world, with_name, name_learns}
 use Rattle.heap_model.proofs.Made.{with_last, last_sets, last_length, words_hold}
 use Rattle.heap_model.proofs.Joined.{heaps}
-use Rattle.heap_model.proofs.Values.{Value, Ref, NoMore, More, Word, Refer, one, one_is, one_same, in_value, in_words, Stands, Adt, Formed, HeapValue, Block, contents, to, from, stands_grows}
+use Rattle.heap_model.proofs.Values.{Value, Ref, NoMore, More, Word, Refer, one, one_is, one_same, in_value, in_words, Stands, Form, Adt, Formed, HeapValue, Block, contents, to, from, stands_grows}
 
 -- first = second; first = ref A(second); a child begins with both variables
 pub data Ops : Type 0 where
@@ -108,23 +108,24 @@ abbrev pub no_table : List (Branch ℕ) → ℕ → ℕ
 no_table bs n = 0
 
 -- a block that is made and not yet filled
-pub record IsNew (k : Facts Block) (j : ℕ) (x : Heap Block) (n : ℕ) : Type 0 where
+pub record IsNew (k : Facts Block Form) (j : ℕ) (x : Heap Block) (n : ℕ) : Type 0 where
   pub unknown : k.fact n ≡ None
+  pub form : k.form n ≡ Some Adt
   pub mine : k.maker n ≡ Some j
   pub now : at x n ≡ Some blank
 
 -- where the code is, beside the program
-pub data At (k : Facts Block) (j : ℕ) (x : Heap Block) : Ops → Option ℕ → Instrs → Type 0 where
+pub data At (k : Facts Block Form) (j : ℕ) (x : Heap Block) : Ops → Option ℕ → Instrs → Type 0 where
   begins : {ops : Ops} → At k j x ops None (code_of ops)
   fills : {ops : Ops} {n : ℕ} → IsNew k j x n → At k j x (Make ops) (Some n) (Fill (code_of ops))
 
-pub record IsReady (k : Facts Block) (j : ℕ) (x : Heap Block) (p : Program) (q : Code) : Type 0 where
+pub record IsReady (k : Facts Block Form) (j : ℕ) (x : Heap Block) (p : Program) (q : Code) : Type 0 where
   pub first : Stands k p.first q.first
   pub second : Stands k p.second q.second
   pub live : (n : ℕ) → 0 < words_of q n → there (at x n) ≡ true
   pub place : At k j x p.todo q.temp q.todo
 
-abbrev pub parts : Parts HeapValue Block ℕ Program Code ℕ ℕ ℕ ℕ ℕ
+abbrev pub parts : Parts HeapValue Block Form ℕ Program Code ℕ ℕ ℕ ℕ ℕ
 parts = record {
   contents = contents;
   program = program;
@@ -141,14 +142,14 @@ parts = record {
 
 -- ---- what a process holds
 
-not_free : (k : Facts Block) (v : Value) (ws : List Word) (q : ℕ) → Stands k v ws → 0 < in_words ws q → Free k q → ⊥
+not_free : (k : Facts Block Form) (v : Value) (ws : List Word) (q : ℕ) → Stands k v ws → 0 < in_words ws q → Free k q → ⊥
 not_free k v ws q s p f = covers_not_free k _ q f (from k v ws q s p)
 
-value_holds : (k : Facts Block) (who : ℕ → Type 0) (x : Heap Block) (v : Value) (ws : List Word) → Stands k v ws → ((q : ℕ) → 0 < in_words ws q → there (at x q) ≡ true) → Holds k who (blocks contents x) (in_value v) (in_words ws)
+value_holds : (k : Facts Block Form) (who : ℕ → Type 0) (x : Heap Block) (v : Value) (ws : List Word) → Stands k v ws → ((q : ℕ) → 0 < in_words ws q → there (at x q) ≡ true) → Holds k who (blocks contents x) (in_value v) (in_words ws)
 value_holds k who x v ws s live = words_hold contents k who x (in_value v) (in_words ws) live (λ q p. from k v ws q s p) (λ m p. let t = to k v ws m s p in (t.block, t.named, t.stands))
 
 -- the word of a new block
-temp_holds : (k : Facts Block) (j : ℕ) (x : Heap Block) (n : ℕ) → IsNew k j x n → Holds k (λ i. i ≡ j) (blocks contents x) (λ m. 0) (one (Some n))
+temp_holds : (k : Facts Block Form) (j : ℕ) (x : Heap Block) (n : ℕ) → IsNew k j x n → Holds k (λ i. i ≡ j) (blocks contents x) (λ m. 0) (one (Some n))
 temp_holds k j x n new = record {
   same = record {
     own = one (Some n);
@@ -168,14 +169,14 @@ temp_holds k j x n new = record {
     has : (q : ℕ) → 0 < one (Some n) q → at x q ≡ Some blank
     has q p = ap (at x) (is q p) ∙ new.now
 
-no_temp : (k : Facts Block) (j : ℕ) (x : Heap Block) → Holds k (λ i. i ≡ j) (blocks contents x) (λ m. 0) (one None)
+no_temp : (k : Facts Block Form) (j : ℕ) (x : Heap Block) → Holds k (λ i. i ≡ j) (blocks contents x) (λ m. 0) (one None)
 no_temp k j x = words_hold contents k _ x (λ m. 0) (one None) (λ q p. absurd (omega arith)) (λ q p. absurd (omega arith)) (λ m p. absurd (omega arith))
 
-place_holds : (k : Facts Block) (j : ℕ) (x : Heap Block) (ops : Ops) (t : Option ℕ) (is : Instrs) → At k j x ops t is → Holds k (λ i. i ≡ j) (blocks contents x) (λ m. 0) (one t)
+place_holds : (k : Facts Block Form) (j : ℕ) (x : Heap Block) (ops : Ops) (t : Option ℕ) (is : Instrs) → At k j x ops t is → Holds k (λ i. i ≡ j) (blocks contents x) (λ m. 0) (one t)
 place_holds k j x ops t is begins = no_temp k j x
 place_holds k j x ops t is (fills {n = n} new) = temp_holds k j x n new
 
-ready_holds : (k : Facts Block) (j : ℕ) (x : Heap Block) (p : Program) (q : Code) → IsReady k j x p q → Holds k (λ n. n ≡ j) (blocks contents x) (names_of p) (words_of q)
+ready_holds : (k : Facts Block Form) (j : ℕ) (x : Heap Block) (p : Program) (q : Code) → IsReady k j x p q → Holds k (λ n. n ≡ j) (blocks contents x) (names_of p) (words_of q)
 ready_holds k j x p q r =
     subst (λ f. Holds k (λ n. n ≡ j) (blocks contents x) f (words_of q)) (fun_ext (λ n. sum (in_value p.first n) (in_value p.second n)))
     (holds_pair k _ (blocks contents x) _ _ (λ m. 0) (one q.temp)
@@ -187,14 +188,14 @@ ready_holds k j x p q r =
     sum : (a b : ℕ) → a + b + 0 ≡ a + b
     sum a b = omega arith
 
-place_stays : (k k' : Facts Block) (j : ℕ) (x x' : Heap Block) (ops : Ops) (t : Option ℕ) (is : Instrs) → Leaves j k k' x x' → ((n : ℕ) → 0 < one t n → there (at x' n) ≡ true) → At k j x ops t is → At k' j x' ops t is
+place_stays : (k k' : Facts Block Form) (j : ℕ) (x x' : Heap Block) (ops : Ops) (t : Option ℕ) (is : Instrs) → Leaves j k k' x x' → ((n : ℕ) → 0 < one t n → there (at x' n) ≡ true) → At k j x ops t is → At k' j x' ops t is
 place_stays k k' j x x' ops t is l live begins = begins
 place_stays k k' j x x' ops t is l live (fills {n = n} new) = elim (l.free n (subst IsFree (sym new.unknown) tt) new.mine) [
-  | inl s ↦ fills (record { unknown = s.0 ∙ new.unknown; mine = l.grows.makers n j new.mine; now = s.1 ∙ new.now })
+  | inl s ↦ fills (record { unknown = s.0 ∙ new.unknown; form = l.grows.forms n Adt new.form; mine = l.grows.makers n j new.mine; now = s.1 ∙ new.now })
   | inr s ↦ absurd (let e : there (at x' n) ≡ true = live n (let y = one_same n in omega arith) in let z : false ≡ true = sym (ap there s.1) ∙ e in cc)
 ]
 
-ready_stays : (k k' : Facts Block) (j : ℕ) (x x' : Heap Block) (p : Program) (q : Code) → IsReady k j x p q → Leaves j k k' x x' → Holds k' (λ n. n ≡ j) (blocks contents x') (names_of p) (words_of q) → IsReady k' j x' p q
+ready_stays : (k k' : Facts Block Form) (j : ℕ) (x x' : Heap Block) (p : Program) (q : Code) → IsReady k j x p q → Leaves j k k' x x' → Holds k' (λ n. n ≡ j) (blocks contents x') (names_of p) (words_of q) → IsReady k' j x' p q
 ready_stays k k' j x x' p q r l h = record {
   first = stands_grows k k' l.grows p.first q.first r.first;
   second = stands_grows k k' l.grows p.second q.second r.second;
@@ -202,7 +203,7 @@ ready_stays k k' j x x' p q r l h = record {
   place = place_stays k k' j x x' p.todo q.temp q.todo l (λ n u. h.same.live n (omega arith)) r.place;
 }
 
-no_change : (these : ℕ → Type 0) (k : Facts Block) (x : Heap Block) → Changes these k k x x
+no_change : (these : ℕ → Type 0) (k : Facts Block Form) (x : Heap Block) → Changes these k k x x
 no_change these k x = record { grows = grows_same k; there = λ q b e. (b, e); free = λ q j f m ne. (refl, refl); carriers = λ q d e. refl }
 
 -- ---- what one instruction owes
@@ -235,10 +236,10 @@ set_length [] n a = refl
 set_length (o ∷ os) zero a = refl
 set_length (o ∷ os) (suc n) a = ap suc (set_length os n a)
 
-pub M : Facts Block → ℕ → W → X → Program → Code → Effect X Code ℕ ℕ ℕ → Type 0
+pub M : Facts Block Form → ℕ → W → X → Program → Code → Effect X Code ℕ ℕ ℕ → Type 0
 M k i w x p q e = Matches (sides parts) place (place q) k i w x p e
 
-module _ (k : Facts Block) (i : ℕ) (w : W) (x : X) (a b : Value) (fa fb : List Word) (s : WorldsAlike contents k w.heap x.heap) (same : w.outside ≡ x.outside) (first : Stands k a fa) (second : Stands k b fb) where
+module _ (k : Facts Block Form) (i : ℕ) (w : W) (x : X) (a b : Value) (fa fb : List Word) (s : WorldsAlike contents k w.heap x.heap) (same : w.outside ≡ x.outside) (first : Stands k a fa) (second : Stands k b fb) where
   abbrev P : Ops → Program
   P ops = record { first = a; second = b; todo = ops }
 
@@ -306,10 +307,10 @@ module _ (k : Facts Block) (i : ℕ) (w : W) (x : X) (a b : Value) (fa fb : List
       first = stands_grows k k' g a fa first;
       second = stands_grows k k' g b fb second;
       live = λ q l. lives q l;
-      place = fills (record { unknown = u.fact; mine = maker_is k n i; now = sets.here });
+      place = fills (record { unknown = u.fact; form = form_is k n i (Some Adt); mine = maker_is k n i (Some Adt); now = sets.here });
     };
     worlds = (
-      maker_world contents k n i w.heap x' u.maker more
+      maker_world contents k n i (Some Adt) w.heap x' u more
           (set_free contents k w.heap x.heap x' n blank s (subst IsFree (sym u.fact) tt) (omega (arith, last_length x.heap blank)) more sets (λ q p. absurd (omega arith)) (λ q f p. absurd (omega arith))),
       same,
     );
@@ -322,8 +323,8 @@ module _ (k : Facts Block) (i : ℕ) (w : W) (x : X) (a b : Value) (fa fb : List
       x' : Heap Block
       x' = with_last x.heap blank
 
-      k' : Facts Block
-      k' = with_maker k n i
+      k' : Facts Block Form
+      k' = with_maker k n i (Some Adt)
 
       more : n < length x'
       more = omega (arith, last_length x.heap blank)
@@ -332,7 +333,7 @@ module _ (k : Facts Block) (i : ℕ) (w : W) (x : X) (a b : Value) (fa fb : List
       u = s.unmade n (omega arith)
 
       g : Grows k k'
-      g = maker_grows k n i u.maker
+      g = maker_grows k n i (Some Adt) u
 
       sets : Sets x.heap x' n (Some blank)
       sets = last_sets x.heap blank
@@ -371,7 +372,7 @@ module _ (k : Facts Block) (i : ℕ) (w : W) (x : X) (a b : Value) (fa fb : List
     worlds = (
       name_it contents k now w.heap w' x' m n (ref_adt b) (filled fb)
           (set_free contents k w.heap x.heap x' n (filled fb) s (subst IsFree (sym new.unknown) tt) (omega (arith, set_length x.heap n (filled fb))) bound sets (λ q p. live q (omega arith)) (λ q f p. absurd (not_free k b fb q second p f)))
-          learns sets.here (record { kind = refl; words = ([], fb, [], tt, sym (append-nil fb), stands_grows k now g b fb second, tt) })
+          learns sets.here (record { form = g.forms n Adt new.form; kind = refl; words = ([], fb, [], tt, sym (append-nil fb), stands_grows k now g b fb second, tt) })
           (omega arith) (omega (arith, last_length w.heap (ref_adt b))) (last_sets w.heap (ref_adt b)),
       same,
     );
@@ -390,7 +391,7 @@ module _ (k : Facts Block) (i : ℕ) (w : W) (x : X) (a b : Value) (fa fb : List
       fresh : (q : ℕ) → Is k m q → ⊥
       fresh q e = s.unnamed m q (omega arith) e
 
-      now : Facts Block
+      now : Facts Block Form
       now = with_name k n m fresh
 
       learns : Learns k now n (Named m)
@@ -417,7 +418,7 @@ module _ (k : Facts Block) (i : ℕ) (w : W) (x : X) (a b : Value) (fa fb : List
 
 -- ---- the law
 
-pub rooted : (k : Facts Block) (i : ℕ) (x : X) (d : Doing Program ℕ) (e : Doing Code ℕ) → StandsAlike (sides parts) k i x (Some d) (Some e) → Holds k (λ j. j ≡ i) (blocks contents x.heap) (names (sides parts).naming d) (names (sides parts).code_naming e)
+pub rooted : (k : Facts Block Form) (i : ℕ) (x : X) (d : Doing Program ℕ) (e : Doing Code ℕ) → StandsAlike (sides parts) k i x (Some d) (Some e) → Holds k (λ j. j ≡ i) (blocks contents x.heap) (names (sides parts).naming d) (names (sides parts).code_naming e)
 rooted k i x (Ready p) (Ready q) r = ready_holds k i x.heap p q r
 rooted k i x Gone Gone r = no_temp k i x.heap
 rooted k i x (Ready p) Gone r = absurd r
@@ -441,7 +442,7 @@ rooted k i x Gone (Ready q) r = absurd r
 rooted k i x Gone (Waiting cs q) r = absurd r
 rooted k i x Gone (Asking q) r = absurd r
 
-pub keeps : (k now : Facts Block) (i : ℕ) (x x' : X) (d : Doing Program ℕ) (e : Doing Code ℕ) → StandsAlike (sides parts) k i x (Some d) (Some e) → Leaves i k now x.heap x'.heap
+pub keeps : (k now : Facts Block Form) (i : ℕ) (x x' : X) (d : Doing Program ℕ) (e : Doing Code ℕ) → StandsAlike (sides parts) k i x (Some d) (Some e) → Leaves i k now x.heap x'.heap
     → Holds now (λ j. j ≡ i) (blocks contents x'.heap) (names (sides parts).naming d) (names (sides parts).code_naming e) → StandsAlike (sides parts) now i x' (Some d) (Some e)
 keeps k now i x x' (Ready p) (Ready q) r l h = ready_stays k now i x.heap x'.heap p q r l h
 keeps k now i x x' Gone Gone r l h = tt
@@ -449,11 +450,11 @@ keeps k now i x x' (Waiting bs p) (Waiting cs q) r l h = absurd r
 keeps k now i x x' (Asking p) (Asking q) r l h = absurd r
 keeps k now i x x' _ _ r l h = absurd r
 
-pub within_two : (k : Facts Block) (i : ℕ) (x : Heap Block) (ops : Ops) (t : Option ℕ) (is : Instrs) → At k i x ops t is → filling t < 2
+pub within_two : (k : Facts Block Form) (i : ℕ) (x : Heap Block) (ops : Ops) (t : Option ℕ) (is : Instrs) → At k i x ops t is → filling t < 2
 within_two k i x ops t is begins = omega arith
 within_two k i x ops t is (fills new) = omega arith
 
-pub each : (k : Facts Block) (i : ℕ) (w : W) (x : X) (p : Program) (q : Code) → IsReady k i x.heap p q → WorldsAlike contents k w.heap x.heap → w.outside ≡ x.outside → M k i w x p q (obeys x q.first q.second q.temp q.todo)
+pub each : (k : Facts Block Form) (i : ℕ) (w : W) (x : X) (p : Program) (q : Code) → IsReady k i x.heap p q → WorldsAlike contents k w.heap x.heap → w.outside ≡ x.outside → M k i w x p q (obeys x q.first q.second q.temp q.todo)
 each k i w x p q r s same = each_at k i w x p.first p.second q.first q.second s same r.first r.second p.todo q.temp q.todo r.place r.live
 
 unfoldable pub follows : Follows (sides parts)
@@ -475,6 +476,6 @@ follows = record {
 
 -- Every journal of the code is a run of the program, with the same released, and of two instructions in a row of one process one is
 -- a step.
-pub law : (k : Facts Block) (w : W) (x : X) (p : Program) (q : Code) → IsReady k 0 x.heap p q → WorldsAlike contents k w.heap x.heap → w.outside ≡ x.outside → Still (sides parts).naming (names_of p) w → EveryJournal (sides parts) k w x p q 2
+pub law : (k : Facts Block Form) (w : W) (x : X) (p : Program) (q : Code) → IsReady k 0 x.heap p q → WorldsAlike contents k w.heap x.heap → w.outside ≡ x.outside → Still (sides parts).naming (names_of p) w → EveryJournal (sides parts) k w x p q 2
 unfolding follows
 law k w x p q r s same st = every_journal (sides parts) follows k w x p q r (s, same) st

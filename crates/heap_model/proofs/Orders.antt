@@ -7,7 +7,7 @@ use Rattle.process_model.specs.Law.{Beside, begins_code}
 use Rattle.heap_model.specs.Facts.{Fact, Named, Facts}
 use Rattle.heap_model.specs.Worlds.{WorldsAlike}
 use Rattle.heap_model.specs.Joined.{World, sides}
-use Rattle.heap_model.proofs.Values.{Num, Plain, Block, contents}
+use Rattle.heap_model.proofs.Values.{Num, Plain, Form, Block, contents}
 use Rattle.heap_model.proofs.Makers.{Ops, Done, Make, Fork, Program, Code, code_of, W, X, program, code, parts, IsReady, begins, law}
 
 -- it starts a child that makes a value, makes one itself, lets it go for a second one, and both end
@@ -65,12 +65,12 @@ source_run = refl
 pub no_two : (m n n' : ℕ) → ◌≡◌ {A = Option (Fact Block)} None (Some (Named m)) → ◌≡◌ {A = Option (Fact Block)} None (Some (Named m)) → n ≡ n'
 no_two m n n' e f = absurd cc
 
-abbrev pub nothing_known : Facts Block
-nothing_known = record { fact = λ n. None; maker = λ n. None; long = λ n. None; once = no_two }
+abbrev pub nothing_known : Facts Block Form
+nothing_known = record { fact = λ n. None; maker = λ n. None; form = λ n. None; once = no_two }
 
 empty_alike : WorldsAlike contents nothing_known [] []
 empty_alike = record {
-  unmade = λ n l. record { fact = refl; maker = refl; long = refl };
+  unmade = λ n l. record { fact = refl; maker = refl; form = refl };
   unnamed = λ m n l e. cc;
   there = λ m v e. absurd cc;
   here = λ m n b e f. absurd cc;

@@ -11,7 +11,7 @@ is_or : (b : Bool) → (b ≡ true) ⊎ (b ≡ false)
 is_or true = inl refl
 is_or false = inr refl
 
-pub covers_more : {B : Type 0} (k : Facts B) (some other : ℕ → Type 0) (q : ℕ) → ((m : ℕ) → some m → other m) → Covers k some q → Covers k other q
+pub covers_more : {B F : Type 0} (k : Facts B F) (some other : ℕ → Type 0) (q : ℕ) → ((m : ℕ) → some m → other m) → Covers k some q → Covers k other q
 covers_more k some other q f (refers m n r) = refers m (f m n) r
 covers_more k some other q f (chars t e) = chars t e
 
@@ -19,7 +19,7 @@ more_true : (b : Bool) (n : ℕ) → b ≡ true → 0 < n → 0 < times b n
 more_true true n e p = p
 more_true false n e p = absurd cc
 
-module _ {B : Type 0} (k : Facts B) (g h : Graph) (names words : ℕ → ℕ) (heaps : SameHeaps k g h) (roots : SameRoots k h names words) (sources blocks : ℕ → Bool) (gs : IsKept g names sources) (hs : IsKept h words blocks) where
+module _ {B F : Type 0} (k : Facts B F) (g h : Graph) (names words : ℕ → ℕ) (heaps : SameHeaps k g h) (roots : SameRoots k h names words) (sources blocks : ℕ → Bool) (gs : IsKept g names sources) (hs : IsKept h words blocks) where
   same : (m n : ℕ) → Is k m n → sources m ≡ blocks n
   same = stay_alike k g h names words heaps roots sources blocks gs hs
 
@@ -88,7 +88,7 @@ module _ {B : Type 0} (k : Facts B) (g h : Graph) (names words : ℕ → ℕ) (h
   settles = record { heaps = heaps_after; roots = roots_after names words roots (λ q p. p); gone = gone_after }
 
 -- nothing is held
-unfoldable pub holds_none : {B : Type 0} (k : Facts B) (h : Graph) → SameRoots k h (λ n. 0) (λ n. 0)
+unfoldable pub holds_none : {B F : Type 0} (k : Facts B F) (h : Graph) → SameRoots k h (λ n. 0) (λ n. 0)
 holds_none k h = record {
   own = λ q. 0;
   roots = λ q p. p;
@@ -103,16 +103,16 @@ either : (a b : ℕ) → 0 < a + b → (0 < a) ⊎ (0 < b)
 either zero b p = inr (omega arith)
 either (suc a) b p = inl (omega arith)
 
-chain_more : {B : Type 0} (k : Facts B) (h : Graph) (w w' : ℕ → ℕ) → ((q : ℕ) → 0 < w q → 0 < w' q) → (q : ℕ) → Chain k h w q → Chain k h w' q
+chain_more : {B F : Type 0} (k : Facts B F) (h : Graph) (w w' : ℕ → ℕ) → ((q : ℕ) → 0 < w q → 0 < w' q) → (q : ℕ) → Chain k h w q → Chain k h w' q
 chain_more k h w w' f q (word p) = word (f q p)
 chain_more k h w w' f q (next {a = a} c e l u) = next (chain_more k h w w' f a c) e l u
 
-free_or_more : {B : Type 0} (k : Facts B) (some other : ℕ → Type 0) (q : ℕ) → ((m : ℕ) → some m → other m) → Inner k q ⊎ Covers k some q → Inner k q ⊎ Covers k other q
+free_or_more : {B F : Type 0} (k : Facts B F) (some other : ℕ → Type 0) (q : ℕ) → ((m : ℕ) → some m → other m) → Inner k q ⊎ Covers k some q → Inner k q ⊎ Covers k other q
 free_or_more k some other q f (inl x) = inl x
 free_or_more k some other q f (inr c) = inr (covers_more k some other q f c)
 
 -- what two hold, together
-pub holds_both : {B : Type 0} (k : Facts B) (h : Graph) (n1 w1 n2 w2 : ℕ → ℕ) → SameRoots k h n1 w1 → SameRoots k h n2 w2 → SameRoots k h (λ n. n1 n + n2 n) (λ n. w1 n + w2 n)
+pub holds_both : {B F : Type 0} (k : Facts B F) (h : Graph) (n1 w1 n2 w2 : ℕ → ℕ) → SameRoots k h n1 w1 → SameRoots k h n2 w2 → SameRoots k h (λ n. n1 n + n2 n) (λ n. w1 n + w2 n)
 holds_both k h n1 w1 n2 w2 a b = record {
   own = λ q. a.own q + b.own q;
   roots = λ q p. elim (either (w1 q) (w2 q) p) [ inl x ↦ let y = a.roots q x in omega arith | inr x ↦ let y = b.roots q x in omega arith ];
@@ -133,23 +133,23 @@ holds_both k h n1 w1 n2 w2 a b = record {
 }
 
 -- what the same processes hold, together
-pub holds_pair : {B : Type 0} (k : Facts B) (who : ℕ → Type 0) (h : Graph) (n1 w1 n2 w2 : ℕ → ℕ) → Holds k who h n1 w1 → Holds k who h n2 w2 → Holds k who h (λ n. n1 n + n2 n) (λ n. w1 n + w2 n)
+pub holds_pair : {B F : Type 0} (k : Facts B F) (who : ℕ → Type 0) (h : Graph) (n1 w1 n2 w2 : ℕ → ℕ) → Holds k who h n1 w1 → Holds k who h n2 w2 → Holds k who h (λ n. n1 n + n2 n) (λ n. w1 n + w2 n)
 unfolding holds_both
 holds_pair k who h n1 w1 n2 w2 a b = record {
   same = holds_both k h n1 w1 n2 w2 a.same b.same;
   mine = λ q p f. elim (either (a.same.own q) (b.same.own q) p) [ inl x ↦ a.mine q x f | inr x ↦ b.mine q x f ];
 }
 
-pub refers_grows : {B : Type 0} (k k' : Facts B) (m q : ℕ) → Grows k k' → Refers k m q → Refers k' m q
+pub refers_grows : {B F : Type 0} (k k' : Facts B F) (m q : ℕ) → Grows k k' → Refers k m q → Refers k' m q
 refers_grows k k' m q g (itself e) = itself (g.facts q (Named m) e)
 refers_grows k k' m q g (slice s l e) = slice s l (g.facts q (Part m s l) e)
 
-pub covers_grows : {B : Type 0} (k k' : Facts B) (named : ℕ → Type 0) (q : ℕ) → Grows k k' → Covers k named q → Covers k' named q
+pub covers_grows : {B F : Type 0} (k k' : Facts B F) (named : ℕ → Type 0) (q : ℕ) → Grows k k' → Covers k named q → Covers k' named q
 covers_grows k k' named q g (refers m n r) = refers m n (refers_grows k k' m q g r)
 covers_grows k k' named q g (chars t e) = chars t (g.facts q (Chars t) e)
 
 -- a step of process i leaves what other processes hold
-pub holds_on : {B : Type 0} (these who : ℕ → Type 0) (k k' : Facts B) (h h' : Graph) (names words : ℕ → ℕ) → ((j : ℕ) → who j → these j → ⊥) → LeavesAlone these k k' h h' → Holds k who h names words → Holds k' who h' names words
+pub holds_on : {B F : Type 0} (these who : ℕ → Type 0) (k k' : Facts B F) (h h' : Graph) (names words : ℕ → ℕ) → ((j : ℕ) → who j → these j → ⊥) → LeavesAlone these k k' h h' → Holds k who h names words → Holds k' who h' names words
 holds_on {B = B} these who k k' h h' names words ne leaves holds =
     let s = holds.same in
     record {

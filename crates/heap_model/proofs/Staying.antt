@@ -55,7 +55,7 @@ module _ {A : Type 0} (inside : A → ℕ → ℕ) (roots : ℕ → ℕ) (h : He
 pub what_stays : (A : Type 0) → WhatStays A
 what_stays A = record { greatest = greatest; gone = exactly; reached = reached }
 
-pub heaps_join : {V B O P Q D U M A H : Type 0} (a : Parts V B O P Q D U M A H) → HeapsJoin a
+pub heaps_join : {V B F O P Q D U M A H : Type 0} (a : Parts V B F O P Q D U M A H) → HeapsJoin a
 heaps_join a on = heaps a on
 
 pub quiet_steps : (V O P D M A H : Type 0) → QuietSteps V O P D M A H

@@ -63,7 +63,7 @@ abbrev mutual
 
 pub data Form : Type 0 where
   Adt : Form
-  Elements : Form
+  Elements : (long : ℕ) → Form
   Cell : Form
 
 pub data Kind : Type 0 where
@@ -86,7 +86,7 @@ IsPlain (Refer r ∷ ws) = ⊥
 IsPlain (Plain z ∷ ws) = IsPlain ws
 IsPlain (Address p z ∷ ws) = IsPlain ws
 
-module _ (k : Facts Block) where
+module _ (k : Facts Block Form) where
   abbrev pub TextIs : List ℕ → Option ℕ → Type 0
   TextIs [] None = Unit {0}
   TextIs (c ∷ t) None = ⊥
@@ -99,7 +99,7 @@ module _ (k : Facts Block) where
 
   -- the whole of an array is its block, or a slice of it
   pub data ExtentIs (e : Extent) (q : ℕ) : Type 0 where
-    whole : Is k e.name q → e.start ≡ 0 → k.long q ≡ Some e.length → ExtentIs e q
+    whole : Is k e.name q → e.start ≡ 0 → k.form q ≡ Some (Elements e.length) → ExtentIs e q
     some : k.fact q ≡ Some (Part e.name e.start e.length) → ExtentIs e q
 
   abbrev pub ArrIs : Option Extent → Option ℕ → Type 0
@@ -150,7 +150,7 @@ either (suc a) b p = inl (omega arith)
 single : (r : Option ℕ) (ws : List Word) (n : ℕ) → ws ≡ Refer r ∷ [] → in_words ws n ≡ one r n
 single r ws n e = ap (λ l. in_words l n) e ∙ omega arith
 
-module _ (k : Facts Block) where
+module _ (k : Facts Block Form) where
   -- a reference of the machine, from one of the source
   pub record To (m : ℕ) (ws : List Word) : Type 0 where
     pub block : ℕ
@@ -230,7 +230,7 @@ module _ (k : Facts Block) where
       | inr x ↦ covers_more k _ _ q (λ m y. omega arith) (from_all vs rest q t x)
     ]
 
-module _ (k k' : Facts Block) (g : Grows k k') where
+module _ (k k' : Facts Block Form) (g : Grows k k') where
   text_grows : (t : List ℕ) (r : Option ℕ) → TextIs k t r → TextIs k' t r
   text_grows [] None s = tt
   text_grows (c ∷ t) None s = absurd s
@@ -244,7 +244,7 @@ module _ (k k' : Facts Block) (g : Grows k k') where
   ref_grows (Some m) None s = absurd s
 
   extent_grows : (e : Extent) (q : ℕ) → ExtentIs k e q → ExtentIs k' e q
-  extent_grows e q (whole i s l) = whole (g.facts q (Named e.name) i) s (g.lengths q e.length l)
+  extent_grows e q (whole i s l) = whole (g.facts q (Named e.name) i) s (g.forms q (Elements e.length) l)
   extent_grows e q (some f) = some (g.facts q (Part e.name e.start e.length) f)
 
   arr_grows : (o : Option Extent) (r : Option ℕ) → ArrIs k o r → ArrIs k' o r
@@ -266,14 +266,15 @@ module _ (k k' : Facts Block) (g : Grows k k') where
     all_grow (More v vs) ws (pad, us, rest, plain, e, s, t) = (pad, us, rest, plain, e, stands_grows v us s, all_grow vs rest t)
 
 -- a block stands for a heap value
-pub record BlockStands (k : Facts Block) (v : HeapValue) (b : Block) : Type 0 where
+pub record BlockStands (k : Facts Block Form) (n : ℕ) (v : HeapValue) (b : Block) : Type 0 where
+  pub form : k.form n ≡ Some v.form
   pub kind : b.kind ≡ Formed v.form
   pub words : StandAll k v.parts b.words
 
 pub part_is : (q n : ℕ) → 0 < one (Some q) n + 0 → q ≡ n
 part_is q n p = let z : Some q ≡ Some n = one_is (Some q) n (omega arith) in cc
 
-abbrev pub contents : Contents HeapValue Block
+abbrev pub contents : Contents HeapValue Block Form
 contents = record {
   inside = λ v. in_values v.parts;
   words = λ b. in_words b.words;
@@ -283,7 +284,7 @@ contents = record {
   text_names = λ t n. refl;
   part_names = λ start length q. let y = one_same q in omega arith;
   part_only = λ start length q n p. part_is q n p;
-  grows = λ k k' v b g s. record { kind = s.kind; words = all_grow k k' g v.parts b.words s.words };
-  to = λ k v b m s p. let t = to_all k v.parts b.words m s.words p in (t.block, t.named, t.stands);
-  from = λ k v b q s p. from_all k v.parts b.words q s.words p;
+  grows = λ k k' n v b g s. record { form = g.forms n v.form s.form; kind = s.kind; words = all_grow k k' g v.parts b.words s.words };
+  to = λ k n v b m s p. let t = to_all k v.parts b.words m s.words p in (t.block, t.named, t.stands);
+  from = λ k n v b q s p. from_all k v.parts b.words q s.words p;
 }

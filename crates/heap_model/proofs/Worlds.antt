@@ -11,8 +11,8 @@ use Rattle.heap_model.proofs.Heap.{there_is, there_of, part, stays_is, stays_at,
 use Rattle.heap_model.proofs.Alike.{stay_alike}
 use Rattle.heap_model.proofs.Settle.{settles, holds_after}
 
-module _ {V B : Type 0} (c : Contents V B) where
-  pub same_heaps : (k : Facts B) (w : Heap V) (x : Heap B) → WorldsAlike c k w x → SameHeaps k (values c w) (blocks c x)
+module _ {V B F : Type 0} (c : Contents V B F) where
+  pub same_heaps : (k : Facts B F) (w : Heap V) (x : Heap B) → WorldsAlike c k w x → SameHeaps k (values c w) (blocks c x)
   same_heaps k w x s = record {
     there = λ m e. let v = there_is (at w m) e in let t = s.there m v.0 v.1 in (t.0, t.2, there_of (at x t.0) t.1 t.3);
     here = λ m n e l. let b = there_is (at x n) l in let v = s.here m n b.0 e b.1 in there_of (at w m) v.0 v.1;
@@ -21,7 +21,7 @@ module _ {V B : Type 0} (c : Contents V B) where
         let t = s.there m v.0 v.1 in
         let same : t.0 ≡ n = k.once m t.0 n t.2 e in
         let y : 0 < c.inside v.0 m' = subst (λ o. 0 < in_one c.inside o m') v.1 u in
-        let r = c.to k v.0 t.1 m' t.4 y in
+        let r = c.to k t.0 v.0 t.1 m' t.4 y in
         (r.0, subst (λ o. 0 < in_one c.words o r.0) (sym (sym (ap (at x) same) ∙ t.3)) r.1, r.2);
     from = λ m n q e l u.
         let b = there_is (at x n) l in
@@ -30,7 +30,7 @@ module _ {V B : Type 0} (c : Contents V B) where
         let same : t.0 ≡ n = k.once m t.0 n t.2 e in
         let is : at x n ≡ Some t.1 = sym (ap (at x) same) ∙ t.3 in
         let y : 0 < c.words t.1 q = subst (λ o. 0 < in_one c.words o q) is u in
-        subst (λ o. Covers k (λ m'. 0 < in_one c.inside o m') q) (sym v.1) (c.from k v.0 t.1 q t.4 y);
+        subst (λ o. Covers k (λ m'. 0 < in_one c.inside o m') q) (sym v.1) (c.from k t.0 v.0 t.1 q t.4 y);
     parts = λ q m st l f e.
         let b = there_is (at x q) e in
         let p = s.parts q m st l b.0 f b.1 in
@@ -64,7 +64,7 @@ stays_there : {A : Type 0} (o : Option A) (b : Bool) (v : A) → b ≡ true → 
 stays_there o true v b e = e
 stays_there o false v b e = absurd cc
 
-module _ {V B : Type 0} (c : Contents V B) (k : Facts B) (w : Heap V) (x : Heap B) (names words : ℕ → ℕ) (alike : WorldsAlike c k w x) (roots : SameRoots k (blocks c x) names words) where
+module _ {V B F : Type 0} (c : Contents V B F) (k : Facts B F) (w : Heap V) (x : Heap B) (names words : ℕ → ℕ) (alike : WorldsAlike c k w x) (roots : SameRoots k (blocks c x) names words) where
   abbrev sources : ℕ → Bool
   sources = part c.inside names w
 

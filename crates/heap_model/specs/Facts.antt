@@ -11,33 +11,33 @@ pub data Fact (B : Type 0) : Type 0 where
   Bare : Fact B
   Carrier : B → Fact B
 
--- What is known of blocks by their serials: what each stands for, which process made it, and how long an array is. Of a block
--- without a fact it is open what it will stand for. A heap value has one block.
-pub record Facts (B : Type 0) : Type 0 where
+-- What is known of blocks by their serials: what each stands for, which process made it, and of which form the block of a heap value
+-- is, so how its words are read. Of a block without a fact it is open what it will stand for. A heap value has one block.
+pub record Facts (B F : Type 0) : Type 0 where
   pub fact : ℕ → Option (Fact B)
   pub maker : ℕ → Option ℕ
-  pub long : ℕ → Option ℕ
+  pub form : ℕ → Option F
   pub once : (m n n' : ℕ) → fact n ≡ Some (Named m) → fact n' ≡ Some (Named m) → n ≡ n'
 
 -- Nothing is known of this block.
-pub record IsUnmade {B : Type 0} (k : Facts B) (n : ℕ) : Type 0 where
+pub record IsUnmade {B F : Type 0} (k : Facts B F) (n : ℕ) : Type 0 where
   pub fact : k.fact n ≡ None
   pub maker : k.maker n ≡ None
-  pub long : k.long n ≡ None
+  pub form : k.form n ≡ None
 
 -- The second knows all that the first knows.
-pub record Grows {B : Type 0} (a b : Facts B) : Type 0 where
+pub record Grows {B F : Type 0} (a b : Facts B F) : Type 0 where
   pub facts : (n : ℕ) (f : Fact B) → a.fact n ≡ Some f → b.fact n ≡ Some f
   pub makers : (n i : ℕ) → a.maker n ≡ Some i → b.maker n ≡ Some i
-  pub lengths : (n l : ℕ) → a.long n ≡ Some l → b.long n ≡ Some l
+  pub forms : (n : ℕ) (o : F) → a.form n ≡ Some o → b.form n ≡ Some o
 
--- The second knows of block n in addition that it stands for this.
-pub record Learns {B : Type 0} (k k' : Facts B) (n : ℕ) (f : Fact B) : Type 0 where
+-- The second knows of block n in addition that it stands for this. Of which form it is was known when it was made.
+pub record Learns {B F : Type 0} (k k' : Facts B F) (n : ℕ) (f : Fact B) : Type 0 where
   pub before : k.fact n ≡ None
   pub now : k'.fact n ≡ Some f
   pub apart : (q : ℕ) → (q ≡ n → ⊥) → k'.fact q ≡ k.fact q
   pub makers : (q : ℕ) → k'.maker q ≡ k.maker q
-  pub lengths : (q : ℕ) → k'.long q ≡ k.long q
+  pub forms : (q : ℕ) → k'.form q ≡ k.form q
 
 -- A fact may mean that the block stands for nothing now.
 abbrev pub IsFree : {B : Type 0} → Option (Fact B) → Type 0
@@ -52,7 +52,7 @@ IsInner (Some Bare) = Unit {0}
 IsInner (Some (Carrier b)) = Unit {0}
 IsInner _ = ⊥
 
-module _ {B : Type 0} (k : Facts B) where
+module _ {B F : Type 0} (k : Facts B F) where
   -- Block n stands for heap value m.
   abbrev pub Is : ℕ → ℕ → Type 0
   Is m n = k.fact n ≡ Some (Named m)

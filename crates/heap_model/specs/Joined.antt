@@ -26,25 +26,25 @@ heap_naming inside names table = record {
 }
 
 -- A block is known once it has a fact. What it is that a value passes as another is told by facts alone.
-abbrev pub heap_map : {B D U : Type 0} → (Facts B → D → U → Type 0) → Renaming (Facts B) D U
+abbrev pub heap_map : {B F D U : Type 0} → (Facts B F → D → U → Type 0) → Renaming (Facts B F) D U
 heap_map value = record { grows = Grows; name = Is; known = λ k n. k.fact n ≡ None → ⊥; value = value }
 
 -- What two languages say for themselves: their rules, what they name, when a value passes as another, and how processes are
 -- related.
-pub record Parts (V B O P Q D U M A H : Type 0) : Type 1 where
-  pub contents : Contents V B
+pub record Parts (V B F O P Q D U M A H : Type 0) : Type 1 where
+  pub contents : Contents V B F
   pub program : Rules (World V O) P D M A H
   pub code : Rules (World B O) Q U M A H
   pub names : P → ℕ → ℕ
   pub table : List (Branch D) → ℕ → ℕ
   pub words : Q → ℕ → ℕ
   pub table_words : List (Branch U) → ℕ → ℕ
-  pub value : Facts B → D → U → Type 0
-  pub ready : Facts B → ℕ → Heap B → P → Q → Type 0
-  pub asking : Facts B → ℕ → Heap B → P → Q → Type 0
-  pub waiting : Facts B → ℕ → Heap B → List (Branch D) → List (Branch U) → P → Q → Type 0
+  pub value : Facts B F → D → U → Type 0
+  pub ready : Facts B F → ℕ → Heap B → P → Q → Type 0
+  pub asking : Facts B F → ℕ → Heap B → P → Q → Type 0
+  pub waiting : Facts B F → ℕ → Heap B → List (Branch D) → List (Branch U) → P → Q → Type 0
 
-abbrev pub sides : {V B O P Q D U M A H : Type 0} → Parts V B O P Q D U M A H → Sides (Facts B) (World V O) (World B O) P Q D U M A H
+abbrev pub sides : {V B F O P Q D U M A H : Type 0} → Parts V B F O P Q D U M A H → Sides (Facts B F) (World V O) (World B O) P Q D U M A H
 sides a = record {
   map = heap_map a.value;
   program = a.program;

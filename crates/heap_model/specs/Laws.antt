@@ -54,9 +54,9 @@ pub record WhatStays (A : Type 0) : Type 0 where
   pub reached : (inside : A → ℕ → ℕ) (roots : ℕ → ℕ) (h : Heap A) → StaysReached inside roots h
 
 -- Two languages whose values pass by facts that stay true have two heaps as the law of many processes asks.
-abbrev pub HeapsJoin : {V B O P Q D U M A H : Type 0} → Parts V B O P Q D U M A H → Type 0
-HeapsJoin {B = B} {D = D} {U = U} a =
-    ((k now : Facts B) (x : D) (y : U) → Grows k now → a.value k x y → a.value now x y) → Heaps (sides a)
+abbrev pub HeapsJoin : {V B F O P Q D U M A H : Type 0} → Parts V B F O P Q D U M A H → Type 0
+HeapsJoin {B = B} {F = F} {D = D} {U = U} a =
+    ((k now : Facts B F) (x : D) (y : U) → Grows k now → a.value k x y → a.value now x y) → Heaps (sides a)
 
 -- A step that lets nothing go by what it changes is quiet, whatever the others name.
 abbrev pub QuietSteps : (V O P D M A H : Type 0) → Type 0

@@ -15,6 +15,8 @@ pub trait TwoHeaps {
 
     ghost block: { Type 0 };
 
+    ghost form: { Type 0 };
+
     ghost outside: { Type 0 };
 
     ghost source_process: { Type 0 };
@@ -31,7 +33,7 @@ pub trait TwoHeaps {
 
     ghost ending: { Type 0 };
 
-    ghost parts: { Parts value block outside source_process process source_passed passed request reply ending };
+    ghost parts: { Parts value block form outside source_process process source_passed passed request reply ending };
 }
 
 /// A source's heap and a machine's, joined by what blocks stand for, are two heaps as the law of many processes asks: what

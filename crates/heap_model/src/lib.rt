@@ -9,9 +9,9 @@
 //! pair of languages.
 //!
 //! `specs/` in the order of reading: `Kept` (what stays, by references alone), `Heap` (the list, and what stays of it, computed),
-//! `Facts` (what blocks stand for), `Alike` (heaps alike by their references, and what is held of both), `Contents` (what two
-//! languages say of values and blocks), `Worlds` (heaps alike, contents and all; what a step may change), `Quiet` (steps that let
-//! nothing go), `Joined` (both as two sides of process_model), `Laws`.
+//! `Facts` (what blocks stand for, and of which form they are), `Alike` (heaps alike by their references, and what is held of both),
+//! `Contents` (what two languages say of values and blocks), `Worlds` (heaps alike, contents and all; what a step may change), `Quiet`
+//! (steps that let nothing go), `Joined` (both as two sides of process_model), `Laws`.
 //!
 //! In `proofs/` what a compiler's proof takes is `Changes` (a value and its block change, a free block changes or comes),
 //! `Growing` (a block comes to stand for something), `Building` (maps with one fact more), `Made` (strings, parts of arrays,

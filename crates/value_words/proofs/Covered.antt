@@ -18,6 +18,7 @@ use Rattle.limbo_meaning.specs.Origins.{Name}
 use Rattle.limbo_meaning.proofs.Names as names
 use Rattle.core_code.proofs.Names.{row_references}
 use Rattle.dis_meaning.specs.Words.{Word, Refer, Found, word_at}
+use Rattle.value_words.specs.Forms.{Form, form_of}
 use Rattle.value_words.specs.Facts.{Facts, IsName, IsPart, IsNamed, IsText}
 use Rattle.value_words.specs.Stands.{Stands, a_number, a_text, a_name, an_array, no_words, a_tuple, an_adt}
 use Rattle.value_words.specs.Stands.{AllStand, none_stand, more_stand}
@@ -40,23 +41,25 @@ module _ (defs : List Def) (facts : Facts) (words : List Word) where
   more_covered ns ms b s (inl h) = inl (h.0, s h.0 h.1, h.2)
   more_covered ns ms b s (inr h) = inr h
 
-  by_name : (r n : Option ℕ) (b : ℕ) → r ≡ Some b → IsName facts r n → IsCovered facts (n ∷ []) b
-  by_name None n b e h = absurd cc
-  by_name (Some c) None b e h = absurd h
-  by_name (Some c) (Some n) b e h =
+  by_name : (asked : Option Form) (r n : Option ℕ) (b : ℕ) → r ≡ Some b → IsName facts asked r n → IsCovered facts (n ∷ []) b
+  by_name asked None n b e h = absurd cc
+  by_name asked (Some c) None b e h = absurd h
+  by_name None (Some c) (Some n) b e h = absurd h
+  by_name (Some form) (Some c) (Some n) b e h =
       let f : c ≡ b = cc in
-      subst (λ (d : ℕ). IsCovered facts (Some n ∷ []) d) f (inl (n, names_it n, inl h))
+      subst (λ (d : ℕ). IsCovered facts (Some n ∷ []) d) f (inl (n, names_it n, inl h.fact))
 
-  by_part : (r : Option ℕ) (p : Option value.Part) (b : ℕ) → r ≡ Some b → IsPart facts r p → IsCovered facts (array_named p ∷ []) b
-  by_part None p b e h = absurd cc
-  by_part (Some c) None b e h = absurd h
-  by_part (Some c) (Some p) b e h =
+  by_part : (t : Ty) (r : Option ℕ) (p : Option value.Part) (b : ℕ) → r ≡ Some b → IsPart facts t r p
+      → IsCovered facts (array_named p ∷ []) b
+  by_part t None p b e h = absurd cc
+  by_part t (Some c) None b e h = absurd h
+  by_part t (Some c) (Some p) b e h =
       let f : c ≡ b = cc in
       subst (λ (d : ℕ). IsCovered facts (Some p.array ∷ []) d) f (inl (p.array, names_it p.array, named h))
     where
-      named : IsPart facts (Some c) (Some p) → IsNamed facts (Some c) (Some p.array)
-      named (inl i) = inl i.0
-      named (inr i) = inr (p.start, (p.long, i))
+      named : IsPart facts t (Some c) (Some p) → IsNamed facts (Some c) (Some p.array)
+      named (inl i) = inl i.0.fact
+      named (inr i) = inr (p.start, (p.long, i.0))
 
   by_text : (r : Option ℕ) (s : List ℕ) (b : ℕ) → r ≡ Some b → IsText facts r s → IsCovered facts [] b
   by_text r s b e h = inr (s, subst (λ (q : Option ℕ). IsText facts q s) e h)
@@ -84,9 +87,9 @@ module _ (defs : List Def) (facts : Facts) (words : List Word) where
     covered _ _ room _ o b l (a_text at r s e i) h g =
         by_text r s b (at_first at r room o b (one_room defs ty.Chars reference room (is_alone ty.Chars reference refl) l) h e g) i
     covered _ _ room _ o b l (a_name at t r n i e j) h g =
-        by_name r n b (at_first at r room o b (one_room defs t reference room (reference_laid defs t i) l) h e g) j
+        by_name (form_of t) r n b (at_first at r room o b (one_room defs t reference room (reference_laid defs t i) l) h e g) j
     covered _ _ room _ o b l (an_array at t r p e i) h g =
-        by_part r p b
+        by_part t r p b
         (at_first at r room o b (one_room defs (ty.ArrayOf t) reference room (is_alone (ty.ArrayOf t) reference refl) l) h e g) i
     covered _ _ room _ o b l (no_words at) h g =
         absurd (subst (λ (x : Room). Has x.references o) (one_room defs ty.Nothing room nothing l (is_alone ty.Nothing nothing refl)) h)

@@ -14,14 +14,15 @@ use Rattle.dis_meaning.specs.Words.{Word, Plain, Refer, Found}
 use Rattle.dis_meaning.specs.Numbers.{number_at}
 use Rattle.heap_model.specs.Facts.{Fact, Named}
 use Rattle.dis_memory.specs.Blocks.{Block}
-use Rattle.value_words.specs.Facts.{Facts}
+use Rattle.value_words.specs.Forms.{Form, Cells, form_of}
+use Rattle.value_words.specs.Facts.{Facts, IsName}
 use Rattle.value_words.specs.Stands.{Stands, a_number, a_text, a_name, an_array, no_words, a_tuple, an_adt, none_stand, more_stand}
 use Rattle.value_words.specs.Contents as contents
 use Rattle.value_words.specs.Contents.{content, AreBlank, IsOfReference, SameBytes, NamesAt, of_tuple, of_byte, of_int, one_name}
 use Rattle.value_words.specs.Contents.{more_names, none_names}
 use Rattle.value_words.proofs.Dropped.{stands_without}
 
--- ---- (byte 7, 5, l), where block 3 stands for a cell of name 9
+-- ---- (byte 7, 5, l), where block 3 stands for a cell of name 9, of a list of ints
 
 abbrev ints_list : Ty
 ints_list = ty.ListOf ty.Int
@@ -42,6 +43,10 @@ abbrev known_of : ℕ → Option (Fact Block)
 known_of (suc (suc (suc zero))) = Some (Named 9)
 known_of b = None
 
+abbrev formed_of : ℕ → Option Form
+formed_of (suc (suc (suc zero))) = Some (Cells ty.Int)
+formed_of b = None
+
 only_three : (n m : ℕ) → known_of n ≡ Some (Named m) → n ≡ 3
 only_three zero m e = absurd cc
 only_three (suc zero) m e = absurd cc
@@ -53,7 +58,7 @@ abbrev known : Facts
 known = record {
   fact = known_of;
   maker = λ b. None;
-  long = λ b. None;
+  form = formed_of;
   once = λ m n n' e f. only_three n m e ∙ sym (only_three n' m f);
 }
 
@@ -73,7 +78,7 @@ three_stand =
     (more_stand 0 (behind nothing (number 1)) ty.Int (ints_list ∷ []) (number 4) (reference ∷ []) (Num (pos 5)) (Ref (Some 9) ∷ [])
     (a_number 4 kind.Int (pos 5) refl (record { above = omega (arith, ints); below = omega (arith, ints) }))
     (more_stand 0 (behind (behind nothing (number 1)) (number 4)) ints_list [] reference [] (Ref (Some 9)) []
-    (a_name 8 ints_list (Some 3) (Some 9) tt refl refl)
+    (a_name 8 ints_list (Some 3) (Some 9) tt refl (record { fact = refl; formed = refl }))
     (none_stand 0 _))))
 
 -- its one name lies at byte 8
@@ -89,6 +94,28 @@ three_named =
 three_without : Stands [] known (Plain (pos 117440512) ∷ Plain (pos 5) ∷ Refer None ∷ []) 0 (ty.Tuple three)
     (Parts (row (Num (pos 7) ∷ Num (pos 5) ∷ Ref None ∷ [])))
 three_without = stands_without [] known words 0 (ty.Tuple three) (Parts (row values)) (8 ∷ []) 0 8 three_stand three_named refl
+
+-- a word that refers to that cell stands for no list of bytes
+bytes_asked : (asked : Option Form) (r n : Option ℕ) → asked ≡ Some (Cells ty.Byte) → n ≡ Some 9 → IsName known asked r n → ⊥
+bytes_asked asked r None e f h = absurd cc
+bytes_asked asked None (Some n) e f h = h
+bytes_asked None (Some b) (Some n) e f h = h
+bytes_asked (Some form) (Some b) (Some n) e f h =
+    let g = only_three b n h.fact in
+    let i : formed_of 3 ≡ Some form = ap formed_of (sym g) ∙ h.formed in
+    let j : Some (Cells ty.Int) ≡ Some (Cells ty.Byte) = i ∙ e in
+    cc
+
+no_bytes_list : (words : List Word) (at : ℕ) (t : Ty) (v : Value) → Stands [] known words at t v → t ≡ ty.ListOf ty.Byte
+    → v ≡ Ref (Some 9) → ⊥
+no_bytes_list words _ _ _ (a_number at k z e i) f g = absurd cc
+no_bytes_list words _ _ _ (a_text at r s e h) f g = absurd cc
+no_bytes_list words _ _ _ (a_name at t r n i e h) f g =
+    bytes_asked (form_of t) r n (ap form_of f) (let j : Ref n ≡ Ref (Some 9) = g in cc) h
+no_bytes_list words _ _ _ (an_array at t r p e h) f g = absurd cc
+no_bytes_list words _ _ _ (no_words at) f g = absurd cc
+no_bytes_list words _ _ _ (a_tuple at ts rs vs l all) f g = absurd cc
+no_bytes_list words _ _ _ (an_adt at n d rs vs e l all) f g = absurd cc
 
 -- memory as it is made for one
 abbrev made : List Word
@@ -121,7 +148,7 @@ none_once : (m n n' : ℕ) → no_facts n ≡ Some (Named m) → no_facts n' ≡
 none_once m n n' e f = absurd cc
 
 abbrev nothing_known : Facts
-nothing_known = record { fact = no_facts; maker = λ b. None; long = λ b. None; once = none_once }
+nothing_known = record { fact = no_facts; maker = λ b. None; form = λ b. None; once = none_once }
 
 -- Where a number stands it is read.
 reads : (words : List Word) (at : ℕ) (t : Ty) (v : Value) → Stands [] nothing_known words at t v → (k : Kind) (z : ℤ) → t ≡ of_kind k

@@ -19,6 +19,7 @@ use Rattle.limbo_meaning.specs.Values.{array_named}
 use Rattle.core_code.proofs.Whole.{values_are_whole}
 use Rattle.core_code.proofs.Names.{row_references}
 use Rattle.dis_meaning.specs.Words.{Word, Refer, Found, word_at}
+use Rattle.value_words.specs.Forms.{Form, form_of}
 use Rattle.value_words.specs.Facts.{Facts, IsName, IsPart, IsNamed}
 use Rattle.value_words.specs.Stands.{IsReference, Stands, a_number, a_text, a_name, an_array, no_words, a_tuple, an_adt}
 use Rattle.value_words.specs.Stands.{AllStand, none_stand, more_stand}
@@ -240,18 +241,19 @@ module _ (defs : List Def) where
       pub word : word_at words (pos (at + o)) ≡ Found (Refer block)
       pub is : IsNamed facts block name
 
-    named_so : (r n : Option ℕ) → IsName facts r n → IsNamed facts r n
-    named_so None None h = tt
-    named_so None (Some n) h = absurd h
-    named_so (Some b) None h = absurd h
-    named_so (Some b) (Some n) h = inl h
+    named_so : (asked : Option Form) (r n : Option ℕ) → IsName facts asked r n → IsNamed facts r n
+    named_so asked None None h = tt
+    named_so asked None (Some n) h = absurd h
+    named_so asked (Some b) None h = absurd h
+    named_so None (Some b) (Some n) h = absurd h
+    named_so (Some f) (Some b) (Some n) h = inl h.fact
 
-    part_so : (r : Option ℕ) (p : Option value.Part) → IsPart facts r p → IsNamed facts r (array_named p)
-    part_so None None h = tt
-    part_so None (Some p) h = absurd h
-    part_so (Some b) None h = absurd h
-    part_so (Some b) (Some p) (inl h) = inl h.0
-    part_so (Some b) (Some p) (inr h) = inr (p.start, (p.long, h))
+    part_so : (t : Ty) (r : Option ℕ) (p : Option value.Part) → IsPart facts t r p → IsNamed facts r (array_named p)
+    part_so t None None h = tt
+    part_so t None (Some p) h = absurd h
+    part_so t (Some b) None h = absurd h
+    part_so t (Some b) (Some p) (inl h) = inl h.0.fact
+    part_so t (Some b) (Some p) (inr h) = inr (p.start, (p.long, h.0))
 
     one_there : (at : ℕ) (r n : Option ℕ) (os : List ℕ) (k o : ℕ) → os ≡ 0 ∷ [] → word_at words (pos at) ≡ Found (Refer r)
         → IsNamed facts r n → slice_get os k ≡ Some o → StandsFor at o (n ∷ []) k
@@ -271,9 +273,9 @@ module _ (defs : List Def) where
           → slice_get os k ≡ Some o → StandsFor at o (references v) k
       names_there _ _ _ os k o (a_number at j z e i) n f = absurd (none_there os k o (no_names j os n) f)
       names_there _ _ _ os k o (a_text at r s e h) n f = absurd (none_there os k o (names_inside ty.Chars os n) f)
-      names_there _ _ _ os k o (a_name at t r m i e h) n f = one_there at r m os k o (at_first t os i n) e (named_so r m h) f
+      names_there _ _ _ os k o (a_name at t r m i e h) n f = one_there at r m os k o (at_first t os i n) e (named_so (form_of t) r m h) f
       names_there _ _ _ os k o (an_array at t r p e h) n f =
-          one_there at r (array_named p) os k o (names_inside (ty.ArrayOf t) os n) e (part_so r p h) f
+          one_there at r (array_named p) os k o (names_inside (ty.ArrayOf t) os n) e (part_so t r p h) f
       names_there _ _ _ os k o (no_words at) n f = absurd (none_there os k o (names_inside ty.Nothing os n) f)
       names_there _ _ _ os k o (a_tuple at ts rs vs l all) n f =
           subst (λ (ns : List (Option ℕ)). StandsFor at o ns k) (sym (row_references vs))

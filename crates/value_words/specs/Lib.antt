@@ -1,3 +1,4 @@
+pub mod Forms
 pub mod Facts
 pub mod Stands
 pub mod Contents

@@ -12,6 +12,7 @@ use Rattle.limbo_meaning.specs.Values as value
 use Rattle.limbo_meaning.specs.Values.{Value, Num, Parts, Ref, Array, NoValues, row}
 use Rattle.dis_meaning.specs.Words.{Word, Refer, Found, word_at}
 use Rattle.dis_meaning.specs.Numbers.{number_at}
+use Rattle.value_words.specs.Forms.{form_of}
 use Rattle.value_words.specs.Facts.{Facts, IsName, IsPart, IsText}
 
 -- Types whose values are names of values of the heap, or nothing.
@@ -31,9 +32,10 @@ module _ (defs : List Def) (facts : Facts) (words : List Word) where
       a_number : (at : ℕ) (k : Kind) (z : ℤ) → number_at k words (pos at) ≡ Found z → InRange k z → Stands at (of_kind k) (Num z)
       a_text : (at : ℕ) (r : Option ℕ) (s : List ℕ) → word_at words (pos at) ≡ Found (Refer r) → IsText facts r s
           → Stands at ty.Chars (value.Chars s)
-      a_name : (at : ℕ) (t : Ty) (r n : Option ℕ) → IsReference t → word_at words (pos at) ≡ Found (Refer r) → IsName facts r n
+      a_name : (at : ℕ) (t : Ty) (r n : Option ℕ) → IsReference t → word_at words (pos at) ≡ Found (Refer r)
+          → IsName facts (form_of t) r n
           → Stands at t (Ref n)
-      an_array : (at : ℕ) (t : Ty) (r : Option ℕ) (p : Option value.Part) → word_at words (pos at) ≡ Found (Refer r) → IsPart facts r p
+      an_array : (at : ℕ) (t : Ty) (r : Option ℕ) (p : Option value.Part) → word_at words (pos at) ≡ Found (Refer r) → IsPart facts t r p
           → Stands at (ty.ArrayOf t) (Array p)
       no_words : (at : ℕ) → Stands at ty.Nothing (Parts NoValues)
       a_tuple : (at : ℕ) (ts : Tys) (rs : List Room) (vs : List Value) → AllLaid defs (listed ts) rs → AllStand at nothing (listed ts) rs vs

@@ -1,0 +1,10 @@
+pub mod Later
+pub mod Words
+pub mod Reaching
+pub mod Covering
+pub mod Contents
+pub mod Formed
+pub mod Marks
+pub mod Made
+pub mod MadeExamples
+pub mod Examples
