@@ -26,7 +26,7 @@ use Rattle.value_heaps.specs.Made.{record_desc, MadeBlank}
 use Rattle.value_heaps.proofs.Marks.{marks_at, among, is_among, at_word, whole_words, laid_size}
 
 -- A new word, as it refers or not.
-abbrev word_by : Bool → Word
+abbrev pub word_by : Bool → Word
 word_by b = if b then Refer None else Plain (pos 0)
 
 word_in_range : (b : Bool) (z : ℤ) → Some (word_by b) ≡ Some (Plain z) → InRange kind.Int z
@@ -40,14 +40,16 @@ multiple i n a e =
 
 -- ---- the words at a place
 
-get_blanks : (desc : TypeDesc) (from count k : ℕ) → k < count → slice_get (blanks desc from count) k ≡ Some (blank_word desc (from + k))
+pub get_blanks : (desc : TypeDesc) (from count k : ℕ) → k < count
+    → slice_get (blanks desc from count) k ≡ Some (blank_word desc (from + k))
 get_blanks desc from zero k lt = absurd (omega (arith, lt))
 get_blanks desc from (suc n) zero lt = ap (λ k. Some (blank_word desc k)) (omega arith)
 get_blanks desc from (suc n) (suc k) lt =
     get_blanks desc (suc from) n k (omega (arith, lt))
     ∙ ap (λ k. Some (blank_word desc k)) (let q : suc from + k ≡ from + suc k = omega arith in q)
 
-blanks_in_range : (desc : TypeDesc) (from count k : ℕ) (z : ℤ) → slice_get (blanks desc from count) k ≡ Some (Plain z) → InRange kind.Int z
+pub blanks_in_range : (desc : TypeDesc) (from count k : ℕ) (z : ℤ)
+    → slice_get (blanks desc from count) k ≡ Some (Plain z) → InRange kind.Int z
 blanks_in_range desc from zero k z e = absurd cc
 blanks_in_range desc from (suc n) zero z e = word_in_range (marks desc.map from) z e
 blanks_in_range desc from (suc n) (suc k) z e = blanks_in_range desc (suc from) n k z e

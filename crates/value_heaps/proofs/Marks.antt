@@ -101,7 +101,7 @@ byte_at (suc n) (suc q) (b ∷ bs) le =
     byte_at n q (drop 8 (b ∷ bs)) (let l = drop_length 8 (b ∷ bs) in omega (arith, l, le))
     ∙ ap (bits 8) (drop_both 8 (8 * q) (b ∷ bs) ∙ ap (λ k. drop k (b ∷ bs)) (sym e))
 
-marks_is : (bs : List Bool) (k : ℕ) → marks (bytes (length bs) bs) k ≡ slice_index_or bs k false
+pub marks_is : (bs : List Bool) (k : ℕ) → marks (bytes (length bs) bs) k ≡ slice_index_or bs k false
 marks_is bs k =
     let i = k % 8 in let q = k / 8 in
     let z : 8 * (k / 8) + k % 8 ≡ k = omega arith in
@@ -157,7 +157,7 @@ module _ (defs : List Def) where
     laid_even _ _ (layout.of_tuple ts rs l) = all_even nothing (listed ts) rs (λ q i. absurd i) l
     laid_even _ _ (layout.of_adt n d rs e l) = all_even nothing (parts d) rs (λ q i. absurd i) l
 
-    all_even : (w : Room) (ts : List Ty) (rs : List Room) → AreEven w → AllLaid defs ts rs → AreEven (all_behind w rs)
+    pub all_even : (w : Room) (ts : List Ty) (rs : List Room) → AreEven w → AllLaid defs ts rs → AreEven (all_behind w rs)
     all_even w _ _ h none_laid = h
     all_even w _ _ h (more_laid t ts r rs l ls) =
         all_even (behind w r) ts rs

@@ -97,7 +97,7 @@ module _ (defs : List Def) where
         let b = rounded_grows (all_behind nothing rs) in
         omega arith
 
-    all_within : (w : Room) (ts : List Ty) (rs : List Room) → LieWithin w → AllLaid defs ts rs → LieWithin (all_behind w rs)
+    pub all_within : (w : Room) (ts : List Ty) (rs : List Room) → LieWithin w → AllLaid defs ts rs → LieWithin (all_behind w rs)
     all_within w _ _ h none_laid = h
     all_within w _ _ h (more_laid t ts r rs l ls) = all_within (behind w r) ts rs (behind_within w r h (laid_within t r l)) ls
 
@@ -232,7 +232,7 @@ module _ (defs : List Def) (facts : Facts) (words : List Word) (ranges : AreInRa
         (laid_power defs (ty.Adt n) (in_order rs) (layout.of_adt n d rs e l))
         refl (rounded_grows (all_behind nothing rs)) (omega arith) a b))
 
-    all_zero : (at : ℕ) (whole w : Room) (ts : List Ty) (rs : List Room) → LieWithin w → AllLaid defs ts rs → IsPower whole.align
+    pub all_zero : (at : ℕ) (whole w : Room) (ts : List Ty) (rs : List Room) → LieWithin w → AllLaid defs ts rs → IsPower whole.align
         → (all_behind w rs).references ≡ whole.references → (all_behind w rs).size ≤ whole.size → (all_behind w rs).align ≤ whole.align
         → at % whole.align ≡ 0 → AreBlank words at whole → AllStand defs facts words at w ts rs (all_fitted defs ts [])
     all_zero at whole w _ _ i none_laid p e f g a b = none_stand at w

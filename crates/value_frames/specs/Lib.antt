@@ -1,0 +1,6 @@
+pub mod Frames
+pub mod Types
+pub mod Standing
+pub mod Beginning
+pub mod Slots
+pub mod Later
