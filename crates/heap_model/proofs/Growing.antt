@@ -6,7 +6,7 @@ use Rattle.heap_model.specs.Heap.{Heap, at}
 use Rattle.heap_model.specs.Facts.{Fact, Named, Chars, Part, Bare, Carrier, Facts, IsUnmade, Grows, Learns, IsFree, IsInner, Is, Free, Inner, Covers}
 use Rattle.heap_model.specs.Alike.{Chain, word, next, Holds}
 use Rattle.heap_model.specs.Contents.{Contents}
-use Rattle.heap_model.specs.Worlds.{Sets, WorldsAlike}
+use Rattle.heap_model.specs.Worlds.{Sets, WorldsAlike, Leaves}
 use Rattle.heap_model.proofs.Heap.{within, there_of}
 use Rattle.heap_model.proofs.Settle.{refers_grows, covers_grows}
 use Rattle.heap_model.proofs.Changes.{cases, some_is}
@@ -19,6 +19,25 @@ grows_on a b c g h = record {
   facts = λ q f e. h.facts q f (g.facts q f e);
   makers = λ q i e. h.makers q i (g.makers q i e);
   forms = λ q o e. h.forms q o (g.forms q o e);
+}
+
+-- a process is left its own free blocks where nothing happens, and by stages
+pub leaves_same : {B F : Type 0} (j : ℕ) (k : Facts B F) (x : Heap B) → Leaves j k k x x
+leaves_same j k x = record { grows = grows_same k; free = λ q f m. inl (refl, refl) }
+
+pub leaves_on : {B F : Type 0} (j : ℕ) (a b c : Facts B F) (x y z : Heap B) → Leaves j a b x y → Leaves j b c y z → Leaves j a c x z
+leaves_on j a b c x y z l m = record {
+  grows = grows_on a b c l.grows m.grows;
+  free = λ q f h. elim (l.free q f h) [
+    | inl s ↦ elim (m.free q (subst IsFree (sym s.0) f) (l.grows.makers q j h)) [
+      | inl t ↦ inl (t.0 ∙ s.0, t.1 ∙ s.1)
+      | inr t ↦ inr t
+    ]
+    | inr s ↦ elim (m.free q s.0 (l.grows.makers q j h)) [
+      | inl t ↦ inr (subst IsFree (sym t.0) s.0, t.1 ∙ s.1)
+      | inr t ↦ inr t
+    ]
+  ];
 }
 
 pub learns_grows : {B F : Type 0} (k k' : Facts B F) (n : ℕ) (f : Fact B) → Learns k k' n f → Grows k k'

@@ -99,8 +99,8 @@ nothing_held : {B F : Type 0} (k : Facts B F) (who : ℕ → Type 0) (h : Graph)
 unfolding holds_none
 nothing_held k who h = record { same = holds_none k h; mine = λ q p f. absurd (omega arith) }
 
-module _ {V B F O P Q D U M A H : Type 0} (a : Parts V B F O P Q D U M A H) (value_on : (k now : Facts B F) (x : D) (y : U) → Grows k now → a.value k x y → a.value now x y) where
-  cuts : (k : Facts B F) (w : World V O) (x : World B O) (named referred : ℕ → ℕ) → WorldsAlike a.contents k w.heap x.heap → w.outside ≡ x.outside → Holds k (Among Everyone) (blocks a.contents x.heap) named referred → Cuts (sides a) k w x named referred
+module _ {V B F O N P Q D U M A H : Type 0} (a : Parts V B F O N P Q D U M A H) (value_on : (k now : Facts B F) (x : D) (y : U) → Grows k now → a.value k x y → a.value now x y) (later : (o : N) → a.later o o) where
+  cuts : (k : Facts B F) (w : World V O) (x : World B N) (named referred : ℕ → ℕ) → WorldsAlike a.contents k w.heap x.heap → a.outsides w.outside x.outside → Holds k (Among Everyone) (blocks a.contents x.heap) named referred → Cuts (sides a) k w x named referred
   cuts k w x named referred s same h =
       let part = goes a.contents k x.heap referred in
       record {
@@ -112,19 +112,19 @@ module _ {V B F O P Q D U M A H : Type 0} (a : Parts V B F O P Q D U M A H) (val
           from = λ n m e f. released_from a.contents k w.heap x.heap named referred s h.same n m (deciding_is k part n m e) f;
           known = λ m f e. let g = gone_has a.contents.words referred x.heap m f in deciding_none k part m (is_went _ _ g.0 g.1) e;
         };
-        left = λ j. cut_leaves a.contents k x.heap referred j;
+        left = λ j. (cut_leaves a.contents k x.heap referred j, later x.outside);
         held = λ these f g less holds. cut_holds a.contents k w.heap x.heap named referred s h.same (Among these) f g less holds;
       }
 
   pub heaps : Heaps (sides a)
   heaps = record {
     link = heap_link a.value value_on;
-    grown = λ these k now x x' h. h.grows;
-    left = λ these k now x x' j h ne. record { grows = h.grows; free = λ q f m. inl (h.free q j f m ne) };
+    grown = λ these k now x x' h. h.0.grows;
+    left = λ these k now x x' j h ne. (record { grows = h.0.grows; free = λ q f m. inl (h.0.free q j f m ne) }, h.1);
     held_none = λ k these x. nothing_held k (Among these) (blocks a.contents x.heap);
     held_both = λ k these x f g f' g' h h'. holds_pair k (Among these) (blocks a.contents x.heap) f g f' g' h h';
     held_wide = λ k these more x f g h b. record { same = b.same; mine = λ q p f. let t = b.mine q p f in (t.0, h t.0 t.1, t.2) };
-    held_on = λ these others k now x x' f g h ne held. holds_on (Among these) (Among others) k now (blocks a.contents x.heap) (blocks a.contents x'.heap) f g ne (changes_alone a.contents (Among these) k now x.heap x'.heap h) held;
+    held_on = λ these others k now x x' f g h ne held. holds_on (Among these) (Among others) k now (blocks a.contents x.heap) (blocks a.contents x'.heap) f g ne (changes_alone a.contents (Among these) k now x.heap x'.heap h.0) held;
     cuts = λ k w x named referred e h. cuts k w x named referred e.0 e.1 h;
     still = λ k w x named e. record {
       kept = ap (λ h. record { heap = h; outside = w.outside }) (stays_twice a.contents.inside named w.heap);

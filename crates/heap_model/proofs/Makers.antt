@@ -125,7 +125,7 @@ pub record IsReady (k : Facts Block Form) (j : ℕ) (x : Heap Block) (p : Progra
   pub live : (n : ℕ) → 0 < words_of q n → there (at x n) ≡ true
   pub place : At k j x p.todo q.temp q.todo
 
-abbrev pub parts : Parts HeapValue Block Form ℕ Program Code ℕ ℕ ℕ ℕ ℕ
+abbrev pub parts : Parts HeapValue Block Form ℕ ℕ Program Code ℕ ℕ ℕ ℕ ℕ
 parts = record {
   contents = contents;
   program = program;
@@ -135,7 +135,9 @@ parts = record {
   words = words_of;
   table_words = no_table;
   value = λ k v u. v ≡ u;
-  ready = IsReady;
+  outsides = λ o n. o ≡ n;
+  later = λ o n. Unit {0};
+  ready = λ k i x p q. IsReady k i x.heap p q;
   asking = λ k i x p q. ⊥;
   waiting = λ k i x bs cs p q. ⊥;
 }
@@ -253,7 +255,7 @@ module _ (k : Facts Block Form) (i : ℕ) (w : W) (x : X) (a b : Value) (fa fb :
   unfolding M
   ended = record {
     now = k;
-    changes = no_change (λ j. j ≡ i) k x.heap;
+    changes = (no_change (λ j. j ≡ i) k x.heap, tt);
     world = w;
     comes = record { steps = 0; world = w; before = P Done; quiets = quiets_none program (heap_naming contents.inside names_of no_table) w (P Done); does = refl };
     worlds = (s, same);
@@ -263,7 +265,7 @@ module _ (k : Facts Block Form) (i : ℕ) (w : W) (x : X) (a b : Value) (fa fb :
   unfolding M
   moves ops live = record {
     now = k;
-    changes = no_change (λ j. j ≡ i) k x.heap;
+    changes = (no_change (λ j. j ≡ i) k x.heap, tt);
     steps = 1;
     world = w;
     after = record { first = b; second = b; todo = ops };
@@ -278,7 +280,7 @@ module _ (k : Facts Block Form) (i : ℕ) (w : W) (x : X) (a b : Value) (fa fb :
   unfolding M
   forks child ops live = record {
     now = k;
-    changes = no_change (λ j. j ≡ i) k x.heap;
+    changes = (no_change (λ j. j ≡ i) k x.heap, tt);
     world = w;
     own = P child;
     after = P ops;
@@ -293,12 +295,15 @@ module _ (k : Facts Block Form) (i : ℕ) (w : W) (x : X) (a b : Value) (fa fb :
   unfolding M
   news ops live = record {
     now = k';
-    changes = record {
-      grows = g;
-      there = λ q c e. there_is (at x' q) (there_on x.heap x' n blank sets q (there_of (at x.heap q) c e));
-      free = λ q j f m ne. (refl, sets.apart q (λ z. absurd (let y : None ≡ Some j = sym u.maker ∙ (ap k.maker (sym z) ∙ m) in cc)));
-      carriers = λ q d e. sets.apart q (λ z. absurd (let y : None ≡ Some (Carrier d) = sym u.fact ∙ (ap k.fact (sym z) ∙ e) in cc));
-    };
+    changes = (
+      record {
+        grows = g;
+        there = λ q c e. there_is (at x' q) (there_on x.heap x' n blank sets q (there_of (at x.heap q) c e));
+        free = λ q j f m ne. (refl, sets.apart q (λ z. absurd (let y : None ≡ Some j = sym u.maker ∙ (ap k.maker (sym z) ∙ m) in cc)));
+        carriers = λ q d e. sets.apart q (λ z. absurd (let y : None ≡ Some (Carrier d) = sym u.fact ∙ (ap k.fact (sym z) ∙ e) in cc));
+      },
+      tt,
+    );
     steps = 0;
     world = w;
     after = P (Make ops);
@@ -353,12 +358,15 @@ module _ (k : Facts Block Form) (i : ℕ) (w : W) (x : X) (a b : Value) (fa fb :
   unfolding M
   fills_it ops n new live = record {
     now = now;
-    changes = record {
-      grows = g;
-      there = λ q c e. there_is (at x' q) (there_on x.heap x' n (filled fb) sets q (there_of (at x.heap q) c e));
-      free = λ q j f m ne. let d = other q j m ne in (learns.apart q d, sets.apart q d);
-      carriers = λ q d e. sets.apart q (λ z. absurd (let y : None ≡ Some (Carrier d) = sym new.unknown ∙ (ap k.fact (sym z) ∙ e) in cc));
-    };
+    changes = (
+      record {
+        grows = g;
+        there = λ q c e. there_is (at x' q) (there_on x.heap x' n (filled fb) sets q (there_of (at x.heap q) c e));
+        free = λ q j f m ne. let d = other q j m ne in (learns.apart q d, sets.apart q d);
+        carriers = λ q d e. sets.apart q (λ z. absurd (let y : None ≡ Some (Carrier d) = sym new.unknown ∙ (ap k.fact (sym z) ∙ e) in cc));
+      },
+      tt,
+    );
     steps = 1;
     world = with_heap w w';
     after = record { first = Ref (Some m); second = b; todo = ops };
@@ -460,10 +468,10 @@ each k i w x p q r s same = each_at k i w x p.first p.second q.first q.second s 
 unfoldable pub follows : Follows (sides parts)
 unfolding M
 follows = record {
-  heaps = heaps parts (λ k now v u g e. e);
+  heaps = heaps parts (λ k now v u g e. e) (λ o. tt);
   table = λ k i x bs cs p q h. absurd h;
   rooted = rooted;
-  keeps = keeps;
+  keeps = λ k now i x x' d e r l h. keeps k now i x x' d e r l.0 h;
   place = place;
   bound = 2;
   some = omega arith;

@@ -55,8 +55,8 @@ module _ {A : Type 0} (inside : A → ℕ → ℕ) (roots : ℕ → ℕ) (h : He
 pub what_stays : (A : Type 0) → WhatStays A
 what_stays A = record { greatest = greatest; gone = exactly; reached = reached }
 
-pub heaps_join : {V B F O P Q D U M A H : Type 0} (a : Parts V B F O P Q D U M A H) → HeapsJoin a
-heaps_join a on = heaps a on
+pub heaps_join : {V B F O N P Q D U M A H : Type 0} (a : Parts V B F O N P Q D U M A H) → HeapsJoin a
+heaps_join a on later = heaps a on later
 
 pub quiet_steps : (V O P D M A H : Type 0) → QuietSteps V O P D M A H
 quiet_steps V O P D M A H rules inside names table w w' p p' e q = quiet_heap rules inside names table w w' p p' e q

@@ -1,5 +1,5 @@
--- A source and a machine with a heap each, as two sides of many processes. Beside its heap a world has an outside, which is the
--- same on both sides.
+-- A source and a machine with a heap each, as two sides of many processes. Beside its heap a world has an outside, which may have
+-- more in the machine than in the source.
 use Rattle.std.specs.Prelude.{ℕ, ◌≡◌, List, None}
 use Rattle.process_model.specs.Process.{Branch, Rules}
 use Rattle.process_model.specs.Naming.{Naming}
@@ -29,33 +29,36 @@ heap_naming inside names table = record {
 abbrev pub heap_map : {B F D U : Type 0} → (Facts B F → D → U → Type 0) → Renaming (Facts B F) D U
 heap_map value = record { grows = Grows; name = Is; known = λ k n. k.fact n ≡ None → ⊥; value = value }
 
--- What two languages say for themselves: their rules, what they name, when a value passes as another, and how processes are
--- related.
-pub record Parts (V B F O P Q D U M A H : Type 0) : Type 1 where
+-- What two languages say for themselves: their rules, what they name, when a value passes as another, when the outside of the
+-- machine stands for that of the source, what it may become while a process stays where it is, and how processes are related.
+pub record Parts (V B F O N P Q D U M A H : Type 0) : Type 1 where
   pub contents : Contents V B F
   pub program : Rules (World V O) P D M A H
-  pub code : Rules (World B O) Q U M A H
+  pub code : Rules (World B N) Q U M A H
   pub names : P → ℕ → ℕ
   pub table : List (Branch D) → ℕ → ℕ
   pub words : Q → ℕ → ℕ
   pub table_words : List (Branch U) → ℕ → ℕ
   pub value : Facts B F → D → U → Type 0
-  pub ready : Facts B F → ℕ → Heap B → P → Q → Type 0
-  pub asking : Facts B F → ℕ → Heap B → P → Q → Type 0
-  pub waiting : Facts B F → ℕ → Heap B → List (Branch D) → List (Branch U) → P → Q → Type 0
+  pub outsides : O → N → Type 0
+  pub later : N → N → Type 0
+  pub ready : Facts B F → ℕ → World B N → P → Q → Type 0
+  pub asking : Facts B F → ℕ → World B N → P → Q → Type 0
+  pub waiting : Facts B F → ℕ → World B N → List (Branch D) → List (Branch U) → P → Q → Type 0
 
-abbrev pub sides : {V B F O P Q D U M A H : Type 0} → Parts V B F O P Q D U M A H → Sides (Facts B F) (World V O) (World B O) P Q D U M A H
+abbrev pub sides : {V B F O N P Q D U M A H : Type 0} →
+    Parts V B F O N P Q D U M A H → Sides (Facts B F) (World V O) (World B N) P Q D U M A H
 sides a = record {
   map = heap_map a.value;
   program = a.program;
   naming = heap_naming a.contents.inside a.names a.table;
   code = a.code;
   code_naming = heap_naming a.contents.words a.words a.table_words;
-  ready = λ k i x p q. a.ready k i x.heap p q;
-  asking = λ k i x p q. a.asking k i x.heap p q;
-  waiting = λ k i x bs cs p q. a.waiting k i x.heap bs cs p q;
-  worlds = λ k w x. WorldsAlike a.contents k w.heap x.heap × (w.outside ≡ x.outside);
+  ready = λ k i x p q. a.ready k i x p q;
+  asking = λ k i x p q. a.asking k i x p q;
+  waiting = λ k i x bs cs p q. a.waiting k i x bs cs p q;
+  worlds = λ k w x. WorldsAlike a.contents k w.heap x.heap × a.outsides w.outside x.outside;
   holds = λ k these x f g. Holds k (Among these) (blocks a.contents x.heap) f g;
-  changes = λ these k now x x'. Changes (Among these) k now x.heap x'.heap;
-  leaves = λ j k now x x'. Leaves j k now x.heap x'.heap;
+  changes = λ these k now x x'. Changes (Among these) k now x.heap x'.heap × a.later x.outside x'.outside;
+  leaves = λ j k now x x'. Leaves j k now x.heap x'.heap × a.later x.outside x'.outside;
 }

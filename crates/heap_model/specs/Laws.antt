@@ -53,10 +53,11 @@ pub record WhatStays (A : Type 0) : Type 0 where
   pub gone : (inside : A → ℕ → ℕ) (roots : ℕ → ℕ) (h : Heap A) → GoneExactly inside roots h
   pub reached : (inside : A → ℕ → ℕ) (roots : ℕ → ℕ) (h : Heap A) → StaysReached inside roots h
 
--- Two languages whose values pass by facts that stay true have two heaps as the law of many processes asks.
-abbrev pub HeapsJoin : {V B F O P Q D U M A H : Type 0} → Parts V B F O P Q D U M A H → Type 0
-HeapsJoin {B = B} {F = F} {D = D} {U = U} a =
-    ((k now : Facts B F) (x : D) (y : U) → Grows k now → a.value k x y → a.value now x y) → Heaps (sides a)
+-- Two languages whose values pass by facts that stay true, and where the outside of the machine may stay as it is, have two heaps as
+-- the law of many processes asks.
+abbrev pub HeapsJoin : {V B F O N P Q D U M A H : Type 0} → Parts V B F O N P Q D U M A H → Type 0
+HeapsJoin {B = B} {F = F} {N = N} {D = D} {U = U} a =
+    ((k now : Facts B F) (x : D) (y : U) → Grows k now → a.value k x y → a.value now x y) → ((o : N) → a.later o o) → Heaps (sides a)
 
 -- A step that lets nothing go by what it changes is quiet, whatever the others name.
 abbrev pub QuietSteps : (V O P D M A H : Type 0) → Type 0

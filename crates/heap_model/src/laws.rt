@@ -17,6 +17,8 @@ pub trait TwoHeaps {
 
     ghost form: { Type 0 };
 
+    ghost source_outside: { Type 0 };
+
     ghost outside: { Type 0 };
 
     ghost source_process: { Type 0 };
@@ -33,7 +35,7 @@ pub trait TwoHeaps {
 
     ghost ending: { Type 0 };
 
-    ghost parts: { Parts value block form outside source_process process source_passed passed request reply ending };
+    ghost parts: { Parts value block form source_outside outside source_process process source_passed passed request reply ending };
 }
 
 /// A source's heap and a machine's, joined by what blocks stand for, are two heaps as the law of many processes asks: what
