@@ -1,0 +1,3 @@
+pub mod On
+pub mod Follows
+pub mod Twice
