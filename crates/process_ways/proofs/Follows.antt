@@ -1,8 +1,8 @@
 -- The law: where there are ways, the machine follows.
 use Rattle.std.proofs.Common.{ℕ, zero, suc, refl, Some}
-use Rattle.process_model.specs.Process.{Effect, Went, Parks, Polls, Spawns, Asks, Ends, Doing, Ready, Waiting, Asking, Gone, Woke}
+use Rattle.process_model.specs.Process.{Effect, Went, Parks, Polls, Spawns, Asks, Ends, Doing, Ready, Waiting, Asking, Gone}
 use Rattle.process_model.specs.Naming.{names}
-use Rattle.process_model.specs.Follows.{Only, Sides, StandsAlike, Heaps, Matches, MatchesReply, GoneOn, Losing, Follows}
+use Rattle.process_model.specs.Follows.{Only, Sides, StandsAlike, Heaps, Matches, Losing, Follows}
 use Rattle.process_ways.specs.Ways.{Hold, Does, Way, with_ways, Steps}
 use Rattle.process_ways.specs.Laws.{WaysFollow}
 
@@ -81,35 +81,8 @@ module _ {K W X P Q D U M A H : Type 0} (s : Sides K W X P Q D U M A H) (place :
   }
   goes_on n at k i w x p (Ends x' how) d = record { now = d.now; changes = d.changes; world = d.world; comes = d.comes; worlds = d.worlds }
 
-  hears : (k : K) (i : ℕ) (x : X) (e : Effect W P D M H) (f : Effect X Q U M H) → MatchesReply s k i x e f → MatchesReply (with_ways s place) k i x e f
-  hears k i x e (Went x' q) d = record {
-    now = d.now;
-    changes = d.changes;
-    world = d.world;
-    after = d.after;
-    does = d.does;
-    related = (0, d.related);
-    worlds = d.worlds;
-  }
-  hears k i x e (Asks x' m q) d = record {
-    now = d.now;
-    changes = d.changes;
-    world = d.world;
-    after = d.after;
-    does = d.does;
-    related = d.related;
-    worlds = d.worlds;
-  }
-  hears k i x e (Ends x' how) d = record { now = d.now; changes = d.changes; world = d.world; does = d.does; worlds = d.worlds }
-  hears k i x e (Parks x' cs q) d = tt
-  hears k i x e (Polls x' cs q q') d = tt
-  hears k i x e (Spawns x' child q) d = tt
-
   loses : (k : K) (l : ℕ) (w : W) (x x' : X) → Losing s k l w x x' → Losing (with_ways s place) k l w x x'
   loses k l w x x' d = record { now = d.now; changes = d.changes; world = d.world; does = d.does; worlds = d.worlds; still = d.still }
-
-  met : (k : K) (i j : ℕ) (x : X) (m : Woke W P) (m' : Woke X Q) → GoneOn s k i j x m m' → GoneOn (with_ways s place) k i j x m m'
-  met k i j x m m' d = record { now = d.now; changes = d.changes; one = (0, d.one); other = (0, d.other); worlds = d.worlds }
 
   module _ (steps : Steps s place) where
     -- on its way a process is left where it is
@@ -153,9 +126,9 @@ module _ {K W X P Q D U M A H : Type 0} (s : Sides K W X P Q D U M A H) (place :
       some = steps.some;
       within = λ k i x p q r. steps.within q;
       each = λ k i w x p q r e. way_goes r.0 k i w x p q r.1 e;
-      answers = λ k i a w x p q r e. hears k i x (s.program.answer a w p) (s.code.answer a x q) (steps.answers k i a w x p q r e);
+      answers = steps.answers;
       downs = λ k l w x x' e f. loses k l w x x' (steps.downs k l w x x' e f);
-      meets = λ k i j w x bs cs p q n a a' bs' cs' p' q' l b b' ne r e e' r' f f' fit ws. met k i j x _ _ (steps.meets k i j w x bs cs p q n a a' bs' cs' p' q' l b b' ne r e e' r' f f' fit ws);
+      meets = steps.meets;
     }
 
   pub ways_follow : WaysFollow s place

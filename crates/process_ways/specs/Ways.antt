@@ -59,8 +59,8 @@ module _ {K W X P Q D U M A H : Type 0} (s : Sides K W X P Q D U M A H) (place :
   }
 
   -- What is to be proved of two languages where one step of the source is several instructions of the machine's: what `Follows`
-  -- asks, but that from where two that are ready stand alike, the machine's process is on its way to where they do again; and that
-  -- what others leave to a process may be that nothing changes, and adds up.
+  -- asks, but that from where two that are ready stand alike, the machine's process is on its way to where they do again, also behind
+  -- a reply and behind a meeting; and that what others leave to a process may be that nothing changes, and adds up.
   pub record Steps : Type 0 where
     pub heaps : Heaps s
     pub same : (i : ℕ) (k : K) (x : X) → s.leaves i k k x x
@@ -77,11 +77,11 @@ module _ {K W X P Q D U M A H : Type 0} (s : Sides K W X P Q D U M A H) (place :
     pub within : (q : Q) → place q < bound
     pub each : (k : K) (i : ℕ) (x : X) (p : P) (q : Q) → s.ready k i x p q → (n : ℕ) × Way (suc n) k i x p q
     pub answers : (k : K) (i : ℕ) (a : A) (w : W) (x : X) (p : P) (q : Q) →
-        s.asking k i x p q → s.worlds k w x → MatchesReply s k i x (s.program.answer a w p) (s.code.answer a x q)
+        s.asking k i x p q → s.worlds k w x → MatchesReply with_ways k i x (s.program.answer a w p) (s.code.answer a x q)
     pub downs : (k : K) (l : ℕ) (w : W) (x x' : X) → s.worlds k w x → s.code.down l x ≡ Some x' → Losing s k l w x x'
     pub meets : (k : K) (i j : ℕ) (w : W) (x : X)
         (bs : List (Branch D)) (cs : List (Branch U)) (p : P) (q : Q) (n : ℕ) (a : Branch D) (a' : Branch U)
         (bs' : List (Branch D)) (cs' : List (Branch U)) (p' : P) (q' : Q) (l : ℕ) (b : Branch D) (b' : Branch U) →
         (j ≡ i → ⊥) → s.waiting k i x bs cs p q → slice_get bs n ≡ Some a → slice_get cs n ≡ Some a' →
         s.waiting k j x bs' cs' p' q' → slice_get bs' l ≡ Some b → slice_get cs' l ≡ Some b' → fits a b ≡ true → s.worlds k w x →
-        GoneOn s k i j x (both_wake s.program w n a p l b p') (both_wake s.code x n a' q l b' q')
+        GoneOn with_ways k i j x (both_wake s.program w n a p l b p') (both_wake s.code x n a' q l b' q')
