@@ -1,0 +1,6 @@
+pub mod Words
+pub mod Owned
+pub mod Later
+pub mod Process
+pub mod Still
+mod Examples

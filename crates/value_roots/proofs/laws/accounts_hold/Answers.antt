@@ -1,0 +1,15 @@
+use Rattle.value_roots.proofs.Owned as owned
+use Rattle.value_roots.proofs.Process as processes
+use Rattle.value_roots.proofs.Later as lists
+use Rattle.value_roots.proofs.laws.accounts_hold.Goals as goal
+
+pub returns : goal.returns
+returns c = record {
+  roots = owned.roots;
+  process = processes.process_holds;
+  later = λ k k' i x x' names names' words grows named frees carriers all.
+      lists.later k k' i x x' names names' grows named words frees carriers all;
+  several = lists.several;
+  first_leads = lists.first_leads;
+  second_leads = lists.second_leads;
+}
