@@ -10,18 +10,19 @@ use Rattle.dis_memory.specs.Blocks as block
 use Rattle.dis_memory.specs.Blocks.{Block}
 use Rattle.dis_memory.specs.Naming as machine
 use Rattle.value_words.specs.Forms.{Form}
+use Rattle.value_heaps.specs.Blocks.{Constant}
 use Rattle.value_heaps.specs.Contents.{contents_by}
-use Rattle.value_heaps.specs.Laws.{BlocksStand, ContentsAre}
+use Rattle.value_heaps.specs.Laws.{AllBlocksStand, ContentsAre}
 use Rattle.value_heaps.proofs.Later.{block_later}
 use Rattle.value_heaps.proofs.Reaching.{block_reaches}
 use Rattle.value_heaps.proofs.Covering.{block_covers}
 use Rattle.value_heaps.proofs.Words.{refers_it}
 
-pub blocks_stand : BlocksStand
-blocks_stand = record {
-  later = λ defs globals k k' n v b g s. block_later defs globals k k' g n v b s;
-  to = λ defs globals k n v b m s h. block_reaches defs globals k n v b m s h;
-  from = λ defs globals k n v b q s h. block_covers defs globals k n v b q s h;
+pub blocks_stand : AllBlocksStand
+blocks_stand defs globals constants = record {
+  later = λ k k' n v b g s. block_later defs globals constants k k' g n v b s;
+  to = block_reaches defs globals constants;
+  from = block_covers defs globals constants;
 }
 
 names_array : (start long array : ℕ) → 0 < machine.inside (block.Part array start long) array
@@ -43,5 +44,5 @@ contents_are = record {
 }
 
 -- What the law of two heaps takes.
-abbrev pub contents : List Def → List Ty → two.Contents HeapValue Block Form
+abbrev pub contents : List Def → List Ty → List Constant → two.Contents HeapValue Block Form
 contents = contents_by contents_are

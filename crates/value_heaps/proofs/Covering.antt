@@ -20,7 +20,7 @@ use Rattle.value_words.specs.Stands.{Stands}
 use Rattle.value_words.proofs.Bytes.{word_there}
 use Rattle.value_words.proofs.Covered.{IsCovered, covered, all_covered, behind_nothing, names_it}
 use Rattle.value_words.proofs.Rows.{is_there}
-use Rattle.value_heaps.specs.Blocks.{IsBlock, elements, cell, record_of, channel, instance_of, globals_place, IsWithin, ReferOnlyThere}
+use Rattle.value_heaps.specs.Blocks.{Constant, IsBlock, elements, cell, record_of, channel, instance_of, globals_place, IsWithin, ReferOnlyThere}
 use Rattle.value_heaps.proofs.Words.{named_where, names_among}
 
 -- the word of this number is the one at a byte
@@ -30,7 +30,7 @@ found_there words w b at e f =
     let g : w ≡ at / 4 = omega arith in
     word_there words at (Refer (Some b)) (omega arith) (ap (λ n. slice_get words n) (sym g) ∙ e)
 
-module _ (defs : List Def) (globals : List Ty) (facts : Facts) where
+module _ (defs : List Def) (globals : List Ty) (constants : List Constant) (facts : Facts) where
   by_names : (ns : List (Option ℕ)) (v : HeapValue) (q : ℕ) → ((m : ℕ) → Name ns m → 0 < inside v m) → IsCovered facts ns q
       → Covers facts (λ m. 0 < inside v m) q
   by_names ns v q all (inl h) = refers h.0 (all h.0 h.1) (elim h.2 [ inl i ↦ itself i | inr i ↦ slice i.0 i.1.0 i.1.1 ])
@@ -54,7 +54,7 @@ module _ (defs : List Def) (globals : List Ty) (facts : Facts) where
       let h = names_it n in
       refers n (omega arith) (itself (ap facts.fact (sym g) ∙ e.fact))
 
-  pub block_covers : (n : ℕ) (v : HeapValue) (b : Block) (q : ℕ) → IsBlock defs globals facts n v b → 0 < machine.inside b q
+  pub block_covers : (n : ℕ) (v : HeapValue) (b : Block) (q : ℕ) → IsBlock defs globals constants facts n v b → 0 < machine.inside b q
       → Covers facts (λ m. 0 < inside v m) q
   block_covers n _ _ q (elements t r words vs f l whole each only) h =
       let w = named_where words q h in
@@ -75,7 +75,7 @@ module _ (defs : List Def) (globals : List Ty) (facts : Facts) where
       let w = named_where words q h in
       by_names (references v) (source.Record v) q (λ m k. k) (at_front (ty.Adt a) r words v w.0 q l s there only w.1)
   block_covers n _ _ q (channel t desc f) h = absurd (omega (arith, h))
-  block_covers n _ _ q (instance_of object rs words vs f l whole all there only) h =
+  block_covers n _ _ q (instance_of object rs words vs f l whole all there only fixed) h =
       let w = named_where words q h in
       elim (only w.0 q w.1) [
         | inl i ↦

@@ -74,7 +74,7 @@ small n z l e = subst (λ y. InRange kind.Int y) e (record { above = omega (arit
 
 -- ---- the cell 5 :: l of a list of ints
 
-ints_cell : IsBlock [] [] known 5 (source.Cell (Num (pos 5)) (Some 9)) (block.Cell (Plain (pos 5) ∷ []) (Some 3))
+ints_cell : IsBlock [] [] [] known 5 (source.Cell (Num (pos 5)) (Some 9)) (block.Cell (Plain (pos 5) ∷ []) (Some 3))
 ints_cell =
     cell ty.Int (number 4) (Plain (pos 5) ∷ []) (Num (pos 5)) (Some 9) (Some 3) refl (is_alone ty.Int (number 4) refl)
     ((λ w i. let l = i.1 in omega arith), ranges)
@@ -97,7 +97,7 @@ two_words = Refer (Some 4) ∷ Refer None ∷ []
 abbrev two_texts : List Value
 two_texts = value.Chars (72 ∷ []) ∷ value.Chars [] ∷ []
 
-texts_array : IsBlock [] [] known 6 (source.Elements two_texts) (block.Array (desc_of reference) 2 two_words)
+texts_array : IsBlock [] [] [] known 6 (source.Elements two_texts) (block.Array (desc_of reference) 2 two_words)
 texts_array =
     elements ty.Chars reference two_words two_texts refl (is_alone ty.Chars reference refl)
     ((λ w i. let l = i.1 in omega arith), ranges) each only
@@ -176,7 +176,7 @@ the_value = source.Elements (Parts (row one_two) ∷ [])
 one_array : (n : ℕ) (ts : Tys) (rs : List Room) (x y : ℕ) → formed_of n ≡ Some (form.Elements (ty.Tuple ts) 1) → x < 2147483648
     → y < 2147483648 → (in_order rs).size ≡ 8
     → Laid [] (ty.Tuple ts) (in_order rs) → Stands [] known (Plain (pos x) ∷ Plain (pos y) ∷ []) 0 (ty.Tuple ts) (Parts (row one_two))
-    → IsBlock [] [] known n the_value (block.Array (desc_of (in_order rs)) 1 (Plain (pos x) ∷ Plain (pos y) ∷ []))
+    → IsBlock [] [] [] known n the_value (block.Array (desc_of (in_order rs)) 1 (Plain (pos x) ∷ Plain (pos y) ∷ []))
 one_array n ts rs x y f a b size l s =
     elements (ty.Tuple ts) (in_order rs) words (Parts (row one_two) ∷ []) f l ((λ w i. let h = i.1 in omega arith), ranges) each
     (λ w to e. absurd (plain w to e))
@@ -207,12 +207,12 @@ abbrev the_type : layout.Room
 the_type = in_order byte_rooms
 
 -- both blocks stand for it
-by_bytes : IsBlock [] [] known 7 the_value (block.Array (desc_of the_type) 1 byte_words)
+by_bytes : IsBlock [] [] [] known 7 the_value (block.Array (desc_of the_type) 1 byte_words)
 by_bytes =
     one_array 7 byte_first byte_rooms 16777216 2 refl (omega arith) (omega arith) refl (layout.of_tuple byte_first byte_rooms byte_laid)
     byte_stand
 
-by_ints : IsBlock [] [] known 8 the_value (block.Array (desc_of the_type) 1 int_words)
+by_ints : IsBlock [] [] [] known 8 the_value (block.Array (desc_of the_type) 1 int_words)
 by_ints =
     one_array 8 int_first int_rooms 1 33554432 refl (omega arith) (omega arith) refl (layout.of_tuple int_first int_rooms int_laid)
     int_stand
@@ -245,9 +245,9 @@ no_stand s =
     let f : pos 16777216 ≡ pos 1 = cc in
     omega (arith, ints)
 
-bytes_by_ints : (desc : TypeDesc) → IsBlock [] [] known 8 the_value (block.Array desc 1 byte_words) → ⊥
+bytes_by_ints : (desc : TypeDesc) → IsBlock [] [] [] known 8 the_value (block.Array desc 1 byte_words) → ⊥
 bytes_by_ints desc b =
-    let a = are_elements [] [] known 8 the_value (block.Array desc 1 byte_words) (ty.Tuple int_first) 1 b refl in
+    let a = are_elements [] [] [] known 8 the_value (block.Array desc 1 byte_words) (ty.Tuple int_first) 1 b refl in
     let is : block.Array desc 1 byte_words ≡ block.Array (desc_of a.room) 1 a.words = a.is in
     let same : a.words ≡ byte_words = cc in
     let value : source.Elements (Parts (row one_two) ∷ []) ≡ source.Elements a.values = a.value in

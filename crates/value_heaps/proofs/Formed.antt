@@ -15,9 +15,9 @@ use Rattle.value_words.specs.Forms.{Elements, Cells, Adts}
 use Rattle.value_words.specs.Facts.{Facts, IsName}
 use Rattle.value_words.specs.Stands.{Stands}
 use Rattle.value_heaps.specs.Types.{desc_of}
-use Rattle.value_heaps.specs.Blocks.{IsBlock, elements, cell, record_of, channel, instance_of, AreWhole, ReferOnlyThere, IsWithin}
+use Rattle.value_heaps.specs.Blocks.{Constant, IsBlock, elements, cell, record_of, channel, instance_of, AreWhole, ReferOnlyThere, IsWithin}
 
-module _ (defs : List Def) (globals : List Ty) (facts : Facts) where
+module _ (defs : List Def) (globals : List Ty) (constants : List Constant) (facts : Facts) where
   -- ---- so many elements of a type
 
   pub record AreElements (item : Ty) (long : ℕ) (v : HeapValue) (b : Block) : Type 0 where
@@ -33,7 +33,7 @@ module _ (defs : List Def) (globals : List Ty) (facts : Facts) where
     pub only : (w : ℕ) (to : Option ℕ) → slice_get words w ≡ Some (Refer to)
         → (i : ℕ) × (i < long) × ((o : ℕ) × Has room.references o × (i * room.size + o ≡ 4 * w))
 
-  pub are_elements : (n : ℕ) (v : HeapValue) (b : Block) (t : Ty) (long : ℕ) → IsBlock defs globals facts n v b
+  pub are_elements : (n : ℕ) (v : HeapValue) (b : Block) (t : Ty) (long : ℕ) → IsBlock defs globals constants facts n v b
       → facts.form n ≡ Some (Elements t long) → AreElements t long v b
   are_elements n _ _ t long (elements u r words vs f l whole each only) e =
       let g : Some (Elements u (length vs)) ≡ Some (Elements t long) = sym f ∙ e in
@@ -56,7 +56,7 @@ module _ (defs : List Def) (globals : List Ty) (facts : Facts) where
   are_elements n _ _ t long (cell u r words v tail rest f l whole s there only i) e = absurd cc
   are_elements n _ _ t long (record_of a r words v f l whole s there only) e = absurd cc
   are_elements n _ _ t long (channel u desc f) e = absurd cc
-  are_elements n _ _ t long (instance_of object rs words vs f l whole all there only) e = absurd cc
+  are_elements n _ _ t long (instance_of object rs words vs f l whole all there only fixed) e = absurd cc
 
   -- ---- a cell of a list of a type
 
@@ -75,7 +75,7 @@ module _ (defs : List Def) (globals : List Ty) (facts : Facts) where
     pub only : (w to : ℕ) → slice_get words w ≡ Some (Refer (Some to)) → IsWithin 0 room.size w
     pub behind : IsName facts (Some (Cells item)) rest tail
 
-  pub is_cell : (n : ℕ) (v : HeapValue) (b : Block) (t : Ty) → IsBlock defs globals facts n v b → facts.form n ≡ Some (Cells t)
+  pub is_cell : (n : ℕ) (v : HeapValue) (b : Block) (t : Ty) → IsBlock defs globals constants facts n v b → facts.form n ≡ Some (Cells t)
       → IsCell t v b
   is_cell n _ _ t (cell u r words v tail rest f l whole s there only i) e =
       let g : Some (Cells u) ≡ Some (Cells t) = sym f ∙ e in
@@ -99,7 +99,7 @@ module _ (defs : List Def) (globals : List Ty) (facts : Facts) where
   is_cell n _ _ t (elements u r words vs f l whole each only) e = absurd cc
   is_cell n _ _ t (record_of a r words v f l whole s there only) e = absurd cc
   is_cell n _ _ t (channel u desc f) e = absurd cc
-  is_cell n _ _ t (instance_of object rs words vs f l whole all there only) e = absurd cc
+  is_cell n _ _ t (instance_of object rs words vs f l whole all there only fixed) e = absurd cc
 
   -- ---- an adt that a `ref` names
 
@@ -115,7 +115,7 @@ module _ (defs : List Def) (globals : List Ty) (facts : Facts) where
     pub there : ReferOnlyThere words 0 room
     pub only : (w to : ℕ) → slice_get words w ≡ Some (Refer (Some to)) → IsWithin 0 room.size w
 
-  pub is_adt : (n : ℕ) (v : HeapValue) (b : Block) (adt : ℕ) → IsBlock defs globals facts n v b → facts.form n ≡ Some (Adts adt)
+  pub is_adt : (n : ℕ) (v : HeapValue) (b : Block) (adt : ℕ) → IsBlock defs globals constants facts n v b → facts.form n ≡ Some (Adts adt)
       → IsAdt adt v b
   is_adt n _ _ adt (record_of a r words v f l whole s there only) e =
       let g : Some (Adts a) ≡ Some (Adts adt) = sym f ∙ e in
@@ -136,4 +136,4 @@ module _ (defs : List Def) (globals : List Ty) (facts : Facts) where
   is_adt n _ _ adt (elements u r words vs f l whole each only) e = absurd cc
   is_adt n _ _ adt (cell u r words v tail rest f l whole s there only i) e = absurd cc
   is_adt n _ _ adt (channel u desc f) e = absurd cc
-  is_adt n _ _ adt (instance_of object rs words vs f l whole all there only) e = absurd cc
+  is_adt n _ _ adt (instance_of object rs words vs f l whole all there only fixed) e = absurd cc

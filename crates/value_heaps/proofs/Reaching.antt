@@ -22,7 +22,7 @@ use Rattle.value_words.specs.Facts.{Facts, IsName, IsPart}
 use Rattle.value_words.specs.Stands.{Stands, a_number, a_text, a_name, an_array, no_words, a_tuple, an_adt}
 use Rattle.value_words.specs.Stands.{AllStand, none_stand, more_stand}
 use Rattle.value_words.proofs.Bytes.{word_found}
-use Rattle.value_heaps.specs.Blocks.{IsBlock, elements, cell, record_of, channel, instance_of, globals_place}
+use Rattle.value_heaps.specs.Blocks.{Constant, IsBlock, elements, cell, record_of, channel, instance_of, globals_place}
 use Rattle.value_heaps.proofs.Words.{named_by, some_names}
 
 -- ---- of words
@@ -85,7 +85,7 @@ module _ (defs : List Def) (facts : Facts) (words : List Word) where
 
 -- ---- of blocks
 
-module _ (defs : List Def) (globals : List Ty) (facts : Facts) where
+module _ (defs : List Def) (globals : List Ty) (constants : List Constant) (facts : Facts) where
   abbrev pub HasOne : Block → (m : ℕ) → Type 0
   HasOne b m = (q : ℕ) × (0 < machine.inside b q) × Refers facts m q
 
@@ -98,7 +98,7 @@ module _ (defs : List Def) (globals : List Ty) (facts : Facts) where
       let f : m ≡ n = is_one m n (omega (arith, h)) in
       (b, named_by (Refer (Some b) ∷ words) 0 b refl, itself (e.fact ∙ ap (λ j. Some (Named j)) (sym f)))
 
-  pub block_reaches : (n : ℕ) (v : HeapValue) (b : Block) (m : ℕ) → IsBlock defs globals facts n v b → 0 < inside v m → HasOne b m
+  pub block_reaches : (n : ℕ) (v : HeapValue) (b : Block) (m : ℕ) → IsBlock defs globals constants facts n v b → 0 < inside v m → HasOne b m
   block_reaches n _ _ m (elements t r words vs f l whole each only) h =
       let s = some_names vs m h in
       let x = reached defs facts words _ t s.value m (each s.number s.value s.there) s.names in
@@ -114,6 +114,6 @@ module _ (defs : List Def) (globals : List Ty) (facts : Facts) where
       let x = reached defs facts words 0 (ty.Adt a) v m s h in
       (x.named, named_by words x.number x.named x.word, x.is)
   block_reaches n _ _ m (channel t desc f) h = absurd (omega (arith, h))
-  block_reaches n _ _ m (instance_of object rs words vs f l whole all there only) h =
+  block_reaches n _ _ m (instance_of object rs words vs f l whole all there only fixed) h =
       let x = all_reached defs facts words globals_place nothing globals rs vs m all h in
       (x.named, named_by words x.number x.named x.word, x.is)

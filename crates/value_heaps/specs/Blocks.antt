@@ -1,5 +1,5 @@
 -- When a block of the machine stands for a value of the source's heap, by the form that is known of it.
-use Rattle.std.specs.Prelude.{ℕ, ◌+◌, ◌*◌, ◌≡◌, ◌<◌, ◌≤◌, ◌⊎◌, List, Option, Some, length, slice_get}
+use Rattle.std.specs.Prelude.{ℕ, ◌+◌, ◌*◌, ◌%◌, ◌≡◌, ◌<◌, ◌≤◌, ◌⊎◌, List, Option, Some, length, slice_get}
 use Rattle.heap_model.specs.Facts.{Chars}
 use Rattle.limbo_types.specs.Types as ty
 use Rattle.limbo_types.specs.Types.{Ty}
@@ -37,7 +37,23 @@ AreWhole words at size = ((w : ℕ) → IsWithin at size w → w < length words)
 abbrev pub globals_place : ℕ
 globals_place = 16
 
-module _ (defs : List Def) (globals : List Ty) (k : Facts) (serial : ℕ) where
+-- A value of a type that the module's code reads from its data, from this byte on, and that nothing changes: a text, a number, the zero of
+-- a type.
+pub record Constant : Type 0 where
+  pub at : ℕ
+  pub type : Ty
+  pub value : Value
+
+-- It is there.
+pub record HasConstant (defs : List Def) (k : Facts) (words : List Word) (c : Constant) : Type 0 where
+  pub room : Room
+  pub laid : Laid defs c.type room
+  pub aligned : c.at % room.align ≡ 0
+  pub whole : AreWhole words c.at room.size
+  pub stands : Stands defs k words c.at c.type c.value
+  pub refer_only : ReferOnlyThere words c.at room
+
+module _ (defs : List Def) (globals : List Ty) (constants : List Constant) (k : Facts) (serial : ℕ) where
   pub data IsBlock : HeapValue → Block → Type 0 where
     -- the elements of an array, one behind the other
     elements : (t : Ty) (r : Room) (words : List Word) (vs : List Value) → k.form serial ≡ Some (form.Elements t (length vs))
@@ -57,10 +73,11 @@ module _ (defs : List Def) (globals : List Ty) (k : Facts) (serial : ℕ) where
         → ((w b : ℕ) → slice_get words w ≡ Some (Refer (Some b)) → IsWithin 0 r.size w)
         → IsBlock (source.Record v) (block.Record words)
     channel : (t : Ty) (desc : TypeDesc) → k.form serial ≡ Some (Channels t) → IsBlock source.Channel (block.Channel desc)
-    -- the module's instance: its variables, and else only texts
+    -- the module's instance: its variables and its constants, and else only texts
     instance_of : (object : ℕ) (rs : List Room) (words : List Word) (vs : List Value) → k.form serial ≡ Some Instances
         → AllLaid defs globals rs → AreWhole words globals_place (all_behind nothing rs).size
         → AllStand defs k words globals_place nothing globals rs vs → ReferOnlyThere words globals_place (all_behind nothing rs)
         → ((w b : ℕ) → slice_get words w ≡ Some (Refer (Some b)) → IsWithin globals_place (all_behind nothing rs).size w
         ⊎ ((text : List ℕ) × (k.fact b ≡ Some (Chars text))))
+        → ((c : Constant) → Has constants c → HasConstant defs k words c)
         → IsBlock (source.Instance vs) (block.Instance object words)

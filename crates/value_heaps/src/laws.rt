@@ -1,11 +1,11 @@
 //! What holds of blocks that stand for values.
 
-ghost use Rattle.value_heaps.specs.Laws.{BlocksStand, ContentsAre};
+ghost use Rattle.value_heaps.specs.Laws.{AllBlocksStand, ContentsAre};
 ghost use Rattle.value_heaps.specs.Made.{MadeBlank};
 
 /// A block stands for its value for good, and names a block for each value of the heap that the value names, and no others but texts.
 pub fn blocks_stand()
-    ensures { BlocksStand }
+    ensures { AllBlocksStand }
 {}
 
 /// All that the law of two heaps asks of contents holds of them.
