@@ -1,3 +1,4 @@
 pub mod Beginning
-pub mod Slots
 pub mod Later
+pub mod Slots
+pub mod Examples

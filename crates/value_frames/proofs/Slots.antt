@@ -1,33 +1,39 @@
--- What a frame stands for where some of its words change: what lies in others stands as it stood.
-use Rattle.std.proofs.Common.{◌≡◌, ℕ, zero, suc, ◌+◌, ◌/◌, ◌%◌, ◌<◌, ◌≤◌, pos, List, [], ◌∷◌, length, Some, refl, sym, ap, ◌∙◌}
-use Rattle.std.proofs.Common.{subst, arith, inl, inr, None}
+-- What a frame stands for where some of its words change, or blocks of one slot: what lies elsewhere stands as it stood.
+use Rattle.std.proofs.Common.{◌≡◌, ℕ, zero, suc, ◌+◌, ◌/◌, ◌%◌, ◌<◌, ◌≤◌, pos, Bool, true, false, List, [], ◌∷◌, length, Some, refl, sym}
+use Rattle.std.proofs.Common.{ap, ◌∙◌, ◌==◌, ◌⊎◌, subst, arith, inl, inr, None}
 use Rattle.std.specs.Prelude.{slice_get, slice_set}
 use Rattle.std.specs.Int.{next_multiple_of}
 use Rattle.std.proofs.lemmas.Bool.Decides.{eqb_tells}
 use Rattle.heap_model.specs.Heap.{Heap}
 use Rattle.limbo_types.specs.Types as ty
 use Rattle.limbo_types.specs.Types.{Ty}
-use Rattle.limbo_layout.specs.Adts.{Def}
+use Rattle.limbo_layout.specs.Adts.{Def, Has}
 use Rattle.limbo_layout.specs.Layout.{Room, nothing, number, reference, is_alone, AllLaid, behind, all_behind}
 use Rattle.limbo_layout.specs.Layout as layout
 use Rattle.limbo_layout.specs.Laying.{rooms_of}
+use Rattle.limbo_values.specs.declared.number.Kind.TheVariants as kind
 use Rattle.limbo_meaning.specs.Values.{Value}
 use Rattle.core_code.specs.Rooms.{rooms_in}
 use Rattle.core_code.specs.Slots as core
 use Rattle.core_typing.specs.Held as held
 use Rattle.dis_meaning.specs.Words.{Word, Refer, Found, word_at}
 use Rattle.dis_memory.specs.Blocks.{Block}
-use Rattle.value_words.specs.Facts.{Facts}
-use Rattle.value_words.specs.Stands.{Stands, AllStand, none_stand, more_stand}
+use Rattle.value_words.specs.Facts.{Facts, Grows}
+use Rattle.value_words.specs.Stands.{Stands, a_number, a_text, a_name, an_array, no_words, a_tuple, an_adt}
+use Rattle.value_words.specs.Stands.{AllStand, none_stand, more_stand}
 use Rattle.value_words.proofs.Aligned.{inside, ends_within}
 use Rattle.value_words.proofs.Bytes.{word_found, word_there}
 use Rattle.value_words.proofs.Kept.{Stay, stay_within, kept}
+use Rattle.value_words.proofs.Later.{all_later}
 use Rattle.value_words.proofs.Rows.{set_other}
 use Rattle.value_heaps.specs.Blocks.{IsWithin}
-use Rattle.value_frames.specs.Frames.{linkage_bytes, row_of, spare_place, number_place, reference_place, form_of}
-use Rattle.value_frames.specs.Standing.{IsOwn, ValueStands, SlotStands, a_value, a_decision, a_loop, ChainStands, no_more, one_more}
-use Rattle.value_frames.specs.Standing.{WordsAre}
-use Rattle.value_frames.specs.Slots.{ElseAsWas, SlotsChange}
+use Rattle.value_frames.specs.Frames.{linkage_bytes, row_of, spare_place, number_place, reference_place, form_of, frame_bytes}
+use Rattle.value_frames.specs.Frames.{frame_references}
+use Rattle.value_frames.specs.Types.{AreOf}
+use Rattle.value_frames.specs.Standing.{Single, RefersIdly, ValueStands, IsOwn, SlotStands, a_value, a_decision, a_loop}
+use Rattle.value_frames.specs.Standing.{ChainStands, no_chain, a_chain, WordsAre}
+use Rattle.value_frames.specs.Slots.{ElseAsWas, IsKept, OneSlotChanged, SlotsChange}
+use Rattle.value_frames.proofs.Later.{slot_later}
 
 -- ---- one of a list replaced
 
@@ -56,6 +62,13 @@ stay_four words others at size a l s o i =
     let e : (at + o) / 4 ≡ at / 4 = omega (arith, a, l, i) in
     ap (slice_get others) e ∙ s ∙ ap (slice_get words) (sym e)
 
+not_reference : (r : Room) → r.references ≡ [] → Some r ≡ Some reference → ⊥
+not_reference r n e =
+    let f : r ≡ reference = cc in
+    let g : length r.references ≡ 1 = ap (λ (q : Room). length q.references) f in
+    let h : length r.references ≡ 0 = ap length n in
+    absurd (omega (arith, g, h))
+
 module _ (defs : List Def) (k : Facts) where
   rows_stay : (words others : List Word) (at : ℕ) (w : Room) (ts : List Ty) (rs : List Room) (vs : List Value) → AllLaid defs ts rs
       → Stay words others at (all_behind w rs).size → AllStand defs k words at w ts rs vs → AllStand defs k others at w ts rs vs
@@ -68,68 +81,118 @@ module _ (defs : List Def) (k : Facts) where
       (stay_within words others at (all_behind w (r ∷ rs)).size off r.size (ends_within w r rs) s) a)
       (rows_stay words others at (behind w r) ts rs vs i.1 s b)
 
-  reference_stays : (words others : List Word) (at : ℕ) (t : Ty) (v : Value) → at % 4 ≡ 0 → Stays words others at
-      → layout.alone t ≡ Some reference → Stands defs k words at t v → Stands defs k others at t v
-  reference_stays words others at t v a s e h =
-      kept words others defs k at t reference v (is_alone t reference e) (stay_four words others at 4 a (omega arith) s) h
+  -- what refers lies at a whole word
+  reference_even : (words : List Word) (at : ℕ) (t : Ty) (v : Value) → layout.alone t ≡ Some reference → Stands defs k words at t v
+      → at % 4 ≡ 0
+  reference_even words _ _ _ e (a_number at kind.Byte z f i) = absurd (not_reference (number 1) refl e)
+  reference_even words _ _ _ e (a_number at kind.Int z f i) = absurd (not_reference (number 4) refl e)
+  reference_even words _ _ _ e (a_number at kind.Big z f i) = absurd (not_reference (number 8) refl e)
+  reference_even words _ _ _ e (a_text at r s f i) = (word_found words at (Refer r) f).0
+  reference_even words _ _ _ e (a_name at t r n i f j) = (word_found words at (Refer r) f).0
+  reference_even words _ _ _ e (an_array at t r p f i) = (word_found words at (Refer r) f).0
+  reference_even words _ _ _ e (no_words at) = absurd (not_reference nothing refl e)
+  reference_even words _ _ _ e (a_tuple at ts rs vs l all) = absurd cc
+  reference_even words _ _ _ e (an_adt at n d rs vs f l all) = absurd cc
 
-  module _ (x : Heap Block) where
-    own_stays : (words others : List Word) (at : ℕ) (inner : List Word) → Stays words others at → IsOwn defs k x words at inner
-        → IsOwn defs k x others at inner
-    own_stays words others at inner s o = record {
-      block = o.block;
-      word = word_stays words others at (Refer (Some o.block)) s o.word;
-      there = o.there;
-      free = o.free;
-    }
+  idly_even : (words : List Word) (p : ℕ) → RefersIdly defs k words p → p % 4 ≡ 0
+  idly_even words p h = (word_found words p (Refer h.0) h.1).0
 
-    module _ (words others : List Word) (n r : ℕ) (even : n % 4 ≡ 0) (other : r % 4 ≡ 0) (first : Stays words others n)
+  idly_stays : (words others : List Word) (p : ℕ) → Stays words others p → RefersIdly defs k words p → RefersIdly defs k others p
+  idly_stays words others p s h = (h.0, word_stays words others p (Refer h.0) s h.1, h.2)
+
+  module _ (words : List Word) (n r : ℕ) where
+    value_even : (t : Ty) (v : Value) → ValueStands defs k words n r (form_of t) t v → r % 4 ≡ 0
+    value_even ty.Byte v h = idly_even words r h.1
+    value_even ty.Int v h = idly_even words r h.1
+    value_even ty.Big v h = (word_found words r (Refer (Some h.0)) h.2).0
+    value_even ty.Chars v h = reference_even words r ty.Chars v refl h
+    value_even ty.Nothing v h = idly_even words r h
+    value_even ty.Nil v h = reference_even words r ty.Nil v refl h
+    value_even (ty.ArrayOf t) v h = reference_even words r (ty.ArrayOf t) v refl h
+    value_even (ty.ListOf t) v h = reference_even words r (ty.ListOf t) v refl h
+    value_even (ty.ChanOf t) v h = reference_even words r (ty.ChanOf t) v refl h
+    value_even (ty.Tuple ts) v h = (word_found words r (Refer (Some h.0)) h.2).0
+    value_even (ty.Adt m) v h = (word_found words r (Refer (Some h.0)) h.2).0
+    value_even (ty.RefAdt m) v h = reference_even words r (ty.RefAdt m) v refl h
+    value_even (ty.RefPick m p) v h = reference_even words r (ty.RefPick m p) v refl h
+    value_even (ty.Module m) v h = reference_even words r (ty.Module m) v refl h
+
+    module _ (others : List Word) (even : n % 4 ≡ 0) (other : r % 4 ≡ 0) (first : Stays words others n)
         (second : Stays words others r) where
       to_stays : (t : Ty) (v : Value) → layout.alone t ≡ Some reference → Stands defs k words r t v → Stands defs k others r t v
-      to_stays t v e h = reference_stays words others r t v other second e h
+      to_stays t v e h =
+          kept words others defs k r t reference v (is_alone t reference e) (stay_four words others r 4 other (omega arith) second) h
 
-      value_stays : (t : Ty) (v : Value) → ValueStands defs k x words n r (form_of t) t v → ValueStands defs k x others n r (form_of t) t v
-      value_stays ty.Byte v h = (
-        kept words others defs k n ty.Byte (number 1) v (is_alone ty.Byte (number 1) refl)
-            (stay_four words others n 1 even (omega arith) first) h.0,
-        word_stays words others r (Refer None) second h.1,
-      )
-      value_stays ty.Int v h = (
-        kept words others defs k n ty.Int (number 4) v (is_alone ty.Int (number 4) refl)
-            (stay_four words others n 4 even (omega arith) first) h.0,
-        word_stays words others r (Refer None) second h.1,
-      )
-      value_stays ty.Big v h = (h.0, own_stays words others r h.0 second h.1, h.2)
+      number_stays : (t : Ty) (size : ℕ) (v : Value) → layout.alone t ≡ Some (number size) → size ≤ 4 → Stands defs k words n t v
+          → Stands defs k others n t v
+      number_stays t size v e l h =
+          kept words others defs k n t (number size) v (is_alone t (number size) e) (stay_four words others n size even l first) h
+
+      value_stays : (t : Ty) (v : Value) → ValueStands defs k words n r (form_of t) t v → ValueStands defs k others n r (form_of t) t v
+      value_stays ty.Byte v h = (number_stays ty.Byte 1 v refl (omega arith) h.0, idly_stays words others r second h.1)
+      value_stays ty.Int v h = (number_stays ty.Int 4 v refl (omega arith) h.0, idly_stays words others r second h.1)
+      value_stays ty.Big v h = (h.0, h.1, word_stays words others r (Refer (Some h.0)) second h.2, h.3, h.4)
       value_stays ty.Chars v h = to_stays ty.Chars v refl h
-      value_stays ty.Nothing v h = word_stays words others r (Refer None) second h
+      value_stays ty.Nothing v h = idly_stays words others r second h
       value_stays ty.Nil v h = to_stays ty.Nil v refl h
       value_stays (ty.ArrayOf t) v h = to_stays (ty.ArrayOf t) v refl h
       value_stays (ty.ListOf t) v h = to_stays (ty.ListOf t) v refl h
       value_stays (ty.ChanOf t) v h = to_stays (ty.ChanOf t) v refl h
-      value_stays (ty.Tuple ts) v h = (h.0, own_stays words others r h.0 second h.1, h.2)
-      value_stays (ty.Adt m) v h = (h.0, own_stays words others r h.0 second h.1, h.2)
+      value_stays (ty.Tuple ts) v h = (h.0, h.1, word_stays words others r (Refer (Some h.0)) second h.2, h.3, h.4)
+      value_stays (ty.Adt m) v h = (h.0, h.1, word_stays words others r (Refer (Some h.0)) second h.2, h.3, h.4)
       value_stays (ty.RefAdt m) v h = to_stays (ty.RefAdt m) v refl h
       value_stays (ty.RefPick m p) v h = to_stays (ty.RefPick m p) v refl h
       value_stays (ty.Module m) v h = to_stays (ty.Module m) v refl h
 
-    chain_stays : (words others : List Word) (p : ℕ) (gs : held.Regions) (rs : core.Regions) → Stays words others p
-        → ChainStands defs k x words p gs rs → ChainStands defs k x others p gs rs
-    chain_stays _ others _ _ _ s (no_more words p e) = no_more others p (word_stays words others p (Refer None) s e)
-    chain_stays _ others _ _ _ s (one_more words inner p h hs g gs o i c) =
-        one_more others inner p h hs g gs (own_stays words others p inner s o) i c
+  module _ (x : Heap Block) (frame : ℕ) where
+    own_stays : (words others : List Word) (p size : ℕ) (offsets : List ℕ) (b : ℕ) (inner : List Word) → Stays words others p
+        → IsOwn defs k x frame words p size offsets b inner → IsOwn defs k x frame others p size offsets b inner
+    own_stays words others p size offsets b inner s o = record {
+      word = word_stays words others p (Refer (Some b)) s o.word;
+      there = o.there;
+      free = o.free;
+      formed = o.formed;
+      kind = o.kind;
+    }
 
-    slot_stays : (words others : List Word) (n r : ℕ) (h : held.Held) (l : core.Slot) → n % 4 ≡ 0 → r % 4 ≡ 0 → Stays words others n
-        → Stays words others r → SlotStands defs k x words n r h l → SlotStands defs k x others n r h l
-    slot_stays _ others _ _ _ _ a b s i (a_value words n r t v e) = a_value others n r t v (value_stays words others n r a b s i t v e)
-    slot_stays _ others _ _ _ _ a b s i (a_decision words n r d e f) =
-        a_decision others n r d (word_stays words others n _ s e) (word_stays words others r _ i f)
-    slot_stays _ others _ _ _ _ a b s i (a_loop words n r m gs rs e c) =
-        a_loop others n r m gs rs (word_stays words others n _ s e) (chain_stays words others r gs rs i c)
+    chain_stays : (words others : List Word) (p : ℕ) (gs : held.Regions) (rs : core.Regions) (own : List ℕ) → Stays words others p
+        → ChainStands defs k x frame words p gs rs own → ChainStands defs k x frame others p gs rs own
+    chain_stays _ others _ _ _ _ s (no_chain words p e) = no_chain others p (word_stays words others p (Refer None) s e)
+    chain_stays _ others _ _ _ _ s (a_chain words inner p b last h hs g gs own more o e first rest) =
+        a_chain others inner p b last h hs g gs own more (own_stays words others p _ _ b inner s o) e first rest
 
-    -- ---- frames
+    chain_even : (words : List Word) (p : ℕ) (gs : held.Regions) (rs : core.Regions) (own : List ℕ)
+        → ChainStands defs k x frame words p gs rs own → p % 4 ≡ 0
+    chain_even _ _ _ _ _ (no_chain words p e) = (word_found words p (Refer None) e).0
+    chain_even _ _ _ _ _ (a_chain words inner p b last h hs g gs own more o e first rest) = (word_found words p (Refer (Some b)) o.word).0
+
+    slot_even : (words : List Word) (n r : ℕ) (h : held.Held) (l : core.Slot) (own : List ℕ)
+        → SlotStands defs k x frame words n r h l own → r % 4 ≡ 0
+    slot_even _ _ _ _ _ _ (a_value words n r t v e) = value_even words n r t v e
+    slot_even _ _ _ _ _ _ (a_decision words n r d e f) = idly_even words r f
+    slot_even _ _ _ _ _ _ (a_loop words n r m gs rs own e c) = chain_even words r gs rs own c
+
+    slot_stays : (words others : List Word) (n r : ℕ) (h : held.Held) (l : core.Slot) (own : List ℕ) → n % 4 ≡ 0 → r % 4 ≡ 0
+        → Stays words others n → Stays words others r → SlotStands defs k x frame words n r h l own
+        → SlotStands defs k x frame others n r h l own
+    slot_stays _ others _ _ _ _ _ a b s i (a_value words n r t v e) = a_value others n r t v (value_stays words n r others a b s i t v e)
+    slot_stays _ others _ _ _ _ _ a b s i (a_decision words n r d e f) =
+        a_decision others n r d (word_stays words others n _ s e) (idly_stays words others r i f)
+    slot_stays _ others _ _ _ _ _ a b s i (a_loop words n r m gs rs own e c) =
+        a_loop others n r m gs rs own (word_stays words others n _ s e) (chain_stays words others r gs rs own i c)
+
+    all_eight : (words others : List Word) (n : ℕ) (h : held.Held) (l : core.Slot) (own : List ℕ)
+        → ((w : ℕ) → IsWithin n 8 w → slice_get others w ≡ slice_get words w) → SlotStands defs k x frame words n (n + 4) h l own
+        → SlotStands defs k x frame others n (n + 4) h l own
+    all_eight words others n h l own same stands =
+        let a = slot_even words n (n + 4) h l own stands in
+        slot_stays words others n (n + 4) h l own (omega (arith, a)) a
+        (same (n / 4) (omega (arith, a), omega (arith, a))) (same ((n + 4) / 4) (omega (arith, a), omega (arith, a))) stands
+
+    -- ---- frames, where words change
 
     module _ (types : List Ty) (known : held.Slots) (vs : List Value) (slots : core.Slots) (words others : List Word)
-        (are : WordsAre defs k x types known vs slots words) where
+        (are : WordsAre defs k x frame types known vs slots words) where
       -- words of bytes that aren't among those that changed
       stays : (at size byte : ℕ) → ElseAsWas words others at size → (IsWithin at size (byte / 4) → ⊥) → Stays words others byte
       stays at size byte e n = e.each (byte / 4) n
@@ -144,78 +207,168 @@ module _ (defs : List Def) (k : Facts) where
       -- a slot of which no word changed
       each_stays : (at size u : ℕ) → ElseAsWas words others at size → (IsWithin at size (number_place defs types u / 4) → ⊥)
           → (IsWithin at size (reference_place defs types u / 4) → ⊥) → (h : held.Held) (l : core.Slot) → slice_get known u ≡ Some h
-          → slice_get slots u ≡ Some l → SlotStands defs k x others (number_place defs types u) (reference_place defs types u) h l
+          → slice_get slots u ≡ Some l
+          → SlotStands defs k x frame others (number_place defs types u) (reference_place defs types u) h l (are.own u)
       each_stays at size u e n m h l f g =
-          slot_stays words others (number_place defs types u) (reference_place defs types u) h l (omega arith) (omega arith)
+          slot_stays words others (number_place defs types u) (reference_place defs types u) h l (are.own u) (omega arith) (omega arith)
           (stays at size (number_place defs types u) e n) (stays at size (reference_place defs types u) e m) (are.each u h l f g)
 
-      spare_stays : (at size : ℕ) → ElseAsWas words others at size → (IsWithin at size (spare_place defs types / 4) → ⊥)
-          → word_at others (pos (spare_place defs types)) ≡ Found (Refer None)
-      spare_stays at size e n =
-          word_stays words others (spare_place defs types) (Refer None) (stays at size (spare_place defs types) e n) are.spare
+      abbrev AreOfFrame : Type 0
+      AreOfFrame = AreOf (frame_bytes defs types (length slots)) (frame_references defs types (length slots)) others
 
-      linkage_changes : ElseAsWas words others 0 linkage_bytes → WordsAre defs k x types known vs slots others
-      linkage_changes e = record {
-        laid = are.laid;
-        values = row_stays 0 linkage_bytes e (λ o l i. let j = i.1 in omega (arith, j));
-        as_many = are.as_many;
-        each = λ u h l. each_stays 0 linkage_bytes u e (λ i. let j = i.1 in omega (arith, j)) (λ i. let j = i.1 in omega (arith, j)) h l;
-        spare = spare_stays 0 linkage_bytes e (λ i. let j = i.1 in omega (arith, j));
-      }
-
-      variables_change : (us : List Value) → ElseAsWas words others linkage_bytes (row_of defs types).size
+      -- only words that are no slot's changed, and the variables are these now
+      outside : (us : List Value) (at size : ℕ) → ElseAsWas words others at size → AreOfFrame
           → AllStand defs k others linkage_bytes nothing types (rooms_of (rooms_in defs) types) us
-          → WordsAre defs k x types known us slots others
-      variables_change us e stand = record {
-        laid = are.laid;
-        values = stand;
-        as_many = are.as_many;
-        each = λ u h l. each_stays linkage_bytes (row_of defs types).size u e (λ i. let j = i.1 in omega (arith, j))
-            (λ i. let j = i.1 in omega (arith, j)) h l;
-        spare = spare_stays linkage_bytes (row_of defs types).size e (λ i. let j = i.1 in omega (arith, j));
-      }
-
-      module _ (s : ℕ) (h : held.Held) (l : core.Slot) (there : s < length slots) (e : ElseAsWas words others (number_place defs types s) 8)
-          (stand : SlotStands defs k x others (number_place defs types s) (reference_place defs types s) h l) where
-        each_slot : (u : ℕ) (i : held.Held) (j : core.Slot) → slice_get (held.put known s h) u ≡ Some i
-            → slice_get (core.put slots s l) u ≡ Some j
-            → SlotStands defs k x others (number_place defs types u) (reference_place defs types u) i j
-        each_slot u i j f g = elim (eqb_tells u s) [
-          | inl y ↦ this y.1
-          | inr y ↦ another y.1
-        ]
-          where
-            this : u ≡ s → SlotStands defs k x others (number_place defs types u) (reference_place defs types u) i j
-            this y =
-                let many = are.as_many in
-                let a : h ≡ i = put_there known s h i (omega (arith, there, many)) (ap (slice_get (held.put known s h)) (sym y) ∙ f) in
-                let b : l ≡ j = put_there slots s l j there (ap (slice_get (core.put slots s l)) (sym y) ∙ g) in
-                subst (λ (n : ℕ). SlotStands defs k x others (number_place defs types n) (reference_place defs types n) i j) (sym y)
-                (subst (λ (z : held.Held). SlotStands defs k x others (number_place defs types s) (reference_place defs types s) z j) a
-                (subst (λ (z : core.Slot). SlotStands defs k x others (number_place defs types s) (reference_place defs types s) h z) b
-                stand))
-
-            another : (u ≡ s → ⊥) → SlotStands defs k x others (number_place defs types u) (reference_place defs types u) i j
-            another ne =
-                each_stays (number_place defs types s) 8 u e
-                (λ z. let p = z.0 in let q = z.1 in ne (omega (arith, p, q)))
-                (λ z. let p = z.0 in let q = z.1 in ne (omega (arith, p, q)))
-                i j (sym (set_other known s u h ne) ∙ f) (sym (set_other slots s u l ne) ∙ g)
-
-        slot_changes : WordsAre defs k x types (held.put known s h) vs (core.put slots s l) others
-        slot_changes = record {
+          → ((u : ℕ) → (IsWithin at size (number_place defs types u / 4) → ⊥) × (IsWithin at size (reference_place defs types u / 4) → ⊥))
+          → (after : WordsAre defs k x frame types known us slots others) × (after.own ≡ are.own)
+      outside us at size e kind values apart = (
+        record {
           laid = are.laid;
-          values = row_stays (number_place defs types s) 8 e (λ o m i. let j = i.0 in omega (arith, j, m));
-          as_many = put_long known s h ∙ are.as_many ∙ sym (put_long slots s l);
-          each = each_slot;
-          spare = spare_stays (number_place defs types s) 8 e (λ i. let j = i.0 in omega (arith, j));
-        }
+          kind = kind;
+          values = values;
+          as_many = are.as_many;
+          own = are.own;
+          none_past = are.none_past;
+          each = λ u h l. each_stays at size u e (apart u).0 (apart u).1 h l;
+          single = are.single;
+          apart = are.apart;
+        },
+        refl,
+      )
+
+      linkage_changes : ElseAsWas words others 0 linkage_bytes → AreOfFrame
+          → (after : WordsAre defs k x frame types known vs slots others) × (after.own ≡ are.own)
+      linkage_changes e kind =
+          outside vs 0 linkage_bytes e kind (row_stays 0 linkage_bytes e (λ o l i. let j = i.1 in omega (arith, j)))
+          (λ u. (λ i. let j = i.1 in omega (arith, j), λ i. let j = i.1 in omega (arith, j)))
+
+      variables_change : (us : List Value) → ElseAsWas words others linkage_bytes (row_of defs types).size → AreOfFrame
+          → AllStand defs k others linkage_bytes nothing types (rooms_of (rooms_in defs) types) us
+          → (after : WordsAre defs k x frame types known us slots others) × (after.own ≡ are.own)
+      variables_change us e kind values =
+          outside us linkage_bytes (row_of defs types).size e kind values
+          (λ u. (λ i. let j = i.1 in omega (arith, j), λ i. let j = i.1 in omega (arith, j)))
+
+      spare_changes : ElseAsWas words others (spare_place defs types) 4 → AreOfFrame
+          → (after : WordsAre defs k x frame types known vs slots others) × (after.own ≡ are.own)
+      spare_changes e kind =
+          outside vs (spare_place defs types) 4 e kind
+          (row_stays (spare_place defs types) 4 e (λ o l i. let j = i.0 in omega (arith, j, l)))
+          (λ u. (λ i. let j = i.1 in omega (arith, j), λ i. let j = i.1 in omega (arith, j)))
+
+-- ---- frames, where one slot changes
+
+abbrev choose : Bool → List ℕ → List ℕ → List ℕ
+choose true now was = now
+choose false now was = was
+
+module _ (defs : List Def) (k k' : Facts) (x x' : Heap Block) (frame : ℕ) (grows : Grows k k') where
+  slot_same : (words others : List Word) (n : ℕ) (h : held.Held) (l : core.Slot) (own : List ℕ)
+      → SlotStands defs k x frame words n (n + 4) h l own → ((w : ℕ) → IsWithin n 8 w → slice_get others w ≡ slice_get words w)
+      → ((b : ℕ) → Has own b → IsKept k' x x' b) → SlotStands defs k' x' frame others n (n + 4) h l own
+  slot_same words others n h l own stands same keeps =
+      all_eight defs k' x' frame words others n h l own same
+      (slot_later defs k k' grows x x' frame words n (n + 4) h l own keeps stands)
+
+  module _ (types : List Ty) (known : held.Slots) (vs : List Value) (slots : core.Slots) (words others : List Word) (s : ℕ)
+      (h : held.Held) (l : core.Slot) (own : List ℕ) (are : WordsAre defs k x frame types known vs slots words) (there : s < length slots)
+      (e : ElseAsWas words others (number_place defs types s) 8)
+      (kind : AreOf (frame_bytes defs types (length slots)) (frame_references defs types (length slots)) others)
+      (stand : SlotStands defs k' x' frame others (number_place defs types s) (reference_place defs types s) h l own) (single : Single own)
+      (rest : (r b : ℕ) → (r ≡ s → ⊥) → Has (are.own r) b → (Has own b → ⊥) × IsKept k' x x' b) where
+    abbrev after_own : ℕ → List ℕ
+    after_own r = choose (r == s) own (are.own r)
+
+    own_here : (r : ℕ) → r ≡ s → after_own r ≡ own
+    own_here r y = elim (eqb_tells r s) [
+      | inl z ↦ ap (λ b. choose b own (are.own r)) z.0
+      | inr z ↦ absurd (z.1 y)
+    ]
+
+    own_elsewhere : (r : ℕ) → (r ≡ s → ⊥) → after_own r ≡ are.own r
+    own_elsewhere r ne = elim (eqb_tells r s) [
+      | inl z ↦ absurd (ne z.1)
+      | inr z ↦ ap (λ b. choose b own (are.own r)) z.0
+    ]
+
+    -- a block is the changed slot's or another's
+    is_of : (r b : ℕ) → Has (after_own r) b → ((r ≡ s) × Has own b) ⊎ ((r ≡ s → ⊥) × Has (are.own r) b)
+    is_of r b i = elim (eqb_tells r s) [
+      | inl z ↦ inl (z.1, subst (λ (os : List ℕ). Has os b) (own_here r z.1) i)
+      | inr z ↦ inr (z.1, subst (λ (os : List ℕ). Has os b) (own_elsewhere r z.1) i)
+    ]
+
+    abbrev At : (u : ℕ) → held.Held → core.Slot → List ℕ → Type 0
+    At u = SlotStands defs k' x' frame others (number_place defs types u) (reference_place defs types u)
+
+    each_slot : (u : ℕ) (i : held.Held) (j : core.Slot) → slice_get (held.put known s h) u ≡ Some i
+        → slice_get (core.put slots s l) u ≡ Some j
+        → At u i j (after_own u)
+    each_slot u i j f g = elim (eqb_tells u s) [
+      | inl y ↦ this y.1
+      | inr y ↦ another y.1
+    ]
+      where
+        this : u ≡ s → At u i j (after_own u)
+        this y =
+            let many = are.as_many in
+            let a : h ≡ i = put_there known s h i (omega (arith, there, many)) (ap (slice_get (held.put known s h)) (sym y) ∙ f) in
+            let b : l ≡ j = put_there slots s l j there (ap (slice_get (core.put slots s l)) (sym y) ∙ g) in
+            subst (λ (os : List ℕ). At u i j os) (sym (own_here u y))
+            (subst (λ (n : ℕ). At n i j own) (sym y)
+            (subst (λ (z : held.Held). At s z j own) a (subst (λ (z : core.Slot). At s h z own) b stand)))
+
+        another : (u ≡ s → ⊥) → At u i j (after_own u)
+        another ne =
+            subst (λ (os : List ℕ). At u i j os) (sym (own_elsewhere u ne))
+            (slot_same words others (number_place defs types u) i j (are.own u)
+            (are.each u i j (sym (set_other known s u h ne) ∙ f) (sym (set_other slots s u l ne) ∙ g))
+            (λ w z. e.each w (λ y.
+            let p = y.0 in let q = y.1 in let a = z.0 in let c = z.1 in
+            ne (omega (arith, p, q, a, c))))
+            (λ b k. (rest u b ne k).1))
+
+    slot_changes : OneSlotChanged defs k k' x x' frame types known vs slots words others are s h l own
+    slot_changes = record {
+      after = record {
+        laid = are.laid;
+        kind = subst (λ (m : ℕ). AreOf (frame_bytes defs types m) (frame_references defs types m) others) (sym (put_long slots s l)) kind;
+        values = rows_stay defs k' words others linkage_bytes nothing types (rooms_of (rooms_in defs) types) vs are.laid
+            (λ o m. e.each ((linkage_bytes + o) / 4) (λ i. let j = i.0 in omega (arith, j, m)))
+            (all_later defs k k' words grows linkage_bytes nothing types (rooms_of (rooms_in defs) types) vs are.values);
+        as_many = put_long known s h ∙ are.as_many ∙ sym (put_long slots s l);
+        own = after_own;
+        none_past = λ r m.
+            let p : length slots ≤ r = let q = put_long slots s l in omega (arith, q, m) in
+            own_elsewhere r (λ y. omega (arith, y, p, there)) ∙ are.none_past r p;
+        each = each_slot;
+        single = λ r. elim (eqb_tells r s) [
+          | inl z ↦ subst (λ (os : List ℕ). Single os) (sym (own_here r z.1)) single
+          | inr z ↦ subst (λ (os : List ℕ). Single os) (sym (own_elsewhere r z.1)) (are.single r)
+        ];
+        apart = λ r q b i j. alone r q b (is_of r b i) (is_of q b j);
+      };
+      here = own_here s refl;
+      elsewhere = own_elsewhere;
+    }
+      where
+        alone : (r q b : ℕ) → ((r ≡ s) × Has own b) ⊎ ((r ≡ s → ⊥) × Has (are.own r) b)
+            → ((q ≡ s) × Has own b) ⊎ ((q ≡ s → ⊥) × Has (are.own q) b) → r ≡ q
+        alone r q b (inl i) (inl j) = i.0 ∙ sym j.0
+        alone r q b (inl i) (inr j) = absurd ((rest q b j.0 j.1).0 i.1)
+        alone r q b (inr i) (inl j) = absurd ((rest r b i.0 i.1).0 j.1)
+        alone r q b (inr i) (inr j) = are.apart r q b i.1 j.1
 
 pub slots_change : SlotsChange
 slots_change = record {
-  slot = λ defs k x types known vs slots words others s h l are there e stand.
-      slot_changes defs k x types known vs slots words others are s h l there e stand;
-  variables = λ defs k x types known vs us slots words others are e stand.
-      variables_change defs k x types known vs slots words others are us e stand;
-  linkage = λ defs k x types known vs slots words others are e. linkage_changes defs k x types known vs slots words others are e;
+  stays = λ defs k k' x x' frame words others n h l own stands grows same keeps.
+      slot_same defs k k' x x' frame grows words others n h l own stands same keeps;
+  slot = λ defs k k' x x' frame types known vs slots words others s h l own are grows there e kind stand single rest.
+      slot_changes defs k k' x x' frame grows types known vs slots words others s h l own are there e kind stand single rest;
+  variables = λ defs k x frame types known vs us slots words others are e kind values.
+      variables_change defs k x frame types known vs slots words others are us e kind values;
+  linkage = λ defs k x frame types known vs slots words others are e kind.
+      linkage_changes defs k x frame types known vs slots words others are e kind;
+  spare = λ defs k x frame types known vs slots words others are e kind.
+      spare_changes defs k x frame types known vs slots words others are e kind;
 }

@@ -114,3 +114,19 @@ module _ (defs : List Def) where
     abbrev pub frame_references : (slots : ℕ) → List ℕ
     frame_references slots =
         map (λ o. linkage_bytes + o) (row_of types).references ++ spare_place ∷ map (λ s. reference_place s) (range_with_len 0 slots)
+
+  -- A record that has a value of a type takes whole words.
+  abbrev pub box_bytes : Ty → ℕ
+  box_bytes t = next_multiple_of (room_for t).size 4
+
+-- ---- the records of a loop's chain: at 0 the next one, at 4 the last, and from 8 on a region of so many slots
+
+-- The words that refer in a region of slots from a byte on.
+abbrev pub region_references : (from slots : ℕ) → List ℕ
+region_references from n = map (λ s. from + 8 * s + 4) (range_with_len 0 n)
+
+abbrev pub turn_bytes : (slots : ℕ) → ℕ
+turn_bytes n = 8 + 8 * n
+
+abbrev pub turn_references : (slots : ℕ) → List ℕ
+turn_references n = 0 ∷ 4 ∷ region_references 8 n

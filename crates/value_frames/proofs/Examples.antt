@@ -1,0 +1,277 @@
+-- A frame in words, worked out by hand; chains of one record and of two; a big in its box; and a reference that isn't idle.
+use Rattle.std.proofs.Common.{◌≡◌, ℕ, zero, suc, ◌+◌, ◌*◌, ◌/◌, ◌<◌, pos, List, [], ◌∷◌, length, Option, Some, None, refl, inl, inr}
+use Rattle.std.proofs.Common.{arith, sym, subst, ◌∙◌, ap}
+use Rattle.std.specs.Prelude.{ℤ, slice_get}
+use Rattle.std.proofs.lemmas.Int.{ints}
+use Rattle.heap_model.specs.Heap.{Heap}
+use Rattle.heap_model.specs.Facts.{Fact, Named, Chars, Carrier}
+use Rattle.limbo_types.specs.Types as ty
+use Rattle.limbo_types.specs.Types.{Ty}
+use Rattle.limbo_layout.specs.Adts.{Has}
+use Rattle.limbo_layout.specs.Layout.{nothing, number, is_alone, none_laid, more_laid}
+use Rattle.limbo_values.specs.declared.number.Kind.TheVariants as kind
+use Rattle.limbo_values.specs.Numbers.{InRange}
+use Rattle.limbo_meaning.specs.Values.{Num, Ref}
+use Rattle.core_code.specs.Slots as core
+use Rattle.core_code.specs.Slots.{Holds}
+use Rattle.core_typing.specs.Held as held
+use Rattle.core_typing.specs.Held.{Of}
+use Rattle.dis_meaning.specs.Words.{Word, Plain, Refer}
+use Rattle.dis_memory.specs.Blocks.{Block, Record}
+use Rattle.value_words.specs.Contents.{AreInRange}
+use Rattle.value_words.specs.Forms.{Form, Cells, OwnedBy}
+use Rattle.value_words.specs.Facts.{Facts}
+use Rattle.value_words.specs.Stands.{a_number, a_name, none_stand, more_stand}
+use Rattle.value_frames.specs.Frames.{frame_bytes, frame_references, number_place, reference_place, turn_bytes, turn_references}
+use Rattle.value_frames.specs.Types.{AreOf}
+use Rattle.value_frames.specs.Standing.{IsBox, IsIdle, nothing_there, text_left, box_left, SlotStands, a_value, a_loop, a_chain, no_more}
+use Rattle.value_frames.specs.Standing.{one_more, RegionStands, more_slots, no_slot, WordsAre}
+
+-- ---- words that are of their type, by what refers among them
+
+abbrev refers : (number : ℕ) → List Word → List ℕ
+refers n [] = []
+refers n (Refer r ∷ ws) = 4 * n ∷ refers (suc n) ws
+refers n (w ∷ ws) = refers (suc n) ws
+
+refers_there : (n : ℕ) (ws : List Word) (o : ℕ) → Has (refers n ws) o
+    → (k : ℕ) × (r : Option ℕ) × (4 * (n + k) ≡ o) × (slice_get ws k ≡ Some (Refer r))
+refers_there n [] o h = absurd h
+refers_there n (Refer r ∷ ws) o (inl e) = (0, r, omega (arith, e), refl)
+refers_there n (Refer r ∷ ws) o (inr h) =
+    let i = refers_there (suc n) ws o h in let e = i.2 in (suc i.0, i.1, omega (arith, e), i.3)
+refers_there n (w ∷ ws) o h =
+    let i = refers_there (suc n) ws o h in let e = i.2 in (suc i.0, i.1, omega (arith, e), i.3)
+
+is_there : (n : ℕ) (ws : List Word) (k : ℕ) (r : Option ℕ) → slice_get ws k ≡ Some (Refer r) → Has (refers n ws) (4 * (n + k))
+is_there n [] k r e = absurd cc
+is_there n (Refer s ∷ ws) zero r e = inl (omega arith)
+is_there n (Refer s ∷ ws) (suc k) r e =
+    inr (subst (λ (m : ℕ). Has (refers (suc n) ws) (4 * m)) (omega arith) (is_there (suc n) ws k r e))
+is_there n (w ∷ ws) zero r e = absurd cc
+is_there n (w ∷ ws) (suc k) r e = subst (λ (m : ℕ). Has (refers (suc n) ws) (4 * m)) (omega arith) (is_there (suc n) ws k r e)
+
+kind_by : (ws : List Word) (size : ℕ) (offsets : List ℕ) → length ws ≡ size / 4 → refers 0 ws ≡ offsets → AreInRange ws
+    → AreOf size offsets ws
+kind_by ws size offsets long same ranged = record {
+  many = long;
+  ranged = ranged;
+  refer = λ o h.
+      let i = refers_there 0 ws o (subst (λ (os : List ℕ). Has os o) (sym same) h) in
+      let e = i.2 in
+      (i.1, ap (slice_get ws) (let f : o / 4 ≡ i.0 = omega (arith, e) in f) ∙ i.3);
+  only = λ w r e.
+      subst (λ (os : List ℕ). Has os (4 * w)) same (subst (λ (m : ℕ). Has (refers 0 ws) (4 * m)) (omega arith) (is_there 0 ws w r e));
+}
+
+small : (n : ℕ) (z : ℤ) → n < 2147483648 → pos n ≡ z → InRange kind.Int z
+small n z l e = subst (λ y. InRange kind.Int y) e (record { above = omega (arith, ints); below = omega (arith, ints) })
+
+data AreSmall : List Word → Type 0 where
+  no_words : AreSmall []
+  plain_word : (n : ℕ) (ws : List Word) → n < 2147483648 → AreSmall ws → AreSmall (Plain (pos n) ∷ ws)
+  refer_word : (r : Option ℕ) (ws : List Word) → AreSmall ws → AreSmall (Refer r ∷ ws)
+
+zero_word : (ws : List Word) → AreSmall ws → AreSmall (Plain (pos 0) ∷ ws)
+zero_word ws h = plain_word 0 ws (omega arith) h
+
+in_range : (ws : List Word) → AreSmall ws → AreInRange ws
+in_range _ no_words k z e = absurd cc
+in_range _ (plain_word n ws l h) zero z e = small n z l cc
+in_range _ (plain_word n ws l h) (suc k) z e = in_range ws h k z e
+in_range _ (refer_word r ws h) zero z e = absurd cc
+in_range _ (refer_word r ws h) (suc k) z e = in_range ws h k z e
+
+-- ---- Block 3 stands for value 9, which is a cell of a list of ints, and block 4 for "H". Blocks 5, 6 and 7 are frame 20's own. Block 8
+-- is the box of the big 5.
+
+abbrev ints_list : Ty
+ints_list = ty.ListOf ty.Int
+
+abbrev box : List Word
+box = Plain (pos 0) ∷ Plain (pos 5) ∷ []
+
+abbrev known_of : ℕ → Option (Fact Block)
+known_of (suc (suc (suc zero))) = Some (Named 9)
+known_of (suc (suc (suc (suc zero)))) = Some (Chars (72 ∷ []))
+known_of (suc (suc (suc (suc (suc (suc (suc (suc zero)))))))) = Some (Carrier (Record box))
+known_of b = None
+
+abbrev formed_of : ℕ → Option Form
+formed_of (suc (suc (suc zero))) = Some (Cells ty.Int)
+formed_of (suc (suc (suc (suc (suc zero))))) = Some (OwnedBy 20)
+formed_of (suc (suc (suc (suc (suc (suc zero)))))) = Some (OwnedBy 20)
+formed_of (suc (suc (suc (suc (suc (suc (suc zero))))))) = Some (OwnedBy 20)
+formed_of b = None
+
+only_three : (n m : ℕ) → known_of n ≡ Some (Named m) → n ≡ 3
+only_three zero m e = absurd cc
+only_three (suc zero) m e = absurd cc
+only_three (suc (suc zero)) m e = absurd cc
+only_three (suc (suc (suc zero))) m e = refl
+only_three (suc (suc (suc (suc zero)))) m e = absurd cc
+only_three (suc (suc (suc (suc (suc zero))))) m e = absurd cc
+only_three (suc (suc (suc (suc (suc (suc zero)))))) m e = absurd cc
+only_three (suc (suc (suc (suc (suc (suc (suc zero))))))) m e = absurd cc
+only_three (suc (suc (suc (suc (suc (suc (suc (suc zero)))))))) m e = absurd cc
+only_three (suc (suc (suc (suc (suc (suc (suc (suc (suc n))))))))) m e = absurd cc
+
+abbrev known : Facts
+known = record {
+  fact = known_of;
+  maker = λ b. None;
+  form = formed_of;
+  once = λ m n n' e f. only_three n m e ∙ sym (only_three n' m f);
+}
+
+-- ---- a frame with a variable, an int, and two slots: the int 7, beside which the text is left, and the name of the list
+
+abbrev behind_linkage : List Word
+behind_linkage =
+    Plain (pos 5) ∷ Refer None ∷ Plain (pos 7) ∷ Refer (Some 4) ∷ Plain (pos 0) ∷ Refer (Some 3) ∷ []
+
+abbrev words : List Word
+words =
+    Plain (pos 0) ∷ Plain (pos 0) ∷ Plain (pos 0) ∷ Plain (pos 0) ∷ Plain (pos 0) ∷ Plain (pos 0) ∷ Plain (pos 0) ∷ Plain (pos 0)
+    ∷ behind_linkage
+
+abbrev held_slots : held.Slots
+held_slots = Of ty.Int ∷ Of ints_list ∷ []
+
+abbrev slots : core.Slots
+slots = Holds (Num (pos 7)) ∷ Holds (Ref (Some 9)) ∷ []
+
+words_small : AreSmall words
+words_small =
+    zero_word _ (zero_word _ (zero_word _ (zero_word _ (zero_word _ (zero_word _ (zero_word _ (zero_word _
+    (plain_word 5 _ (omega arith) (refer_word None _ (plain_word 7 _ (omega arith) (refer_word (Some 4) _
+    (zero_word _ (refer_word (Some 3) _ no_words)))))))))))))
+
+-- The variable lies at 32, the spare word at 36, and the slots from 40 on.
+bytes_are : frame_bytes [] (ty.Int ∷ []) 2 ≡ 56
+bytes_are = refl
+
+references_are : frame_references [] (ty.Int ∷ []) 2 ≡ 36 ∷ 44 ∷ 52 ∷ []
+references_are = refl
+
+module _ (x : Heap Block) where
+  abbrev At : (s : ℕ) → held.Held → core.Slot → Type 0
+  At s h l = SlotStands [] known x 20 words (number_place [] (ty.Int ∷ []) s) (reference_place [] (ty.Int ∷ []) s) h l []
+
+  each_slot : (s : ℕ) (h : held.Held) (l : core.Slot) → slice_get held_slots s ≡ Some h → slice_get slots s ≡ Some l → At s h l
+  each_slot zero h l e f =
+      let a : Of ty.Int ≡ h = cc in
+      let b : Holds (Num (pos 7)) ≡ l = cc in
+      subst (λ (i : held.Held). At 0 i l) a (subst (λ (j : core.Slot). At 0 (Of ty.Int) j) b
+      (a_value words 40 44 ty.Int (Num (pos 7))
+      (a_number 40 kind.Int (pos 7) refl (small 7 (pos 7) (omega arith) refl), (Some 4, refl, text_left 4 (72 ∷ []) refl))))
+  each_slot (suc zero) h l e f =
+      let a : Of ints_list ≡ h = cc in
+      let b : Holds (Ref (Some 9)) ≡ l = cc in
+      subst (λ (i : held.Held). At 1 i l) a (subst (λ (j : core.Slot). At 1 (Of ints_list) j) b
+      (a_value words 48 52 ints_list (Ref (Some 9))
+      (a_name 52 ints_list (Some 3) (Some 9) tt refl (record { fact = refl; formed = refl }))))
+  each_slot (suc (suc s)) h l e f = absurd cc
+
+  frame_stands : WordsAre [] known x 20 (ty.Int ∷ []) held_slots (Num (pos 5) ∷ []) slots words
+  frame_stands = record {
+    laid = more_laid ty.Int [] (number 4) [] (is_alone ty.Int (number 4) refl) none_laid;
+    kind = kind_by words 56 (36 ∷ 44 ∷ 52 ∷ []) refl refl (in_range words words_small);
+    values = more_stand 32 nothing ty.Int [] (number 4) [] (Num (pos 5)) []
+        (a_number 32 kind.Int (pos 5) refl (small 5 (pos 5) (omega arith) refl)) (none_stand 32 _);
+    as_many = refl;
+    own = λ s. [];
+    none_past = λ s l. refl;
+    each = each_slot;
+    single = λ s. tt;
+    apart = λ s r b i j. absurd i;
+  }
+
+-- ---- loops of which each turn left 7 in its one slot
+
+abbrev turn : (next last : Option ℕ) → List Word
+turn next last = Refer next ∷ Refer last ∷ Plain (pos 7) ∷ Refer None ∷ []
+
+abbrev heap : Heap Block
+heap =
+    None ∷ None ∷ None ∷ None ∷ None ∷ Some (Record (turn None None)) ∷ Some (Record (turn (Some 7) (Some 7)))
+    ∷ Some (Record (turn None None)) ∷ []
+
+abbrev held_turn : held.Region
+held_turn = held.MoreSlots (Of ty.Int) held.NoSlot
+
+abbrev turn_slots : core.Region
+turn_slots = core.MoreSlots (Holds (Num (pos 7))) core.NoSlot
+
+turn_kind : (next last : Option ℕ) → AreOf (turn_bytes 1) (turn_references 1) (turn next last)
+turn_kind next last =
+    kind_by (turn next last) 16 (0 ∷ 4 ∷ 12 ∷ []) refl refl
+    (in_range (turn next last) (refer_word next _ (refer_word last _ (plain_word 7 _ (omega arith) (refer_word None _ no_words)))))
+
+turn_stands : (next last : Option ℕ) → RegionStands [] known heap 20 (turn next last) 8 held_turn turn_slots []
+turn_stands next last =
+    more_slots (turn next last) 8 (Of ty.Int) held.NoSlot (Holds (Num (pos 7))) core.NoSlot [] []
+    (a_value (turn next last) 8 12 ty.Int (Num (pos 7))
+    (a_number 8 kind.Int (pos 7) refl (small 7 (pos 7) (omega arith) refl), (None, refl, nothing_there)))
+    (no_slot (turn next last) 16)
+
+abbrev one_slot : (number block : ℕ) → List Word
+one_slot n b = Plain (pos n) ∷ Refer (Some b) ∷ []
+
+-- Block 5 is the one record of a chain.
+one_turn : SlotStands [] known heap 20 (one_slot 1 5) 0 4 (held.Turns (held.MoreRegions held_turn held.NoRegion))
+    (core.Turns 1 (core.MoreRegions turn_slots core.NoRegion)) (5 ∷ [])
+one_turn =
+    a_loop (one_slot 1 5) 0 4 1 (held.MoreRegions held_turn held.NoRegion) (core.MoreRegions turn_slots core.NoRegion) (5 ∷ []) refl
+    (a_chain (one_slot 1 5) (turn None None) 4 5 None held_turn held.NoRegion turn_slots core.NoRegion [] []
+    (record { word = refl; there = refl; free = tt; formed = refl; kind = turn_kind None None }) refl (turn_stands None None)
+    (no_more (turn None None) 0 refl))
+
+-- Blocks 6 and 7 are the two of another: the first has at 4 the last.
+two_turns : SlotStands [] known heap 20 (one_slot 2 6) 0 4
+    (held.Turns (held.MoreRegions held_turn (held.MoreRegions held_turn held.NoRegion)))
+    (core.Turns 2 (core.MoreRegions turn_slots (core.MoreRegions turn_slots core.NoRegion))) (6 ∷ 7 ∷ [])
+two_turns =
+    a_loop (one_slot 2 6) 0 4 2 (held.MoreRegions held_turn (held.MoreRegions held_turn held.NoRegion))
+    (core.MoreRegions turn_slots (core.MoreRegions turn_slots core.NoRegion)) (6 ∷ 7 ∷ []) refl
+    (a_chain (one_slot 2 6) (turn (Some 7) (Some 7)) 4 6 (Some 7) held_turn (held.MoreRegions held_turn held.NoRegion) turn_slots
+    (core.MoreRegions turn_slots core.NoRegion) [] (7 ∷ [])
+    (record { word = refl; there = refl; free = tt; formed = refl; kind = turn_kind (Some 7) (Some 7) }) refl
+    (turn_stands (Some 7) (Some 7))
+    (one_more (turn (Some 7) (Some 7)) (turn None None) 0 7 None held_turn held.NoRegion turn_slots core.NoRegion [] []
+    (record { word = refl; there = refl; free = tt; formed = refl; kind = turn_kind None None }) refl (turn_stands None None)
+    (no_more (turn None None) 0 refl)))
+
+-- ---- a big stands in a box, to which the slot may refer idly later
+
+big_box : IsBox [] known ty.Big 8 box
+big_box = record {
+  carries = refl;
+  kind = kind_by box 8 [] refl refl (in_range box (zero_word _ (plain_word 5 _ (omega arith) no_words)));
+}
+
+big_stands : (x : Heap Block) → SlotStands [] known x 20 (one_slot 0 8) 0 4 (Of ty.Big) (Holds (Num (pos 5))) []
+big_stands x =
+    a_value (one_slot 0 8) 0 4 ty.Big (Num (pos 5))
+    (8, box, refl, big_box, a_number 0 kind.Big (pos 5) refl (record { above = omega (arith, ints); below = omega (arith, ints) }))
+
+nothing_in : (w q : ℕ) → slice_get box w ≡ Some (Refer (Some q)) → (text : List ℕ) × (known_of q ≡ Some (Chars text))
+nothing_in zero q e = absurd cc
+nothing_in (suc zero) q e = absurd cc
+nothing_in (suc (suc w)) q e = absurd cc
+
+big_idle : IsIdle [] known (Some 8)
+big_idle = box_left 8 ty.Big box big_box nothing_in
+
+-- ---- what stands for a value of the heap isn't left idle
+
+not_idle : (r : Option ℕ) → r ≡ Some 3 → IsIdle [] known r → ⊥
+not_idle _ e nothing_there = absurd cc
+not_idle _ e (text_left b text f) =
+    let same : b ≡ 3 = cc in
+    let g : Some (Named 9) ≡ Some (Chars text) = ap known_of (sym same) ∙ f in
+    absurd cc
+not_idle _ e (box_left b t inner i texts) =
+    let same : b ≡ 3 = cc in
+    let g = ap known_of (sym same) ∙ i.carries in
+    absurd cc
