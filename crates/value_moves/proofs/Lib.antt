@@ -1,0 +1,13 @@
+pub mod Putting
+pub mod Storing
+pub mod Leading
+pub mod Changing
+pub mod Copying
+pub mod Referring
+pub mod Standing
+pub mod Beginning
+pub mod Obeying
+pub mod Written
+pub mod Marked
+pub mod Moving
+pub mod Examples

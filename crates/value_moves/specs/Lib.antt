@@ -1,0 +1,4 @@
+pub mod Operands
+pub mod Spots
+pub mod Writing
+pub mod Changing
