@@ -50,20 +50,20 @@ module _ (s : Scope) (answer : Ty) (code : List Instr) where
   -- One instruction: what is behind it goes well for as long.
   pub goes_one : (n pc : ℕ) (slots : Slots) (i : Instr) → slice_get code pc ≡ Some i → Finds s answer slots i
       → Agrees s answer code pc slots i
-      → All (λ (a : Stand). Goes s answer code n a.pc a.slots) (behind pc slots i) → Goes s answer code n pc slots
+      → All (λ (a : Stand). Goes s answer code n a.pc a.slots) (behind s.adts pc slots i) → Goes s answer code n pc slots
   goes_one zero pc slots i e f a g = tt
   goes_one (suc n) pc slots i e f a g = (i, e, f, a, λ k d l. less n _ _ (g k d l))
 
   -- An instruction with one place behind it.
   pub goes_to : (n pc pc' : ℕ) (slots slots' : Slots) (i : Instr) → slice_get code pc ≡ Some i → Finds s answer slots i
       → Agrees s answer code pc slots i
-      → behind pc slots i ≡ stand pc' slots' ∷ [] → Goes s answer code n pc' slots' → Goes s answer code n pc slots
+      → behind s.adts pc slots i ≡ stand pc' slots' ∷ [] → Goes s answer code n pc' slots' → Goes s answer code n pc slots
   goes_to n pc pc' slots slots' i e f a b g =
       goes_one n pc slots i e f a (subst (All (λ (a : Stand). Goes s answer code n a.pc a.slots)) (sym b) (one_place n pc' slots' g))
 
   pub goes_next : (n pc pc' : ℕ) (slots slots' : Slots) (i : Instr) → slice_get code pc ≡ Some i → Finds s answer slots i
       → Agrees s answer code pc slots i
-      → behind pc slots i ≡ stand pc' slots' ∷ [] → Goes s answer code n pc' slots' → Goes s answer code (suc n) pc slots
+      → behind s.adts pc slots i ≡ stand pc' slots' ∷ [] → Goes s answer code n pc' slots' → Goes s answer code (suc n) pc slots
   goes_next n pc pc' slots slots' i e f a b g =
       (i, e, f, a, subst (All (λ (a : Stand). Goes s answer code n a.pc a.slots)) (sym b) (one_place n pc' slots' g))
 

@@ -1,5 +1,6 @@
 pub mod Telling
 pub mod Going
+pub mod Cleaning
 pub mod Drops
 pub mod Standing
 pub mod Moving
@@ -10,3 +11,4 @@ pub mod Trees
 pub mod Loops
 pub mod Functions
 pub mod Modules
+mod Examples

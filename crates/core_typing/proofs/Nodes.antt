@@ -1,9 +1,9 @@
 -- Nodes behind their operands go well.
-use Rattle.std.proofs.Common.{◌≡◌, ℕ, zero, suc, ◌+◌, ◌-◌, ◌<◌, ◌≤◌, Bool, true, List, [], ◌∷◌, ◌++◌, length, Option, Some, None}
+use Rattle.std.proofs.Common.{◌≡◌, ℕ, zero, suc, ◌+◌, ◌-◌, ◌<◌, ◌≤◌, Bool, true, List, [], ◌∷◌, ◌++◌, length, Option, Some, None, false}
 use Rattle.std.proofs.Common.{refl, sym, ap, subst, ◌∙◌, arith, inl, inr, ⊎_elim, take, drop, append-nil, length-append}
 use Rattle.std.proofs.lemmas.Bool.{cases_eq}
 use Rattle.std.proofs.lemmas.List.{reverse-append, length-reverse}
-use Rattle.std.specs.Prelude.{slice_get, reverse}
+use Rattle.std.specs.Prelude.{slice_get, reverse, if◌then◌else◌}
 use Rattle.limbo_types.specs.Types as ty
 use Rattle.limbo_types.specs.Types.{Ty}
 use Rattle.limbo_layout.specs.Adts.{Def}
@@ -28,19 +28,20 @@ use Rattle.core_follows.specs.Drops.{Between, Beside, AllTouch, HasAt}
 use Rattle.core_follows.specs.Handled.{Suits, Makes, types_in, count}
 use Rattle.core_follows.proofs.Drops.{touch_others}
 use Rattle.core_follows.proofs.Holding.{has_front, has_back}
-use Rattle.core_follows.proofs.Static.{touch_if}
+use Rattle.core_follows.proofs.Static.{touch_if, touch_wide}
 use Rattle.core_follows.proofs.Gathers.{SpareEach}
 use Rattle.core_follows.proofs.Valued.{AllValued, valued_at, spare_outside}
-use Rattle.core_typing.specs.Held.{Held, Of, Slots, empty, slot, put, emptied}
-use Rattle.core_typing.specs.Needs.{StandsAs, IsA, AreThese, IsAIf, Fills, Finds, printed}
+use Rattle.core_typing.specs.Held.{Held, Of, Slots, empty, slot, put, emptied, type_held, live_in, Has, moved, left_by, all_moved}
+use Rattle.core_typing.specs.Needs.{StandsAs, IsA, AreThese, IsAIf, Fills, Finds, printed, IsClean, AreClean}
 use Rattle.core_typing.specs.Written.{told}
-use Rattle.core_typing.specs.Going.{stand, behind, IsTold, Agrees, Goes}
+use Rattle.core_typing.specs.Going.{stand, behind, IsTold, Agrees, Goes, all_of, got_by, picked, out_of}
 use Rattle.core_typing.proofs.Telling.{Gave, gave, told_same, told_over, told_at, writes_quiet, cells_quiet, cells_told}
 use Rattle.core_typing.proofs.Going.{put_same, put_other, put_long, same_place, goes_to}
-use Rattle.core_typing.proofs.Drops.{Lets, none, one, lets_kept, lets_told, lets_more, lets_from, lets_if}
+use Rattle.core_typing.proofs.Cleaning.{clean_same, has_number}
+use Rattle.core_typing.proofs.Drops.{Lets, none, lets_same, lets_told, lets_wide, lets_more, lets_from, lets_if}
 use Rattle.core_typing.proofs.Standing.{as_on, itself, solid_part, exactly, room_as, is_on, is_same, these_on, these_same}
-use Rattle.core_typing.proofs.Standing.{these_at, these_take, these_drop, type_at_in}
-use Rattle.core_typing.proofs.Moving.{emptied_other, emptied_put, moves_lets, part_below, whole_counted, made_laid, suits_parts, pick_lets}
+use Rattle.core_typing.proofs.Standing.{these_at, these_take, these_drop, type_at_in, type_at_stands}
+use Rattle.core_typing.proofs.Moving.{emptied_other, EachIn, gather_lets, part_below, whole_counted, made_laid, suits_parts, pick_lets}
 
 -- What is told of values in slots, one after the other.
 abbrev pub AllTold : (tells : ℕ → Option Ty) → Slots → List ℕ → Type 0
@@ -57,7 +58,7 @@ these_told tells slots (s ∷ ss) (u ∷ ts) (suc k) t w a e = these_told tells 
 
 pub told_on : (tells tells' : ℕ → Option Ty) (slots slots' : Slots) (r : ℕ) → slot slots' r ≡ slot slots r → tells' r ≡ tells r
     → IsTold tells slots r → IsTold tells' slots' r
-told_on tells tells' slots slots' r e f w = (w.0, e ∙ w.1, f ∙ w.2)
+told_on tells tells' slots slots' r e f w = (w.0, ap type_held e ∙ w.1, f ∙ w.2)
 
 pub all_told_on : (tells tells' : ℕ → Option Ty) (slots : Slots) (ss : List ℕ) → ((r : ℕ) → tells' r ≡ tells r)
     → AllTold tells slots ss → AllTold tells' slots ss
@@ -70,7 +71,7 @@ pub record Left (defs : List Def) (tells : ℕ → Option Ty) (before after : Sl
     : Type 0 where
   pub long : length after ≡ length before
   pub same : (r : ℕ) → Beside lo hi r → slot after r ≡ slot before r
-  pub lets : Lets defs tells after drops
+  pub lets : Lets defs lo hi tells after drops
   pub is : IsA after value t
   pub agrees : IsTold tells after value
 
@@ -78,7 +79,7 @@ pub record AllLeft (defs : List Def) (tells : ℕ → Option Ty) (before after :
     (ts : List Ty) : Type 0 where
   pub long : length after ≡ length before
   pub same : (r : ℕ) → Beside lo hi r → slot after r ≡ slot before r
-  pub lets : Lets defs tells after drops
+  pub lets : Lets defs lo hi tells after drops
   pub these : AreThese after values ts
   pub agree : AllTold tells after values
 
@@ -88,7 +89,7 @@ pub left_on : (defs : List Def) (tells tells' : ℕ → Option Ty) (before after
 left_on defs tells tells' before after lo hi value drops t e left = record {
   long = left.long;
   same = left.same;
-  lets = lets_told defs tells tells' after drops e left.lets;
+  lets = lets_told defs lo hi tells tells' after drops e left.lets;
   is = left.is;
   agrees = told_on tells tells' after after value refl (e value) left.agrees;
 }
@@ -99,38 +100,75 @@ touch_row d k (suc n) = ((omega arith, omega arith), touch_row d (suc k) n)
 
 -- A value comes into the slot behind.
 pub left_put : (defs : List Def) (tells tells' : ℕ → Option Ty) (before after : Slots) (lo mid : ℕ) (values : List ℕ) (ds es : List Instr)
-    (ts : List Ty) (t : Ty) → Gave tells tells' mid t
-    → lo ≤ mid → mid < length before → AllLeft defs tells before after lo mid values ds ts → Lets defs tells' (put after mid (Of t)) es
-    → Left defs tells' before (put after mid (Of t)) lo (suc mid) mid es t
-left_put defs tells tells' before after lo mid values ds es ts t g p l a lets =
-    let there = put_same after mid (Of t) (let q = a.long in omega arith) in
+    (ts : List Ty) (t : Ty) (live : List ℕ) → Gave tells tells' mid t
+    → lo ≤ mid → mid < length before → AllLeft defs tells before after lo mid values ds ts
+    → Lets defs lo (suc mid) tells' (put after mid (Of t live)) es
+    → Left defs tells' before (put after mid (Of t live)) lo (suc mid) mid es t
+left_put defs tells tells' before after lo mid values ds es ts t live g p l a lets =
+    let there = put_same after mid (Of t live) (let q = a.long in omega arith) in
     record {
-      long = put_long after mid (Of t) ∙ a.long;
-      same = λ r b. put_other after mid r (Of t)
+      long = put_long after mid (Of t live) ∙ a.long;
+      same = λ r b. put_other after mid r (Of t live)
           (λ e. absurd (elim b [ inl y ↦ omega (arith, y, e, p) | inr y ↦ omega (arith, y, e) ]))
           ∙ a.same r (elim b [ inl y ↦ inl y | inr y ↦ inr (omega arith) ]);
       lets = lets;
-      is = (t, there, itself t);
-      agrees = (t, there, g.there);
+      is = (t, ap type_held there, itself t);
+      agrees = (t, ap type_held there, g.there);
     }
 
-pub lets_put : (defs : List Def) (tells tells' : ℕ → Option Ty) (after : Slots) (lo mid : ℕ) (t : Ty) (ds : List Instr)
-    → Gave tells tells' mid t → AllTouch (Between lo mid) ds → Lets defs tells after ds → Lets defs tells' (put after mid (Of t)) ds
-lets_put defs tells tells' after lo mid t ds g w d =
-    lets_kept defs (Between lo mid) tells tells' after (put after mid (Of t)) ds w
-    (λ r b. put_other after mid r (Of t) (λ e. absurd (let y = b.1 in omega (arith, y, e))))
+pub lets_put : (defs : List Def) (tells tells' : ℕ → Option Ty) (after : Slots) (lo mid : ℕ) (t : Ty) (live : List ℕ) (ds : List Instr)
+    → Gave tells tells' mid t → AllTouch (Between lo mid) ds → Lets defs lo mid tells after ds
+    → Lets defs lo mid tells' (put after mid (Of t live)) ds
+lets_put defs tells tells' after lo mid t live ds g w d =
+    lets_same defs lo mid tells tells' after (put after mid (Of t live)) ds w (put_long after mid (Of t live))
+    (λ r b. put_other after mid r (Of t live) (λ e. absurd (let y = b.1 in omega (arith, y, e))))
     (λ r b. g.others r (λ e. absurd (let y = b.1 in omega (arith, y, e)))) d
 
+-- the same, and what came there names nothing
+pub lets_up : (defs : List Def) (tells tells' : ℕ → Option Ty) (after : Slots) (lo mid : ℕ) (t : Ty) (ds : List Instr)
+    → Gave tells tells' mid t → mid < length after → AllTouch (Between lo mid) ds → Lets defs lo mid tells after ds
+    → Lets defs lo (suc mid) tells' (put after mid (Of t [])) ds
+lets_up defs tells tells' after lo mid t ds g l w d =
+    lets_wide defs lo mid lo (suc mid) tells' (put after mid (Of t [])) ds
+    (λ r p q b. let e : r ≡ mid = elim b [ inl y ↦ absurd (omega (arith, y, p)) | inr y ↦ omega (arith, y, q) ] in
+    clean_same (Of t []) (slot (put after mid (Of t [])) r) (ap (slot (put after mid (Of t []))) e ∙ put_same after mid (Of t []) l) refl)
+    (lets_put defs tells tells' after lo mid t [] ds g w d)
+
 -- all references of what came there
-pub lets_own : (defs : List Def) (tells tells' : ℕ → Option Ty) (after : Slots) (lo mid : ℕ) (t : Ty) (b : Bool) (ds : List Instr)
-    → Gave tells tells' mid t → lo ≤ mid → mid < length after → AllTouch (Between lo mid) ds → Lets defs tells after ds
-    → Lets defs tells' (put after mid (Of t)) (ds ++ drops_if b (drops_from mid 0 (count_of defs t)))
-lets_own defs tells tells' after lo mid t b ds g p l w d =
-    let last = put after mid (Of t) in
+pub lets_own : (defs : List Def) (tells tells' : ℕ → Option Ty) (after : Slots) (lo mid : ℕ) (t : Ty) (b : Bool) (live : List ℕ)
+    (ds : List Instr) → (b ≡ false → live ≡ []) → ((j : ℕ) → Has live j → j < count_of defs t)
+    → Gave tells tells' mid t → lo ≤ mid → mid < length after → AllTouch (Between lo mid) ds → Lets defs lo mid tells after ds
+    → Lets defs lo (suc mid) tells' (put after mid (Of t live)) (ds ++ drops_if b (drops_from mid 0 (count_of defs t)))
+lets_own defs tells tells' after lo mid t b live ds f h g p l w d =
+    let last = put after mid (Of t live) in
+    let long = put_long after mid (Of t live) in
+    let there = put_same after mid (Of t live) l in
+    let clean : b ≡ false → (r : ℕ) → mid ≤ r → r < suc mid → IsClean (slot last r) = λ e r p q.
+    let z : r ≡ mid = omega arith in clean_same (Of t live) (slot last r) (ap (slot last) z ∙ there) (f e) in
     lets_more defs tells' last lo mid (suc mid) ds _ w (touch_if (Between mid (suc mid)) b _ (touch_row mid 0 (count_of defs t)))
-    (lets_put defs tells tells' after lo mid t ds g w d)
-    (lets_if defs tells' last b _ (lets_from defs tells' last mid 0 (count_of defs t) t (put_same after mid (Of t) l) g.there
-    (omega arith)))
+    (lets_put defs tells tells' after lo mid t live ds g w d)
+    (lets_if defs mid (suc mid) tells' last b _ clean
+    (lets_from defs tells' last mid 0 (count_of defs t) t live there (omega (arith, long, l)) g.there
+    (omega arith) (λ j y. (omega arith, let x = h j y in omega (arith, x)))))
+
+-- ---- references that a value has
+
+pub got_none : (defs : List Def) (t : Ty) (o : Work) → work_refers defs t o ≡ false → got_by defs t o ≡ []
+got_none defs t o e = ap (λ (b : Bool). if b then all_of defs t else []) e
+
+pub all_below : (defs : List Def) (t : Ty) (j : ℕ) → Has (all_of defs t) j → j < count_of defs t
+all_below defs t j h = let x = has_number defs 0 (count_of defs t) j h in omega (arith, x)
+
+got_if : (defs : List Def) (t : Ty) (b : Bool) (j : ℕ) → Has (if b then all_of defs t else []) j → j < count_of defs t
+got_if defs t true j h = all_below defs t j h
+got_if defs t false j h = absurd h
+
+pub got_below : (defs : List Def) (t : Ty) (o : Work) (j : ℕ) → Has (got_by defs t o) j → j < count_of defs t
+got_below defs t o j h = got_if defs t (work_refers defs t o) j h
+
+each_in : (lo hi : ℕ) (ds : List Instr) (ss : List ℕ) → AllValued lo hi ds ss → EachIn lo (suc hi) ss
+each_in lo hi ds [] v = tt
+each_in lo hi ds (s ∷ ss) v = ((v.0.0.0, let x = v.0.0.1 in omega (arith, x)), each_in lo hi ds ss v.1)
 
 spare_each : (lo hi : ℕ) (ds : List Instr) (ss : List ℕ) → AllValued lo hi ds ss → SpareEach ss ds
 spare_each lo hi ds [] h = tt
@@ -192,19 +230,19 @@ fills_from s slots from v t u [] a r l k =
     inl (a.0, a.1, room_as s.adts a.0 v r a.2, (a.0, refl, as_on a.0 t u (subst (StandsAs a.0) l a.2) k))
 fills_from s slots from v t u (n ∷ ns) a r l k =
     let e = exactly a.0 v (solid_part s.adts v n l.0 l.1) a.2 in
-    inl (v, a.1 ∙ ap Of e, r, (t, l, inl k))
+    inl (v, a.1 ∙ ap (λ (x : Ty). Some x) e, r, (t, l, inl k))
 
 module _ (s : Scope) (answer : Ty) (code : List Instr) where
   abbrev pub GoesBy : (lo : ℕ) → Lowered → Ty → Type 0
   GoesBy lo x t =
-      (pc : ℕ) (slots : Slots) (n : ℕ) → HasAt code pc x.code → x.free ≤ length slots
+      (pc : ℕ) (slots : Slots) (n : ℕ) → HasAt code pc x.code → x.free ≤ length slots → AreClean slots lo x.free
       → ((after : Slots) → Left s.adts (told code (pc + length x.code)) slots after lo x.free x.value x.drops t
       → Goes s answer code n (pc + length x.code) after)
       → Goes s answer code n pc slots
 
   abbrev pub AllBy : (lo : ℕ) → LoweredAll → List Ty → Type 0
   AllBy lo x ts =
-      (pc : ℕ) (slots : Slots) (n : ℕ) → HasAt code pc x.code → x.free ≤ length slots
+      (pc : ℕ) (slots : Slots) (n : ℕ) → HasAt code pc x.code → x.free ≤ length slots → AreClean slots lo x.free
       → ((after : Slots) → AllLeft s.adts (told code (pc + length x.code)) slots after lo x.free x.values x.drops ts
       → Goes s answer code n (pc + length x.code) after)
       → Goes s answer code n pc slots
@@ -223,21 +261,23 @@ module _ (s : Scope) (answer : Ty) (code : List Instr) where
       left_on s.adts (told code pc') (told code pc) before after lo hi value ds t (λ r. told_at code pc pc' r e) left
 
   -- Instructions behind operands.
-  pub behind_all : (lo : ℕ) (t : Ty) (l : LoweredAll) (ts : List Ty) (is ds : List Instr) (value free : ℕ) → l.free ≤ free
+  pub behind_all : (lo : ℕ) (t : Ty) (l : LoweredAll) (ts : List Ty) (is ds : List Instr) (value free : ℕ) → lo ≤ l.free → l.free ≤ free
       → AllBy lo l ts
       → ((pc : ℕ) (before after : Slots) → AllLeft s.adts (told code pc) before after lo l.free l.values l.drops ts
-      → free ≤ length before → Leaves pc before after lo free value is ds t)
+      → free ≤ length before → AreClean after l.free free → Leaves pc before after lo free value is ds t)
       → GoesBy lo (record { code = l.code ++ is; drops = ds; value = value; free = free }) t
-  behind_all lo t l ts is ds value free u all f pc slots n has fits k =
+  behind_all lo t l ts is ds value free up u all f pc slots n has fits clean k =
       let e : pc + length (l.code ++ is) ≡ pc + length l.code + length is = let e = length-append l.code is in omega arith in
-      all pc slots n (has_front code pc l.code is has) (omega arith)
-      (λ after left. f (pc + length l.code) slots after left fits n (has_back code pc l.code is has)
+      all pc slots n (has_front code pc l.code is has) (omega arith) (λ r p q. clean r p (omega arith))
+      (λ after left. f (pc + length l.code) slots after left fits
+      (λ r p q. clean_same (slot slots r) (slot after r) (left.same r (inr p)) (clean r (omega (arith, up, p)) q)) n
+      (has_back code pc l.code is has)
       (λ last left2. same_place s answer code n (pc + length (l.code ++ is)) (pc + length l.code + length is) last e
       (k last (left_at (pc + length (l.code ++ is)) (pc + length l.code + length is) slots last lo free value ds t e left2))))
 
   -- One instruction, which changes slots in one way.
   pub one_leaves : (pc : ℕ) (before after last : Slots) (lo hi value : ℕ) (i : Instr) (ds : List Instr) (t : Ty)
-      → Finds s answer after i → Agrees s answer code pc after i → behind pc after i ≡ stand (suc pc) last ∷ []
+      → Finds s answer after i → Agrees s answer code pc after i → behind s.adts pc after i ≡ stand (suc pc) last ∷ []
       → (slice_get code pc ≡ Some i → Left s.adts (told code (suc pc)) before last lo hi value ds t)
       → Leaves pc before after lo hi value (i ∷ []) ds t
   one_leaves pc before after last lo hi value i ds t f a b left n has k =
@@ -248,53 +288,70 @@ module _ (s : Scope) (answer : Ty) (code : List Instr) where
   -- ---- one instruction that gives a value
 
   pub gives_goes : (lo : ℕ) (t : Ty) (o : Work) (l : LoweredAll) (ts : List Ty) → lo ≤ l.free → AllTouch (Between lo l.free) l.drops
-      → ((after : Slots) → AreThese after l.values ts → Finds s answer after (Give t o l.free l.values)) → AllBy lo l ts
+      → ((after : Slots) → AreThese after l.values ts → IsClean (slot after l.free) → Finds s answer after (Give t o l.free l.values))
+      → AllBy lo l ts
       → GoesBy lo (gives s.adts t o l) t
   gives_goes lo t o l ts p w f all =
-      behind_all lo t l ts (Give t o l.free l.values ∷ []) _ l.free (suc l.free) (omega arith) all
-      (λ pc before after left fits. one_leaves pc before after (put after l.free (Of t)) lo (suc l.free) l.free _ _ t (f after left.these)
+      behind_all lo t l ts (Give t o l.free l.values ∷ []) _ l.free (suc l.free) p (omega arith) all
+      (λ pc before after left fits clean.
+      one_leaves pc before after (put after l.free (Of t (got_by s.adts t o))) lo (suc l.free) l.free _ _ t
+      (f after left.these (clean l.free (omega arith) (omega arith)))
       tt refl
       (λ e. let g = gave code pc l.free t (Give t o l.free l.values) e (λ r. refl) in
-      left_put s.adts (told code pc) (told code (suc pc)) before after lo l.free l.values l.drops _ ts t g p (omega arith) left
-      (lets_own s.adts (told code pc) (told code (suc pc)) after lo l.free t (work_refers s.adts t o) l.drops g p
+      left_put s.adts (told code pc) (told code (suc pc)) before after lo l.free l.values l.drops _ ts t (got_by s.adts t o) g p
+      (omega arith) left
+      (lets_own s.adts (told code pc) (told code (suc pc)) after lo l.free t (work_refers s.adts t o) (got_by s.adts t o) l.drops
+      (got_none s.adts t o) (got_below s.adts t o) g p
       (let q = left.long in omega arith) w left.lets)))
 
   pub call_goes : (lo : ℕ) (t : Ty) (f : ℕ) (l : LoweredAll) (ts : List Ty) → lo ≤ l.free → AllTouch (Between lo l.free) l.drops
-      → ((after : Slots) → AreThese after l.values ts → Finds s answer after (Call t f l.free l.values)) → AllBy lo l ts
+      → ((after : Slots) → AreThese after l.values ts → IsClean (slot after l.free) → Finds s answer after (Call t f l.free l.values))
+      → AllBy lo l ts
       → GoesBy lo (node s.adts ty.Nothing t (tree.Call f) l) t
   call_goes lo t f l ts p w h all =
-      behind_all lo t l ts (Call t f l.free l.values ∷ []) _ l.free (suc l.free) (omega arith) all
-      (λ pc before after left fits. one_leaves pc before after (put after l.free (Of t)) lo (suc l.free) l.free _ _ t (h after left.these)
+      behind_all lo t l ts (Call t f l.free l.values ∷ []) _ l.free (suc l.free) p (omega arith) all
+      (λ pc before after left fits clean.
+      one_leaves pc before after (put after l.free (Of t (all_of s.adts t))) lo (suc l.free) l.free _ _ t
+      (h after left.these (clean l.free (omega arith) (omega arith)))
       tt refl
       (λ e. let g = gave code pc l.free t (Call t f l.free l.values) e (λ r. refl) in
-      left_put s.adts (told code pc) (told code (suc pc)) before after lo l.free l.values l.drops _ ts t g p (omega arith) left
-      (lets_own s.adts (told code pc) (told code (suc pc)) after lo l.free t true l.drops g p
+      left_put s.adts (told code pc) (told code (suc pc)) before after lo l.free l.values l.drops _ ts t (all_of s.adts t) g p (omega arith)
+      left
+      (lets_own s.adts (told code pc) (told code (suc pc)) after lo l.free t true (all_of s.adts t) l.drops
+      (λ e. absurd cc) (all_below s.adts t) g p
       (let q = left.long in omega arith) w left.lets)))
 
   pub print_goes : (lo : ℕ) (u : Ty) (ps : List Piece) (l : LoweredAll) (ts : List Ty) → lo ≤ l.free → AllTouch (Between lo l.free) l.drops
       → ts ≡ printed ps → AllBy lo l ts → GoesBy lo (node s.adts u ty.Int (tree.Print ps) l) ty.Int
   print_goes lo u ps l ts p w e all =
-      behind_all lo ty.Int l ts (Print ps l.free l.values ∷ []) l.drops l.free (suc l.free) (omega arith) all
-      (λ pc before after left fits. one_leaves pc before after (put after l.free (Of ty.Int)) lo (suc l.free) l.free _ _ ty.Int
-      (subst (AreThese after l.values) e left.these)
+      behind_all lo ty.Int l ts (Print ps l.free l.values ∷ []) l.drops l.free (suc l.free) p (omega arith) all
+      (λ pc before after left fits clean. one_leaves pc before after (put after l.free (Of ty.Int [])) lo (suc l.free) l.free _ _ ty.Int
+      (subst (AreThese after l.values) e left.these, clean l.free (omega arith) (omega arith))
       tt refl
       (λ h. let g = gave code pc l.free ty.Int (Print ps l.free l.values) h (λ r. refl) in
-      left_put s.adts (told code pc) (told code (suc pc)) before after lo l.free l.values l.drops l.drops ts ty.Int g p (omega arith) left
-      (lets_put s.adts (told code pc) (told code (suc pc)) after lo l.free ty.Int l.drops g w left.lets)))
+      left_put s.adts (told code pc) (told code (suc pc)) before after lo l.free l.values l.drops l.drops ts ty.Int [] g p
+      (omega arith) left
+      (lets_up s.adts (told code pc) (told code (suc pc)) after lo l.free ty.Int l.drops g (let q = left.long in omega arith) w left.lets)))
 
   pub channel_goes : (lo : ℕ) (u t : Ty) (l : LoweredAll) (ts : List Ty) (i : Ty) → lo ≤ l.free → AllTouch (Between lo l.free) l.drops
       → t ≡ ty.ChanOf i → AllBy lo l ts → GoesBy lo (node s.adts u t tree.NewChannel l) t
   channel_goes lo u t l ts i p w e all =
-      behind_all lo t l ts (Give t tree.NewChannel l.free [] ∷ []) _ l.free (suc l.free) (omega arith) all
-      (λ pc before after left fits.
-      let last = put after l.free (Of t) in
-      let there : slot last l.free ≡ Of t = put_same after l.free (Of t) (let q = left.long in omega arith) in
-      one_leaves pc before after last lo (suc l.free) l.free _ _ t ([], tt, (i, e, inl refl)) tt refl
+      behind_all lo t l ts (Give t tree.NewChannel l.free [] ∷ []) _ l.free (suc l.free) p (omega arith) all
+      (λ pc before after left fits clean.
+      let live = all_of s.adts t in
+      let last = put after l.free (Of t live) in
+      let long = put_long after l.free (Of t live) in
+      let inside : l.free < length after = let q = left.long in omega arith in
+      let there : slot last l.free ≡ Of t live = put_same after l.free (Of t live) inside in
+      let one_reference : count_of s.adts t ≡ 1 = ap (count_of s.adts) e in
+      one_leaves pc before after last lo (suc l.free) l.free _ _ t
+      ([], tt, (i, e, inl refl), clean l.free (omega arith) (omega arith)) tt refl
       (λ h. let g = gave code pc l.free t (Give t tree.NewChannel l.free []) h (λ r. refl) in
-      left_put s.adts (told code pc) (told code (suc pc)) before after lo l.free l.values l.drops _ ts t g p (omega arith) left
+      left_put s.adts (told code pc) (told code (suc pc)) before after lo l.free l.values l.drops _ ts t live g p (omega arith) left
       (lets_more s.adts (told code (suc pc)) last lo l.free (suc l.free) l.drops (Drop l.free 0 ∷ []) w ((omega arith, omega arith), tt)
-      (lets_put s.adts (told code pc) (told code (suc pc)) after lo l.free t l.drops g w left.lets)
-      (one l.free 0 t there g.there (subst (λ (x : Ty). 0 < count_of s.adts x) (sym e) (omega arith)) none))))
+      (lets_put s.adts (told code pc) (told code (suc pc)) after lo l.free t live l.drops g w left.lets)
+      (lets_from s.adts (told code (suc pc)) last l.free 0 1 t live there (omega (arith, long, inside)) g.there
+      (omega (arith, one_reference)) (λ j y. (omega arith, let x = all_below s.adts t j y in omega (arith, x, one_reference)))))))
 
   -- ---- assignments and copies
 
@@ -316,7 +373,7 @@ module _ (s : Scope) (answer : Ty) (code : List Instr) where
       (z.0, z.1, told_same code pc value (Write x.type x.way (take (operands_of x.way) ss) x.part value) has.0 refl ∙ z.2) r w.3 has.1
       (same_place s answer code n (pc + suc (length rest)) (suc pc + length rest) slots (omega arith) k))
 
-  pub declares_go : (aims : List Aim) (slots : Slots) (ss : List ℕ) (value : ℕ) (n pc : ℕ) → slot slots value ≡ Of ty.Nothing
+  pub declares_go : (aims : List Aim) (slots : Slots) (ss : List ℕ) (value : ℕ) (n pc : ℕ) → type_held (slot slots value) ≡ Some ty.Nothing
       → told code pc value ≡ Some ty.Nothing → DeclaresAll s aims → HasAt code pc (writes s.adts aims ss value)
       → Goes s answer code n (pc + length (writes s.adts aims ss value)) slots → Goes s answer code n pc slots
   declares_go [] slots ss value n pc e z w has k = same_place s answer code n (pc + 0) pc slots (omega arith) k
@@ -333,15 +390,16 @@ module _ (s : Scope) (answer : Ty) (code : List Instr) where
       (same_place s answer code n (pc + suc (length rest)) (suc pc + length rest) slots (omega arith) k))
 
   pub assign_goes : (lo : ℕ) (u t : Ty) (aims : List Aim) (ts : Terms) (us : List Ty) (v : Ty) (l : LoweredAll)
-      → operands_for aims < count ts → AllStand (types_in s.adts ts) us → slice_get us (operands_for aims) ≡ Some v → HasRoom s.adts v
+      → lo ≤ l.free → operands_for aims < count ts → AllStand (types_in s.adts ts) us → slice_get us (operands_for aims) ≡ Some v
+      → HasRoom s.adts v
       → AimsAre s aims us v → AllBy lo l (types_in s.adts ts)
       → GoesBy lo (node s.adts u t (tree.Assign aims) l) (type_at s.adts (operands_for aims) ts)
-  assign_goes lo u t aims ts us v l c st e r w all =
+  assign_goes lo u t aims ts us v l p c st e r w all =
       let value = slot_at (operands_for aims) l.values in
       let is = writes s.adts aims l.values value in
       behind_all lo (type_at s.adts (operands_for aims) ts) l (types_in s.adts ts) is l.drops value l.free
-      (omega arith) all
-      (λ pc before after left fits n has k.
+      p (omega arith) all
+      (λ pc before after left fits clean n has k.
       let those = these_on after l.values (types_in s.adts ts) us left.these st in
       let agrees = these_told (told code pc) after l.values us (operands_for aims) v left.agree those e in
       writes_go aims after us l.values value v n pc those (these_at after l.values us (operands_for aims) v those e) agrees r w has
@@ -354,14 +412,14 @@ module _ (s : Scope) (answer : Ty) (code : List Instr) where
         agrees = agrees;
       }))))
 
-  pub copy_goes : (lo : ℕ) (u t : Ty) (ts : Terms) (us : List Ty) (i : Ty) (l : LoweredAll) → 2 < count ts
+  pub copy_goes : (lo : ℕ) (u t : Ty) (ts : Terms) (us : List Ty) (i : Ty) (l : LoweredAll) → lo ≤ l.free → 2 < count ts
       → AllStand (types_in s.adts ts) us → slice_get us 0 ≡ Some (ty.ArrayOf i) → slice_get us 2 ≡ Some (ty.ArrayOf i)
       → slice_get (types_in s.adts ts) 1 ≡ Some ty.Int → AllBy lo l (types_in s.adts ts)
       → GoesBy lo (node s.adts u t tree.Copy l) (type_at s.adts 2 ts)
-  copy_goes lo u t ts us i l c st e g f all =
+  copy_goes lo u t ts us i l p c st e g f all =
       let copy = CopyInto (slot_at 0 l.values) (slot_at 1 l.values) (slot_at 2 l.values) in
-      behind_all lo (type_at s.adts 2 ts) l (types_in s.adts ts) (copy ∷ []) l.drops (slot_at 2 l.values) l.free (omega arith) all
-      (λ pc before after left fits.
+      behind_all lo (type_at s.adts 2 ts) l (types_in s.adts ts) (copy ∷ []) l.drops (slot_at 2 l.values) l.free p (omega arith) all
+      (λ pc before after left fits clean.
       let those = these_on after l.values (types_in s.adts ts) us left.these st in
       one_leaves pc before after after lo l.free (slot_at 2 l.values) _ l.drops (type_at s.adts 2 ts) (
         i,
@@ -379,27 +437,33 @@ module _ (s : Scope) (answer : Ty) (code : List Instr) where
 
   -- ---- lists
 
+  -- a list's cell, with its reference
+  abbrev cell : Ty → Held
+  cell i = Of (ty.ListOf i) (all_of s.adts (ty.ListOf i))
+
   cells_go : (i : Ty) (mid : ℕ) (ss : List ℕ) (b : Option ℕ) (free : ℕ) (slots : Slots) (n pc : ℕ) → HasRoom s.adts i
       → EachIs mid i slots ss → mid ≤ free → IsAIf slots b (ty.ListOf i) → free + length ss ≤ length slots
-      → HasAt code pc (cells s.adts i ss b free)
+      → AreClean slots free (free + length ss) → HasAt code pc (cells s.adts i ss b free)
       → ((after : Slots) → length after ≡ length slots
       → ((r : ℕ) → Beside free (free + length ss) r → slot after r ≡ slot slots r)
-      → ((r : ℕ) → free ≤ r → r < free + length ss → slot after r ≡ Of (ty.ListOf i))
+      → ((r : ℕ) → free ≤ r → r < free + length ss → slot after r ≡ cell i)
       → Goes s answer code n (pc + length (cells s.adts i ss b free)) after)
       → Goes s answer code n pc slots
   unfolding EachIs
-  cells_go i mid [] b free slots n pc r e l a fits has k =
+  cells_go i mid [] b free slots n pc r e l a fits clean has k =
       same_place s answer code n (pc + 0) pc slots (omega arith)
       (k slots refl (λ r b. refl) (λ r p q. absurd (omega arith)))
-  cells_go i mid (x ∷ ss) b free slots n pc r e l a fits has k =
-      let h = Of (ty.ListOf i) in
+  cells_go i mid (x ∷ ss) b free slots n pc r e l a fits clean has k =
+      let h = cell i in
       let next = put slots free h in
       let long = put_long slots free h in
       let there : slot next free ≡ h = put_same slots free h (omega arith) in
       let rest = cells s.adts i ss (Some free) (suc free) in
-      goes_to s answer code n pc (suc pc) slots next (Cell i free x b) has.0 (r, e.1, a) tt refl
+      goes_to s answer code n pc (suc pc) slots next (Cell i free x b) has.0 (r, e.1, a, clean free (omega arith) (omega arith)) tt refl
       (cells_go i mid ss (Some free) (suc free) next n (suc pc) r (each_put mid i slots free h ss l e.2) (omega arith)
-      (ty.ListOf i, there, itself (ty.ListOf i)) (omega arith) has.1
+      (ty.ListOf i, ap type_held there, itself (ty.ListOf i)) (omega arith)
+      (λ r p q. clean_same (slot slots r) (slot next r) (put_other slots free r h (λ f. absurd (omega (arith, f, p))))
+      (clean r (omega (arith, p)) (omega (arith, q)))) has.1
       (λ after long2 same filled. same_place s answer code n (pc + suc (length rest)) (suc pc + length rest) after (omega arith)
       (k after (long2 ∙ long)
       (λ q c. same q (elim c [ inl y ↦ inl (omega arith) | inr y ↦ inr (omega arith) ])
@@ -408,15 +472,6 @@ module _ (s : Scope) (answer : Ty) (code : List Instr) where
       (λ (f : q ≡ free). subst (λ (z : ℕ). slot after z ≡ h) (sym f) (same free (inl (omega arith)) ∙ there))
       (λ (f : q ≡ free → ⊥). filled q (omega (arith, f)) (omega arith))
       (cases_eq q free)))))
-
-  lets_cells : (tells : ℕ → Option Ty) (slots : Slots) (i : Ty) (count free : ℕ)
-      → ((r : ℕ) → free ≤ r → r < free + count → slot slots r ≡ Of (ty.ListOf i))
-      → ((r : ℕ) → free ≤ r → r < free + count → tells r ≡ Some (ty.ListOf i))
-      → Lets s.adts tells slots (cell_drops s.adts count free)
-  lets_cells tells slots i zero free h w = none
-  lets_cells tells slots i (suc n) free h w =
-      one free 0 (ty.ListOf i) (h free (omega arith) (omega arith)) (w free (omega arith) (omega arith)) (omega arith)
-      (lets_cells tells slots i n (suc free) (λ r p q. h r (omega arith) (omega arith)) (λ r p q. w r (omega arith) (omega arith)))
 
   touch_cells : (n free : ℕ) → AllTouch (Between free (free + n)) (cell_drops s.adts n free)
   touch_cells zero free = tt
@@ -427,52 +482,72 @@ module _ (s : Scope) (answer : Ty) (code : List Instr) where
         (touch_cells n (suc free)),
   )
 
+  lets_cells : (tells : ℕ → Option Ty) (slots : Slots) (i : Ty) (count free hi : ℕ) → free + count ≡ hi → hi ≤ length slots
+      → ((r : ℕ) → free ≤ r → r < hi → slot slots r ≡ cell i)
+      → ((r : ℕ) → free ≤ r → r < hi → tells r ≡ Some (ty.ListOf i))
+      → Lets s.adts free hi tells slots (cell_drops s.adts count free)
+  lets_cells tells slots i zero free hi e l h w = none (λ r p q. absurd (omega (arith, e, p, q)))
+  lets_cells tells slots i (suc n) free hi e l h w =
+      let rest = cell_drops s.adts n (suc free) in
+      lets_more s.adts tells slots free (suc free) hi (Drop free 0 ∷ []) rest ((omega arith, omega arith), tt)
+      (touch_wide (suc free) (suc free + n) (suc free) hi rest (omega arith) (omega arith) (touch_cells n (suc free)))
+      (lets_from s.adts tells slots free 0 1 (ty.ListOf i) (all_of s.adts (ty.ListOf i)) (h free (omega arith) (omega arith)) (omega arith)
+      (w free (omega arith) (omega arith)) (omega arith)
+      (λ j y. (omega arith, let x = all_below s.adts (ty.ListOf i) j y in omega (arith, x))))
+      (lets_cells tells slots i n (suc free) hi (omega arith) l (λ r p q. h r (omega arith) (omega arith))
+      (λ r p q. w r (omega arith) (omega arith)))
+
   list_leaves : (i : Ty) (pc : ℕ) (before after : Slots) (lo mid : ℕ) (ss : List ℕ) (ds : List Instr) (ts : List Ty) → lo ≤ mid
       → AllTouch (Between lo mid) ds → HasRoom s.adts i → AllLeft s.adts (told code pc) before after lo mid ss ds ts → EachIs mid i after ss
-      → suc (mid + (length ss - 1)) ≤ length before
+      → suc (mid + (length ss - 1)) ≤ length before → AreClean after mid (suc (mid + (length ss - 1)))
       → Leaves pc before after lo (suc (mid + (length ss - 1))) (mid + (length ss - 1)) (list_code s.adts i ss mid)
       (ds ++ cell_drops s.adts (length ss) mid) (ty.ListOf i)
-  list_leaves i pc before after lo mid [] ds ts p w r left each fits n has k =
-      let last = put after mid (Of ty.Nil) in
+  list_leaves i pc before after lo mid [] ds ts p w r left each fits clean n has k =
+      let last = put after mid (Of ty.Nil []) in
       let e : mid ≡ mid + (0 - 1) = omega arith in
       subst (λ (z : ℕ). Leaves pc before after lo (suc z) z (Known (Ref None) mid ∷ []) (ds ++ []) (ty.ListOf i)) e
-      (one_leaves pc before after last lo (suc mid) mid (Known (Ref None) mid) (ds ++ []) (ty.ListOf i) tt tt refl
+      (one_leaves pc before after last lo (suc mid) mid (Known (Ref None) mid) (ds ++ []) (ty.ListOf i)
+      (λ n. refl, clean mid (omega arith) (omega arith)) tt refl
       (λ h.
       let g = gave code pc mid ty.Nil (Known (Ref None) mid) h (λ r. refl) in
-      let x = left_put s.adts (told code pc) (told code (suc pc)) before after lo mid [] ds (ds ++ []) ts ty.Nil g p (omega arith) left
-      (subst (Lets s.adts (told code (suc pc)) last) (sym (append-nil ds))
-      (lets_put s.adts (told code pc) (told code (suc pc)) after lo mid ty.Nil ds g w left.lets)) in
+      let x = left_put s.adts (told code pc) (told code (suc pc)) before after lo mid [] ds (ds ++ []) ts ty.Nil [] g p (omega arith) left
+      (subst (Lets s.adts lo (suc mid) (told code (suc pc)) last) (sym (append-nil ds))
+      (lets_up s.adts (told code pc) (told code (suc pc)) after lo mid ty.Nil ds g (let q = left.long in omega arith) w left.lets)) in
       record {
         long = x.long;
         same = x.same;
         lets = x.lets;
-        is = (ty.Nil, put_same after mid (Of ty.Nil) (let q = left.long in omega arith), inr (refl, tt));
+        is = (ty.Nil, ap type_held (put_same after mid (Of ty.Nil []) (let q = left.long in omega arith)), inr (refl, tt));
         agrees = x.agrees;
       })) n has k
-  list_leaves i pc before after lo mid (x ∷ ss) ds ts p w r left each fits n has k =
+  list_leaves i pc before after lo mid (x ∷ ss) ds ts p w r left each fits clean n has k =
       let items = reverse (x ∷ ss) in
       let m : length items ≡ suc (length ss) = length-reverse (x ∷ ss) in
       let long = left.long in
       let is = cells s.adts i items None mid in
       let end : ℕ = pc + length is in
-      cells_go i mid items None mid after n pc r (each_reverse mid i after (x ∷ ss) each) (omega arith) tt (omega arith) has
+      let hi : ℕ = suc (mid + (suc (length ss) - 1)) in
+      cells_go i mid items None mid after n pc r (each_reverse mid i after (x ∷ ss) each) (omega arith) tt (omega arith)
+      (λ q y z. clean q y (omega (arith, z, m))) has
       (λ last long2 same filled. k last (record {
         long = long2 ∙ long;
         same = λ q b. same q (elim b [ inl y ↦ inl (omega arith) | inr y ↦ inr (omega arith) ])
             ∙ left.same q (elim b [ inl y ↦ inl y | inr y ↦ inr (omega arith) ]);
-        lets = lets_more s.adts (told code end) last lo mid (mid + suc (length ss)) ds _ w (touch_cells (suc (length ss)) mid)
-            (lets_kept s.adts (Between lo mid) (told code pc) (told code end) after last ds w (λ q b. same q (inl b.1))
+        lets = lets_more s.adts (told code end) last lo mid hi ds _ w
+            (touch_wide mid (mid + suc (length ss)) mid hi (cell_drops s.adts (suc (length ss)) mid) (omega arith) (omega arith)
+            (touch_cells (suc (length ss)) mid))
+            (lets_same s.adts lo mid (told code pc) (told code end) after last ds w long2 (λ q b. same q (inl b.1))
             (λ q b. told_over code pc q is has (cells_quiet s.adts q i items None mid (inl b.1))) left.lets)
-            (lets_cells (told code end) last i (suc (length ss)) mid (λ q y z. filled q y (omega arith))
+            (lets_cells (told code end) last i (suc (length ss)) mid hi (omega arith) (omega arith) (λ q y z. filled q y (omega arith))
             (λ q y z. cells_told s.adts code pc i items None mid q has y (omega arith)));
         is = (
           ty.ListOf i,
-          filled (mid + (suc (length ss) - 1)) (omega arith) (omega arith),
+          ap type_held (filled (mid + (suc (length ss) - 1)) (omega arith) (omega arith)),
           itself (ty.ListOf i),
         );
         agrees = (
           ty.ListOf i,
-          filled (mid + (suc (length ss) - 1)) (omega arith) (omega arith),
+          ap type_held (filled (mid + (suc (length ss) - 1)) (omega arith) (omega arith)),
           cells_told s.adts code pc i items None mid (mid + (suc (length ss) - 1)) has (omega arith) (omega arith),
         );
       }))
@@ -483,9 +558,9 @@ module _ (s : Scope) (answer : Ty) (code : List Instr) where
   link_goes lo u t i l ts us p w v e r st each all =
       subst (λ (x : Ty). GoesBy lo (node s.adts u x tree.Link l) x) (sym e)
       (behind_all lo (ty.ListOf i) l ts (list_code s.adts i l.values l.free) (l.drops ++ cell_drops s.adts (length l.values) l.free)
-      (l.free + (length l.values - 1)) (suc (l.free + (length l.values - 1))) (omega arith) all
-      (λ pc before after left fits. list_leaves i pc before after lo l.free l.values l.drops ts p w r left
-      (each_these lo l.free l.drops i after l.values us v (these_on after l.values ts us left.these st) each) fits))
+      (l.free + (length l.values - 1)) (suc (l.free + (length l.values - 1))) p (omega arith) all
+      (λ pc before after left fits clean. list_leaves i pc before after lo l.free l.values l.drops ts p w r left
+      (each_these lo l.free l.drops i after l.values us v (these_on after l.values ts us left.these st) each) fits clean))
 
   -- ---- parts that move
 
@@ -498,36 +573,40 @@ module _ (s : Scope) (answer : Ty) (code : List Instr) where
       let P = part_types s.adts t in
       let ns = part_numbers s.adts o (length ss) in
       let es = drops_after_all (moves_into s.adts P mid ns ss) l.drops in
-      behind_all lo t l ts (Gather t (Operate o) mid ss ∷ []) es mid (suc mid) (omega arith) all
-      (λ pc before after left fits.
+      behind_all lo t l ts (Gather t (Operate o) mid ss ∷ []) es mid (suc mid) p (omega arith) all
+      (λ pc before after left fits clean.
       let inside : mid < length after = let q = left.long in omega arith in
-      let placed = put after mid (Of t) in
-      let last = put (emptied after ss) mid (Of t) in
+      let placed = put after mid (Of t []) in
+      let now = Of t (all_moved (moves_into s.adts P mid ns ss) after) in
+      let last = put (emptied after ss) mid now in
       let apart = apart_from lo mid mid l.drops ss (inr (omega arith)) v in
       let those : AreThese placed ss ts = these_same after placed lo mid l.drops ss ts v
-      (λ r a b. put_other after mid r (Of t) (λ e. absurd (omega (arith, e, b)))) left.these in
+      (λ r a b. put_other after mid r (Of t []) (λ e. absurd (omega (arith, e, b)))) left.these in
       let counts = whole_counted s.adts t (made_laid s.adts t o ts m) in
-      let there = put_same (emptied after ss) mid (Of t) (let q = long_emptied after ss in omega arith) in
-      one_leaves pc before after last lo (suc mid) mid _ es t (us, these_on after ss ts us left.these st, work) tt refl
+      let there = put_same (emptied after ss) mid now (let q = long_emptied after ss in omega arith) in
+      one_leaves pc before after last lo (suc mid) mid _ es t (
+        us,
+        these_on after ss ts us left.these st,
+        work,
+        clean_same (slot after mid) (slot (emptied after ss) mid) (emptied_other after ss mid apart)
+            (clean mid (omega arith) (omega arith)),
+      ) tt refl
       (λ h.
       let g = gave code pc mid t (Gather t (Operate o) mid ss) h (λ r. refl) in
       let tells = told code (suc pc) in
-      let lets0 = moves_lets s.adts P tells t mid ns ss placed l.drops
-      (λ n. let b = part_below s.adts P n in omega (arith, b, counts)) (put_same after mid (Of t) inside) g.there
-      (suits_parts s.adts t o placed ss ts m those) differ apart (spare_each lo mid l.drops ss v)
-      (spare_outside lo mid mid l.drops (inr (omega arith)) w)
-      (lets_put s.adts (told code pc) tells after lo mid t l.drops g w left.lets) in
-      let lets1 : Lets s.adts tells last es =
-      subst (λ (xs : Slots). Lets s.adts tells xs es) (emptied_put after mid (Of t) ss apart) lets0 in
       record {
-        long = put_long (emptied after ss) mid (Of t) ∙ long_emptied after ss ∙ left.long;
-        same = λ r b. put_other (emptied after ss) mid r (Of t)
+        long = put_long (emptied after ss) mid now ∙ long_emptied after ss ∙ left.long;
+        same = λ r b. put_other (emptied after ss) mid r now
             (λ e. absurd (elim b [ inl y ↦ omega (arith, y, e, p) | inr y ↦ omega (arith, y, e) ]))
             ∙ emptied_other after ss r (apart_from lo mid r l.drops ss (elim b [ inl y ↦ inl y | inr y ↦ inr (omega arith) ]) v)
             ∙ left.same r (elim b [ inl y ↦ inl y | inr y ↦ inr (omega arith) ]);
-        lets = lets1;
-        is = (t, there, itself t);
-        agrees = (t, there, g.there);
+        lets = gather_lets s.adts P tells lo mid t ns ss after l.drops
+            (λ n. let b = part_below s.adts P n in omega (arith, b, counts)) inside g.there
+            (suits_parts s.adts t o placed ss ts m those) (each_in lo mid l.drops ss v) differ apart (spare_each lo mid l.drops ss v)
+            (spare_outside lo mid mid l.drops (inr (omega arith)) w)
+            (lets_up s.adts (told code pc) tells after lo mid t l.drops g inside w left.lets);
+        is = (t, ap type_held there, itself t);
+        agrees = (t, ap type_held there, g.there);
       }))
 
   pub pick_goes : (lo : ℕ) (t v : Ty) (k : ℕ) (ts : Terms) (l : LoweredAll) (us : List Ty) → lo ≤ l.free
@@ -540,21 +619,41 @@ module _ (s : Scope) (answer : Ty) (code : List Instr) where
       let from = slot_at 0 l.values in
       let u = type_at s.adts 0 ts in
       let es = drops_after (moves_out s.adts u k from mid) l.drops in
-      behind_all lo t l (types_in s.adts ts) (Pick t k mid from ∷ []) es mid (suc mid) (omega arith) all
-      (λ pc before after left fits.
+      behind_all lo t l (types_in s.adts ts) (Pick t k mid from ∷ []) es mid (suc mid) p (omega arith) all
+      (λ pc before after left fits clean.
       let inside : mid < length after = let q = left.long in omega arith in
       let those = these_on after l.values (types_in s.adts ts) us left.these st in
       let a = these_at after l.values us 0 v those e in
-      let same = exactly a.0 v (solid_part s.adts v k t part) a.2 in
+      let solid = solid_part s.adts v k t part in
+      let same = exactly a.0 v solid a.2 in
+      let whole = exactly u v solid (inl (type_at_stands s ts us 0 v st e)) in
       let some : 0 < length l.values = first us l.values after those e in
       let at0 = valued_at lo mid l.drops l.values 0 some vd in
-      one_leaves pc before after (put after mid (Of t)) lo (suc mid) mid _ es t (v, a.1 ∙ ap Of same, r, part)
-      (these_told (told code pc) after l.values us 0 v left.agree those e) refl
+      let m = moves_out s.adts u k from mid in
+      let held : type_held (slot after from) ≡ Some v = a.1 ∙ ap (λ (x : Ty). Some x) same in
+      let out = put after from (left_by m (slot after from)) in
+      let now = Of t (moved m (live_in (slot after from))) in
+      let last = put out mid now in
+      let long_out = put_long after from (left_by m (slot after from)) in
+      let there = put_same out mid now (omega (arith, long_out, inside)) in
+      one_leaves pc before after last lo (suc mid) mid _ es t (v, held, r, part, clean mid (omega arith) (omega arith))
+      (these_told (told code pc) after l.values us 0 v left.agree those e)
+      (ap (λ (x : Option Ty). picked s.adts pc after t mid from (out_of s.adts x k from mid))
+      (held ∙ ap (λ (x : Ty). Some x) (sym whole)))
       (λ z. let g = gave code pc mid t (Pick t k mid from) z (λ r. refl) in
-      left_put s.adts (told code pc) (told code (suc pc)) before after lo mid l.values l.drops es (types_in s.adts ts) t g p (omega arith)
-      left
-      (pick_lets s.adts (told code pc) (told code (suc pc)) u t k after lo mid from l.drops g inside w at0.1
-      (spare_outside lo mid mid l.drops (inr (omega arith)) w) h left.lets)))
+      record {
+        long = put_long out mid now ∙ long_out ∙ left.long;
+        same = λ r b. put_other out mid r now
+            (λ e. absurd (elim b [ inl y ↦ omega (arith, y, e, p) | inr y ↦ omega (arith, y, e) ]))
+            ∙ put_other after from r (left_by m (slot after from))
+            (λ e. absurd (let x = at0.0 in elim b [ inl y ↦ omega (arith, y, e, x) | inr y ↦ omega (arith, y, e, x) ]))
+            ∙ left.same r (elim b [ inl y ↦ inl y | inr y ↦ inr (omega arith) ]);
+        lets = pick_lets s.adts (told code (suc pc)) u v t k after lo mid from l.drops g.there inside at0.0 held at0.1
+            (spare_outside lo mid mid l.drops (inr (omega arith)) w) h
+            (lets_up s.adts (told code pc) (told code (suc pc)) after lo mid t l.drops g inside w left.lets);
+        is = (t, ap type_held there, itself t);
+        agrees = (t, ap type_held there, g.there);
+      }))
     where
       first : (us : List Ty) (ss : List ℕ) (slots : Slots) → AreThese slots ss us → slice_get us 0 ≡ Some v → 0 < length ss
       first [] [] slots a e = absurd cc

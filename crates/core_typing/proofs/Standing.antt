@@ -17,7 +17,7 @@ use Rattle.core_code.specs.Code.{Instr}
 use Rattle.core_code.specs.Terms.{count_of, slot_at, type_of, type_at}
 use Rattle.core_follows.specs.Handled.{HasLayout, Suits, Declares, Handled, AllHandled, types_in, count}
 use Rattle.core_follows.proofs.Valued.{AllValued}
-use Rattle.core_typing.specs.Held.{Slots, slot}
+use Rattle.core_typing.specs.Held.{Slots, slot, type_held}
 use Rattle.core_typing.specs.Needs.{MayBeNil, StandsAs, IsA, AreThese}
 use Rattle.core_typing.specs.Trees.{HasValue, Formed, AllFormed}
 
@@ -100,7 +100,12 @@ pub is_on : (slots : Slots) (s : ℕ) (t u : Ty) → IsA slots s t → Stands t 
 is_on slots s t u a k = (a.0, a.1, as_on a.0 t u a.2 k)
 
 pub is_same : (slots slots' : Slots) (s : ℕ) (t : Ty) → slot slots' s ≡ slot slots s → IsA slots s t → IsA slots' s t
-is_same slots slots' s t e a = (a.0, e ∙ a.1, a.2)
+is_same slots slots' s t e a = (a.0, ap type_held e ∙ a.1, a.2)
+
+-- the same where drops let go of references alone
+pub is_kept : (slots slots' : Slots) (s : ℕ) (t : Ty) → type_held (slot slots' s) ≡ type_held (slot slots s) → IsA slots s t
+    → IsA slots' s t
+is_kept slots slots' s t e a = (a.0, e ∙ a.1, a.2)
 
 pub these_on : (slots : Slots) (ss : List ℕ) (ts us : List Ty) → AreThese slots ss ts → AllStand ts us → AreThese slots ss us
 these_on slots [] [] [] a k = tt

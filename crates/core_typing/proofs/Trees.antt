@@ -1,10 +1,11 @@
 -- The code of typed trees goes well.
 use Rattle.std.proofs.Common.{◌≡◌, ℕ, ℤ, suc, ◌+◌, ◌<◌, ◌≤◌, List, [], ◌∷◌, ◌++◌, length, max, Some, None}
 use Rattle.std.proofs.Common.{refl, sym, ap, subst, ◌∙◌, arith, inl, inr, ⊎_elim, length-append}
+use Rattle.std.proofs.lemmas.Bool.{cases_lt}
 use Rattle.std.specs.Prelude.{if◌then◌else◌}
 use Rattle.limbo_types.specs.Types as ty
 use Rattle.limbo_types.specs.Types.{Ty}
-use Rattle.limbo_meaning.specs.Values.{Value, Num}
+use Rattle.limbo_meaning.specs.Values.{Value, Num, among, references}
 use Rattle.limbo_meaning.specs.Trees.{Work, Assign, Term, Evaluated, Node, Lazy, Update, Fill, Terms, NoTerms, MoreTerms, Items, NoItems}
 use Rattle.limbo_meaning.specs.Trees.{MoreItems}
 use Rattle.limbo_meaning.specs.Evaluation.{may_hold, operands_for}
@@ -18,18 +19,19 @@ use Rattle.core_code.proofs.Used.{term_up, terms_up, items_up, rest_up, end_up}
 use Rattle.core_follows.specs.Drops.{Between}
 use Rattle.core_follows.specs.Handled.{IsKnown, Suits, Declares, Handled, AllHandled, HandledItems, HandledRest, types_in}
 use Rattle.core_follows.proofs.Holding.{has_front, has_back}
-use Rattle.core_follows.proofs.Static.{drops_within, all_within, items_within, rest_within, values_counted}
+use Rattle.core_follows.proofs.Static.{drops_within, all_within, items_within, rest_within, values_counted, no_drops}
 use Rattle.core_follows.proofs.Valued.{value_stands, values_stand, values_differ}
-use Rattle.core_typing.specs.Held.{Of, slot, put}
-use Rattle.core_typing.specs.Needs.{StandsAs}
+use Rattle.core_typing.specs.Held.{Of, slot, put, type_held}
+use Rattle.core_typing.specs.Needs.{StandsAs, NamesNothing, AreClean}
 use Rattle.core_typing.specs.Written.{type_known, told}
 use Rattle.core_typing.specs.Trees.{HasValue, LengthSo, DeclaresSo, Formed, AllFormed, ItemsFormed}
 use Rattle.core_typing.specs.Functions.{TreesGoWell, ValuesGoWell}
 use Rattle.core_typing.proofs.Going.{put_same, put_other, put_long, same_place, goes_to}
 use Rattle.core_typing.proofs.Telling.{gave, gave_to, told_same, told_over, told_at, writes_quiet, drops_still, term_quiet, terms_quiet}
 use Rattle.core_typing.proofs.Telling.{items_quiet, rest_quiet}
-use Rattle.core_typing.proofs.Drops.{none, lets_kept, lets_told, lets_more, drops_go}
-use Rattle.core_typing.proofs.Standing.{itself, is_on, is_same, term_stands, terms_stand}
+use Rattle.core_typing.proofs.Cleaning.{clean_same, put_clean}
+use Rattle.core_typing.proofs.Drops.{none, lets_same, lets_told, lets_more, drops_go}
+use Rattle.core_typing.proofs.Standing.{itself, is_on, is_same, is_kept, term_stands, terms_stand}
 use Rattle.core_typing.proofs.Nodes.{GoesBy, AllBy, told_on, all_told_on, declares_go}
 use Rattle.core_typing.proofs.Expressions.{node_goes, lazy_goes, update_goes}
 use Rattle.core_typing.proofs.Filling.{grown_none, grown_on, grown_more, sides, others_go, ElementsGo, fill_goes}
@@ -37,22 +39,25 @@ use Rattle.core_typing.proofs.Filling.{grown_none, grown_on, grown_more, sides, 
 module _ (s : Scope) (answer : Ty) (code : List Instr) where
   -- ---- what is known
 
-  known_goes : (lo : ℕ) (v : Value) → GoesBy s answer code lo (lower s.adts lo (Evaluated v)) (type_known v)
-  known_goes lo v pc slots n has fits k =
-      let i = Of (type_known v) in
+  known_goes : (lo : ℕ) (v : Value) → NamesNothing v → GoesBy s answer code lo (lower s.adts lo (Evaluated v)) (type_known v)
+  known_goes lo v names pc slots n has fits clean k =
+      let i = Of (type_known v) [] in
       let g = gave_to code pc (pc + 1) lo (type_known v) (Known v lo) (omega arith) has.0 (λ r. refl) in
-      goes_to s answer code n pc (suc pc) slots (put slots lo i) (Known v lo) has.0 tt tt refl
+      goes_to s answer code n pc (suc pc) slots (put slots lo i) (Known v lo) has.0 (names, clean lo (omega arith) (omega arith)) tt refl
       (same_place s answer code n (pc + 1) (suc pc) (put slots lo i) (omega arith)
       (k (put slots lo i) (record {
         long = put_long slots lo i;
         same = λ r b. put_other slots lo r i (λ e. absurd (elim b [ inl y ↦ omega (arith, y, e) | inr y ↦ omega (arith, y, e) ]));
-        lets = none;
-        is = (type_known v, put_same slots lo i fits, itself (type_known v));
-        agrees = (type_known v, put_same slots lo i fits, g.there);
+        lets = none (λ r p q. put_clean slots lo r i (clean r p q) (λ e. refl));
+        is = (type_known v, ap type_held (put_same slots lo i fits), itself (type_known v));
+        agrees = (type_known v, ap type_held (put_same slots lo i fits), g.there);
       })))
 
+  names_nothing : (v : Value) → references v ≡ [] → NamesNothing v
+  names_nothing v e n = ap (among n) e
+
   length_goes : (lo : ℕ) (t : Term) → IsKnown t → LengthSo t → GoesBy s answer code lo (lower s.adts lo t) ty.Int
-  length_goes lo (Evaluated (Num z)) h f = known_goes lo (Num z)
+  length_goes lo (Evaluated (Num z)) h f = known_goes lo (Num z) (names_nothing (Num z) h)
   length_goes lo (Evaluated _) h f = absurd f
   length_goes lo _ h f = absurd h
 
@@ -62,24 +67,26 @@ module _ (s : Scope) (answer : Ty) (code : List Instr) where
 
   declared_goes : (lo : ℕ) (t : Ty) (o : Work) (ts : Terms) → Declares o ts → DeclaresSo s o ts
       → GoesBy s answer code lo (lower s.adts lo (Node t o ts)) (type_of s.adts (Node t o ts))
-  declared_goes lo t (Assign (a ∷ aims)) (MoreTerms (Evaluated v) NoTerms) d f pc slots n has fits k =
+  declared_goes lo t (Assign (a ∷ aims)) (MoreTerms (Evaluated v) NoTerms) d f pc slots n has fits clean k =
       let number : ℕ = operands_for (a ∷ aims) in
       let value = slot_at number (lo ∷ []) in
       let at : value ≡ lo = ap (λ (j : ℕ). slot_at j (lo ∷ [])) d.0 in
-      let i = Of (type_known v) in
+      let i = Of (type_known v) [] in
       let last = put slots lo i in
       let known : type_known v ≡ ty.Nothing = ap type_known d.1 in
-      let there : slot last value ≡ Of ty.Nothing = ap (slot last) at ∙ put_same slots lo i fits ∙ ap Of known in
+      let names : NamesNothing v = λ m. ap (λ (x : Value). among m (references x)) d.1 in
+      let there : type_held (slot last value) ≡ Some ty.Nothing =
+      ap (λ (r : ℕ). type_held (slot last r)) at ∙ ap type_held (put_same slots lo i fits) ∙ ap (λ (u : Ty). Some u) known in
       let rest = writes s.adts (a ∷ aims) (lo ∷ []) value in
       let g = gave code pc lo (type_known v) (Known v lo) has.0 (λ r. refl) in
       let told_value : told code (suc pc) value ≡ Some ty.Nothing = ap (told code (suc pc)) at ∙ g.there ∙ ap (λ (u : Ty). Some u) known in
-      goes_to s answer code n pc (suc pc) slots last (Known v lo) has.0 tt tt refl
+      goes_to s answer code n pc (suc pc) slots last (Known v lo) has.0 (names, clean lo (omega arith) (omega arith)) tt refl
       (declares_go s answer code (a ∷ aims) last (lo ∷ []) value n (suc pc) there told_value f has.1
       (same_place s answer code n (pc + suc (length rest)) (suc pc + length rest) last (omega arith)
       (k last (record {
         long = put_long slots lo i;
         same = λ r b. put_other slots lo r i (λ e. absurd (elim b [ inl y ↦ omega (arith, y, e) | inr y ↦ omega (arith, y, e) ]));
-        lets = none;
+        lets = none (λ r p q. put_clean slots lo r i (clean r p q) (λ e. refl));
         is = (
           ty.Nothing,
           there,
@@ -93,7 +100,7 @@ module _ (s : Scope) (answer : Ty) (code : List Instr) where
               ∙ told_over code (suc pc) value rest has.1 (writes_quiet s.adts value (a ∷ aims) (lo ∷ []) value) ∙ told_value,
         );
       }))))
-  declared_goes lo t _ _ d f pc slots n has fits k = absurd d
+  declared_goes lo t _ _ d f pc slots n has fits clean k = absurd d
 
   declares_not : (o : Work) (ts : Terms) (u : Ty) → DeclaresFor s o ts u → AllHandled s.adts ts → ⊥
   declares_not (Assign aims) (MoreTerms (Evaluated v) NoTerms) u d h = h.0
@@ -113,7 +120,7 @@ module _ (s : Scope) (answer : Ty) (code : List Instr) where
         let a = lower s.adts lo l in
         lazy_goes s answer code (may_hold s.adts r) c lo a (lower s.adts (suc a.free) r) (type_of s.adts l) (type_of s.adts r)
         (term_up s.adts lo l) (term_up s.adts (suc a.free) r) (drops_within s.adts lo l) (drops_within s.adts (suc a.free) r)
-        (λ q d. term_quiet s.adts q (suc a.free) r d)
+        (λ q d. term_quiet s.adts q (suc a.free) r d) (no_drops s.adts (suc a.free) r)
         (term_goes l ty.Int is.0 h.0 f.1 lo) (term_goes r ty.Int is.1 h.1 f.3 (suc a.free))
         (term_stands s l ty.Int is.0 h.0 f.0 f.1) (term_stands s r ty.Int is.1 h.1 f.2 f.3)
     term_goes (Update o g t w ts us) u is h f lo =
@@ -135,7 +142,7 @@ module _ (s : Scope) (answer : Ty) (code : List Instr) where
         let w = rest_up s.adts t n.free (named s.adts items) shared es.free rest in
         let length_go : GoesBy s answer code lo n ty.Int = ⊎_elim
         (λ (x : IsKnown l). length_goes lo l x f.0)
-        (λ (x : Handled s.adts l). λ pc slots m has fits k. term_goes l ty.Int is.1 x f.1 lo pc slots m has fits
+        (λ (x : Handled s.adts l). λ pc slots m has fits clean k. term_goes l ty.Int is.1 x f.1 lo pc slots m has fits clean
         (λ after left. k after (record {
           long = left.long;
           same = left.same;
@@ -156,11 +163,11 @@ module _ (s : Scope) (answer : Ty) (code : List Instr) where
 
     pub terms_go : (ts : Terms) (us : List Ty) → TermsAre s [] None ts us → AllHandled s.adts ts → AllFormed s ts → (lo : ℕ)
         → AllBy s answer code lo (lower_all s.adts lo ts) (types_in s.adts ts)
-    terms_go NoTerms us is h f lo pc slots n has fits k =
+    terms_go NoTerms us is h f lo pc slots n has fits clean k =
         same_place s answer code n (pc + 0) pc slots (omega arith)
-        (k slots (record { long = refl; same = λ r b. refl; lets = none; these = tt; agree = tt }))
-    terms_go (MoreTerms t ts) [] is h f lo pc slots n has fits k = absurd is
-    terms_go (MoreTerms t ts) (u ∷ us) is h f lo pc slots n has fits k =
+        (k slots (record { long = refl; same = λ r b. refl; lets = none clean; these = tt; agree = tt }))
+    terms_go (MoreTerms t ts) [] is h f lo pc slots n has fits clean k = absurd is
+    terms_go (MoreTerms t ts) (u ∷ us) is h f lo pc slots n has fits clean k =
         let a = lower s.adts lo t in
         let b = lower_all s.adts a.free ts in
         let p = term_up s.adts lo t in
@@ -176,9 +183,10 @@ module _ (s : Scope) (answer : Ty) (code : List Instr) where
         told_at code at_end (pc1 + length b.code) r (omega arith) in
         let kept : (r : ℕ) → r < a.free → tells r ≡ told code pc1 r = λ r l.
         to_end r ∙ told_over code pc1 r b.code has_more (terms_quiet s.adts r a.free ts (inl l)) in
-        term_goes t u is.0 h.0 f.1 lo pc slots n (has_front code pc a.code b.code has) (omega arith)
+        term_goes t u is.0 h.0 f.1 lo pc slots n (has_front code pc a.code b.code has) (omega arith) (λ r x y. clean r x (omega arith))
         (λ one left. terms_go ts us is.1 h.1 f.2 a.free pc1 one n has_more
         (let e = left.long in omega arith)
+        (λ r x y. clean_same (slot slots r) (slot one r) (left.same r (inr x)) (clean r (omega (arith, x, p)) y))
         (λ two more. same_place s answer code n at_end (pc1 + length b.code) two (omega arith)
         (k two (record {
           long = more.long ∙ left.long;
@@ -187,9 +195,9 @@ module _ (s : Scope) (answer : Ty) (code : List Instr) where
             | inr y ↦ more.same r (inr y) ∙ left.same r (inr (omega arith))
           ];
           lets = lets_more s.adts tells two lo a.free b.free a.drops b.drops wa (all_within s.adts a.free ts)
-              (lets_kept s.adts (Between lo a.free) (told code pc1) tells one two a.drops wa (λ r d. more.same r (inl d.1))
+              (lets_same s.adts lo a.free (told code pc1) tells one two a.drops wa more.long (λ r d. more.same r (inl d.1))
               (λ r d. kept r d.1) left.lets)
-              (lets_told s.adts (told code (pc1 + length b.code)) tells two b.drops to_end more.lets);
+              (lets_told s.adts a.free b.free (told code (pc1 + length b.code)) tells two b.drops to_end more.lets);
           these = (is_same one two a.value (type_of s.adts t) (more.same a.value (inl v.1)) left.is, more.these);
           agree = (
             told_on (told code pc1) tells one two a.value (more.same a.value (inl v.1)) (kept a.value v.1) left.agrees,
@@ -200,9 +208,10 @@ module _ (s : Scope) (answer : Ty) (code : List Instr) where
     items_go : (items : Items) (t : Ty) (a shared from : ℕ) → HasRoom s.adts t → ItemsAre s [] None items t
         → HandledItems s.adts items → ItemsFormed s items → a < shared → shared ≤ from → items_end s.adts shared items ≤ from
         → (lo : ℕ) → from ≤ lo → ElementsGo s answer code t a shared from lo (lower_items s.adts t a shared lo items)
-    items_go NoItems t a shared from room is h f l m end lo p pc slots n array has fits k =
-        same_place s answer code n (pc + 0) pc slots (omega arith) (k slots (grown_none s.adts (told code (pc + 0)) slots shared from lo))
-    items_go (MoreItems z e items) t a shared from room is h f l m end lo p pc slots n array has fits k =
+    items_go NoItems t a shared from room is h f l m end lo p pc slots n array has fits clean fresh k =
+        same_place s answer code n (pc + 0) pc slots (omega arith)
+        (k slots (grown_none s.adts (told code (pc + 0)) slots shared from lo clean))
+    items_go (MoreItems z e items) t a shared from room is h f l m end lo p pc slots n array has fits clean fresh k =
         let b = may_hold s.adts e in
         let base : ℕ = if b then lo else shared in
         let x = lower s.adts base e in
@@ -223,49 +232,64 @@ module _ (s : Scope) (answer : Ty) (code : List Instr) where
         (items_quiet s.adts r t a shared from lo' items m (omega arith) (omega arith) (inr (let c = b.0 in omega (arith, c, p))) (inl b.1))
         ∙ told_same code behind r element has1.0 refl in
         term_goes e t is.0 h.0 f.1 base pc slots n (has_front code pc x.code (element ∷ y.code) has) (omega arith)
+        (side.clean slots y.free more_up clean fresh)
         (λ one left.
         let pc1 : ℕ = pc + length x.code in
-        let array1 : slot one a ≡ Of (ty.ArrayOf t) = left.same a (inl low) ∙ array in
+        let array1 : type_held (slot one a) ≡ Some (ty.ArrayOf t) = ap type_held (left.same a (inl low)) ∙ array in
+        let clean1 = side.shares (told code pc1) slots one clean left.same left.lets in
+        let fresh1 : AreClean one lo' y.free = λ r c d.
+        clean_same (slot slots r) (slot one r) (left.same r (side.beside r (inr (omega (arith, c, up, p))) (inr c)))
+        (fresh r (omega (arith, c, up)) d) in
         goes_to s answer code n pc1 (suc pc1) one one element has1.0 (
           room,
           (ty.ArrayOf t, array1, itself (ty.ArrayOf t)),
           is_on one x.value (type_of s.adts e) t left.is (term_stands s e t is.0 h.0 f.0 f.1),
         ) tt refl
         (items_go items t a shared from room is.1 h.1 f.2 l m (omega arith) lo' (omega arith) (suc pc1) one n array1 has1.1
-        (let q = left.long in omega arith)
+        (let q = left.long in omega arith) clean1 fresh1
         (λ two grown. same_place s answer code n (pc + length (x.code ++ (element ∷ y.code))) (suc pc1 + length y.code) two (omega arith)
         (k two (grown_on s.adts (told code at_end) (told code (pc + length (x.code ++ (element ∷ y.code)))) slots two shared from lo y.free
         (x.drops ++ y.drops) (λ r. told_at code (pc + length (x.code ++ (element ∷ y.code))) at_end r (omega arith))
         (grown_more s.adts (told code behind) (told code at_end) slots one two shared from lo lo' y.free x.drops y.drops p up more_up
         side.touch
         (items_within s.adts lo' y.free t a shared lo' items (omega arith) (omega arith)) kept
-        (record { long = left.long; same = λ r c d. left.same r (side.beside r c d); lets = left.lets }) grown))))))
+        (record {
+          long = left.long;
+          same = λ r c d. left.same r (side.beside r c d);
+          lets = side.lets (told code behind) one left.lets;
+          clean = clean1;
+        }) grown))))))
 
     rest_go : (rest : Terms) (t : Ty) (a shared from : ℕ) → HasRoom s.adts t → RestIs s [] rest t → HandledRest s.adts rest
         → AllFormed s rest → a < shared → shared ≤ from → rest_end s.adts shared rest ≤ from → (lo : ℕ) → from ≤ lo → (zs : List ℤ)
         → ElementsGo s answer code t a shared from lo (lower_rest s.adts t a zs shared lo rest)
-    rest_go NoTerms t a shared from room is h f l m end lo p zs pc slots n array has fits k =
-        same_place s answer code n (pc + 0) pc slots (omega arith) (k slots (grown_none s.adts (told code (pc + 0)) slots shared from lo))
-    rest_go (MoreTerms e es) t a shared from room is h f l m end lo p zs pc slots n array has fits k =
+    rest_go NoTerms t a shared from room is h f l m end lo p zs pc slots n array has fits clean fresh k =
+        same_place s answer code n (pc + 0) pc slots (omega arith)
+        (k slots (grown_none s.adts (told code (pc + 0)) slots shared from lo clean))
+    rest_go (MoreTerms e es) t a shared from room is h f l m end lo p zs pc slots n array has fits clean fresh k =
         others_go s answer code (may_hold s.adts e) t (type_of s.adts e) a shared from lo zs e refl room
         (term_stands s e t is h f.0 f.1) l m p end (λ base. term_goes e t is h f.1 base) (λ base. (value_stands s.adts e h base).between)
-        pc slots n array has fits k
+        pc slots n array has fits clean fresh k
 
 -- ---- the whole
 
 pub trees_go_well : TreesGoWell
-trees_go_well s answer code t u is h f pc slots has fits n k =
+trees_go_well s answer code t u is h f pc slots has fits clean n k =
     let l = lower s.adts 0 t in
     let v = value_stands s.adts t h 0 in
-    term_goes s answer code t u is h f 0 pc slots n (has_front code pc l.code l.drops has) fits
+    term_goes s answer code t u is h f 0 pc slots n (has_front code pc l.code l.drops has) fits (λ r p q. clean r)
     (λ one left. drops_go s answer code n n 0 l.free (pc + length l.code) (told code (pc + length l.code)) one l.drops (omega arith)
     left.lets
     (λ r. refl) (λ r. drops_still s.adts r 0 t) (drops_within s.adts 0 t)
     (let q = left.long in omega arith) (has_back code pc l.code l.drops has)
-    (λ after long same. same_place s answer code n (pc + length (whole s.adts t)) (pc + length l.code + length l.drops) after
+    (λ after long types same cleaned. same_place s answer code n (pc + length (whole s.adts t)) (pc + length l.code + length l.drops) after
     (let e = length-append l.code l.drops in omega arith)
-    (k after (long ∙ left.long) (is_same one after l.value (type_of s.adts t) (same l.value v.spares) left.is))))
+    (k after (long ∙ left.long) (is_kept one after l.value (type_of s.adts t) (types l.value v.spares) left.is)
+    (λ r. ⊎_elim
+    (λ (m : r < l.free). cleaned r (omega arith) m)
+    (λ (m : l.free ≤ r). clean_same (slot slots r) (slot after r) (same r (inr m) ∙ left.same r (inr m)) (clean r))
+    (cases_lt r l.free)))))
 
 pub values_go_well : ValuesGoWell
-values_go_well s answer code t u is h f pc slots has fits n k =
-    term_goes s answer code t u is h f 0 pc slots n has fits (λ one left. k one left.long left.is)
+values_go_well s answer code t u is h f pc slots has fits clean n k =
+    term_goes s answer code t u is h f 0 pc slots n has fits (λ r p q. clean r) (λ one left. k one left.long left.is)

@@ -15,24 +15,24 @@ use Rattle.core_follows.specs.Drops.{HasAt}
 use Rattle.core_follows.specs.Handled.{Handled, HandledBlock}
 use Rattle.core_follows.specs.Modules.{ProgramPart}
 use Rattle.core_typing.specs.Held.{Slots, empty}
-use Rattle.core_typing.specs.Needs.{IsA}
+use Rattle.core_typing.specs.Needs.{IsA, AllClean}
 use Rattle.core_typing.specs.Going.{Goes}
 use Rattle.core_typing.specs.Trees.{Formed, BlockFormed}
 
--- The code of a typed tree, with its drops, goes well in front of what goes well behind it: as many slots as before, and in that of the
--- tree's value one of its type.
+-- The code of a typed tree, with its drops, goes well where no slot names anything, in front of what goes well behind it: as many slots as
+-- before, in that of the tree's value one of its type, and no slot names anything again.
 abbrev pub TreesGoWell : Type 0
 TreesGoWell =
     (s : Scope) (answer : Ty) (code : List Instr) (t : Term) (u : Ty) → TermIs s [] None t u → Handled s.adts t → Formed s t →
-    (pc : ℕ) (slots : Slots) → HasAt code pc (whole s.adts t) → (lower s.adts 0 t).free ≤ length slots → (n : ℕ) →
-    ((after : Slots) → length after ≡ length slots → IsA after (lower s.adts 0 t).value (type_of s.adts t) →
+    (pc : ℕ) (slots : Slots) → HasAt code pc (whole s.adts t) → (lower s.adts 0 t).free ≤ length slots → AllClean slots → (n : ℕ) →
+    ((after : Slots) → length after ≡ length slots → IsA after (lower s.adts 0 t).value (type_of s.adts t) → AllClean after →
     Goes s answer code n (pc + length (whole s.adts t)) after) → Goes s answer code n pc slots
 
 -- The same of its code without its drops, in front of a return.
 abbrev pub ValuesGoWell : Type 0
 ValuesGoWell =
     (s : Scope) (answer : Ty) (code : List Instr) (t : Term) (u : Ty) → TermIs s [] None t u → Handled s.adts t → Formed s t →
-    (pc : ℕ) (slots : Slots) → HasAt code pc (lower s.adts 0 t).code → (lower s.adts 0 t).free ≤ length slots → (n : ℕ) →
+    (pc : ℕ) (slots : Slots) → HasAt code pc (lower s.adts 0 t).code → (lower s.adts 0 t).free ≤ length slots → AllClean slots → (n : ℕ) →
     ((after : Slots) → length after ≡ length slots → IsA after (lower s.adts 0 t).value (type_of s.adts t) →
     Goes s answer code n (pc + length (lower s.adts 0 t).code) after) → Goes s answer code n pc slots
 

@@ -1,14 +1,20 @@
 -- Where code goes on, and what is known of its slots then; and that wherever it comes to, each instruction finds what it needs, and
 -- the code in front tells of which type a value is whose part is taken or whose reference is dropped.
-use Rattle.std.specs.Prelude.{ℕ, zero, suc, ◌+◌, ◌-◌, ◌≡◌, true, false, List, [], ◌∷◌, Option, Some, slice_get}
+use Rattle.std.specs.Prelude.{ℕ, zero, suc, ◌+◌, ◌-◌, ◌≡◌, true, false, List, [], ◌∷◌, length, Option, None, Some, slice_get}
+use Rattle.std.specs.Prelude.{if◌then◌else◌}
 use Rattle.std.specs.List.{All}
 use Rattle.limbo_types.specs.Types as ty
 use Rattle.limbo_types.specs.Types.{Ty}
+use Rattle.limbo_layout.specs.Adts.{Def}
+use Rattle.limbo_meaning.specs.Trees.{Work, Operate}
+use Rattle.limbo_meaning.specs.Evaluation.{work_refers}
 use Rattle.limbo_kept.specs.Trees.{Scope}
 use Rattle.core_code.specs.Code.{Instr, Give, Gather, Pick, Known, Write, CopyInto, Cell, Call, Print, Skip, Truth, Element, Start, Next}
 use Rattle.core_code.specs.Code.{Other, Keep, Take, Drop, Mirror, Unless, Jump, Back, Return}
+use Rattle.core_code.specs.Terms.{Moved, count_of, numbers_from, part_types, part_numbers, moves_into, moves_out}
 use Rattle.core_typing.specs.Held.{Held, Of, Decided, Turns, Regions, NoRegion, MoreRegions, Slots, empty, slot, put, emptied}
-use Rattle.core_typing.specs.Held.{chain_of, region, cleared, placed, chained, noted}
+use Rattle.core_typing.specs.Held.{chain_of, region, cleared, placed, chained, noted, type_held, live_in, dropped, moved, left_by}
+use Rattle.core_typing.specs.Held.{all_moved}
 use Rattle.core_typing.specs.Needs.{Finds}
 use Rattle.core_typing.specs.Written.{type_known, told}
 
@@ -30,24 +36,49 @@ abbrev pub taken : (pc passes : ℕ) → Slots → (loop from : ℕ) → Regions
 taken pc n slots loop from NoRegion = stand (suc pc + n) (put slots loop empty) ∷ []
 taken pc n slots loop from (MoreRegions g rs) = stand (suc pc) (put (placed slots from g) loop (Turns rs)) ∷ []
 
-module _ (pc : ℕ) (slots : Slots) where
+-- ---- which references of a value may name something
+
+module _ (defs : List Def) where
+  -- All that values of a type have, by their numbers.
+  abbrev pub all_of : Ty → List ℕ
+  all_of t = numbers_from defs 0 (count_of defs t)
+
+  -- Those of what a node gives: none, where a node of its kind gets no reference, as `nil` doesn't.
+  abbrev pub got_by : Ty → Work → List ℕ
+  got_by t o = if work_refers defs t o then all_of t else []
+
+  -- What moves into the parts of a tuple and of an adt.
+  abbrev pub parts_moved : Ty → Work → (into : ℕ) → (from : List ℕ) → List Moved
+  parts_moved t (Operate o) into from = moves_into defs (part_types defs t) into (part_numbers defs o (length from)) from
+  parts_moved t o into from = []
+
+  -- What moves with a part that is taken out of a slot.
+  abbrev pub out_of : Option Ty → (part from into : ℕ) → Moved
+  out_of None n from into = moves_out defs ty.Nothing n from into
+  out_of (Some v) n from into = moves_out defs v n from into
+
+module _ (defs : List Def) (pc : ℕ) (slots : Slots) where
   abbrev pub on : Slots → List Stand
   on after = stand (suc pc) after ∷ []
 
+  -- The references of a part move with it, and the others stay where they are.
+  abbrev pub picked : Ty → (into from : ℕ) → Moved → List Stand
+  picked t into from v = on (put (put slots from (left_by v (slot slots from))) into (Of t (moved v (live_in (slot slots from)))))
+
   -- Where it may stand behind an instruction, whatever the values are.
   abbrev pub behind : Instr → List Stand
-  behind (Give t o into from) = on (put slots into (Of t))
-  behind (Gather t o into from) = on (put (emptied slots from) into (Of t))
-  behind (Pick t n into from) = on (put slots into (Of t))
-  behind (Known v into) = on (put slots into (Of (type_known v)))
+  behind (Give t o into from) = on (put slots into (Of t (got_by defs t o)))
+  behind (Gather t o into from) = on (put (emptied slots from) into (Of t (all_moved (parts_moved defs t o into from) slots)))
+  behind (Pick t n into from) = picked t into from (out_of defs (type_held (slot slots from)) n from into)
+  behind (Known v into) = on (put slots into (Of (type_known v) []))
   behind (Write t way operands part from) = on slots
   behind (CopyInto array start from) = on slots
-  behind (Cell t into item back) = on (put slots into (Of (ty.ListOf t)))
-  behind (Call t f into from) = on (put slots into (Of t))
-  behind (Print ps into from) = on (put slots into (Of ty.Int))
+  behind (Cell t into item back) = on (put slots into (Of (ty.ListOf t) (all_of defs (ty.ListOf t))))
+  behind (Call t f into from) = on (put slots into (Of t (all_of defs t)))
+  behind (Print ps into from) = on (put slots into (Of ty.Int []))
   behind (Skip c into decision from n) =
-      stand (suc pc + n) (put (noted slots decision true) into (Of ty.Int)) ∷ stand (suc pc) (noted slots decision false) ∷ []
-  behind (Truth into from) = on (put slots into (Of ty.Int))
+      stand (suc pc + n) (put (noted slots decision true) into (Of ty.Int [])) ∷ stand (suc pc) (noted slots decision false) ∷ []
+  behind (Truth into from) = on (put slots into (Of ty.Int []))
   behind (Element t array index from) = on slots
   behind (Start loop) = on (put slots loop (Turns NoRegion))
   behind (Next array loop named n) = stand (suc pc + n) slots ∷ stand (suc pc) slots ∷ []
@@ -55,7 +86,7 @@ module _ (pc : ℕ) (slots : Slots) where
   behind (Keep loop from words) =
       on (put (cleared slots from words) loop (Turns (chained (chain_of (slot slots loop)) (region slots from words))))
   behind (Take loop from words n) = taken pc n slots loop from (chain_of (slot slots loop))
-  behind (Drop r k) = on slots
+  behind (Drop r k) = on (put slots r (dropped k (slot slots r)))
   behind (Mirror d n) = mirrored pc n slots (slot slots d)
   behind (Unless c n) = stand (suc pc + n) slots ∷ stand (suc pc) slots ∷ []
   behind (Jump n) = stand (suc pc + n) slots ∷ []
@@ -64,7 +95,7 @@ module _ (pc : ℕ) (slots : Slots) where
 
 -- Of a slot's value the type is told that it is of.
 abbrev pub IsTold : (told : ℕ → Option Ty) → Slots → (slot : ℕ) → Type 0
-IsTold tells slots r = (u : Ty) × (slot slots r ≡ Of u) × (tells r ≡ Some u)
+IsTold tells slots r = (u : Ty) × (type_held (slot slots r) ≡ Some u) × (tells r ≡ Some u)
 
 module _ (s : Scope) (answer : Ty) (code : List Instr) where
   -- Where an instruction takes a part of a slot's value or drops a reference of it, the code in front tells of which type that is.
@@ -79,4 +110,4 @@ module _ (s : Scope) (answer : Ty) (code : List Instr) where
   Goes zero pc slots = Unit {0}
   Goes (suc n) pc slots =
       (i : Instr) × (slice_get code pc ≡ Some i) × Finds s answer slots i × Agrees pc slots i
-      × All (λ (a : Stand). Goes n a.pc a.slots) (behind pc slots i)
+      × All (λ (a : Stand). Goes n a.pc a.slots) (behind s.adts pc slots i)

@@ -1,13 +1,16 @@
--- What is known of slots while code runs, whatever values come: of which type a slot's value is, how a connective was decided, and what
--- the turns of a loop of an initialiser left in its chain.
-use Rattle.std.specs.Prelude.{ℕ, zero, suc, List, [], ◌∷◌, Bool, Option, None, Some, slice_set, slice_index_or}
+-- What is known of slots while code runs, whatever values come: of which type a slot's value is and which of its references may name
+-- something, how a connective was decided, and what the turns of a loop of an initialiser left in its chain.
+use Rattle.std.specs.Prelude.{ℕ, zero, suc, ◌+◌, ◌-◌, ◌≡◌, ◌⊎◌, List, [], ◌∷◌, ◌++◌, Bool, Option, None, Some, nat_eq, if◌then◌else◌}
+use Rattle.std.specs.Prelude.{slice_set, slice_index_or}
 use Rattle.limbo_types.specs.Types as ty
 use Rattle.limbo_types.specs.Types.{Ty}
+use Rattle.core_code.specs.Terms.{Moved, is_moved}
 
 mutual
   pub data Held : Type 0 where
-    -- a value of a type
-    Of : Ty → Held
+    -- a value of a type, of whose references, by their numbers in order, these alone may name something; they go in no fixed order, as a
+    -- part may be nil and others may have moved away
+    Of : Ty → (live : List ℕ) → Held
     -- an int that tells whether the left operand of a connective decided
     Decided : Bool → Held
     Turns : Regions → Held
@@ -25,7 +28,7 @@ Slots = List Held
 
 -- An empty slot has a value without parts.
 abbrev pub empty : Held
-empty = Of ty.Nothing
+empty = Of ty.Nothing []
 
 abbrev pub slot : Slots → ℕ → Held
 slot slots s = slice_index_or slots s empty
@@ -36,6 +39,15 @@ put slots s h = slice_set slots s h
 abbrev pub emptied : Slots → List ℕ → Slots
 emptied slots [] = slots
 emptied slots (s ∷ ss) = put (emptied slots ss) s empty
+
+-- Of which type a slot's value is, and which of its references may name something.
+abbrev pub type_held : Held → Option Ty
+type_held (Of t ns) = Some t
+type_held h = None
+
+abbrev pub live_in : Held → List ℕ
+live_in (Of t ns) = ns
+live_in h = []
 
 abbrev pub chain_of : Held → Regions
 chain_of (Turns rs) = rs
@@ -63,3 +75,37 @@ chained (MoreRegions h rs) g = MoreRegions h (chained rs g)
 abbrev pub noted : Slots → Option ℕ → Bool → Slots
 noted slots None b = slots
 noted slots (Some d) b = put slots d (Decided b)
+
+-- ---- references that go, and that move
+
+-- The reference of this number is one of those that may name something.
+abbrev pub Has : List ℕ → ℕ → Type 0
+Has [] k = ⊥
+Has (n ∷ ns) k = (n ≡ k) ⊎ Has ns k
+
+abbrev pub without : ℕ → List ℕ → List ℕ
+without k [] = []
+without k (n ∷ ns) = if nat_eq k n then without k ns else n ∷ without k ns
+
+-- The reference of this number is nothing.
+abbrev pub dropped : ℕ → Held → Held
+dropped k (Of t ns) = Of t (without k ns)
+dropped k h = h
+
+-- Those that move, by their numbers where they come to, and those that stay.
+abbrev pub moved : Moved → List ℕ → List ℕ
+moved v [] = []
+moved v (k ∷ ks) = if is_moved v v.slot k then (v.at + (k - v.first)) ∷ moved v ks else moved v ks
+
+abbrev pub staying : Moved → List ℕ → List ℕ
+staying v [] = []
+staying v (k ∷ ks) = if is_moved v v.slot k then staying v ks else k ∷ staying v ks
+
+abbrev pub left_by : Moved → Held → Held
+left_by v (Of t ns) = Of t (staying v ns)
+left_by v h = h
+
+-- All that move from slots into one.
+abbrev pub all_moved : List Moved → Slots → List ℕ
+all_moved [] slots = []
+all_moved (v ∷ vs) slots = moved v (live_in (slot slots v.slot)) ++ all_moved vs slots

@@ -1,6 +1,6 @@
--- Of which types an instruction finds what it reads. A `ref` of a variant stands where one of its adt is asked for, and `nil` where any
--- reference is.
-use Rattle.std.specs.Prelude.{ℕ, ◌≡◌, ◌<◌, ◌⊎◌, Bool, List, [], ◌∷◌, ◌++◌, Option, None, Some}
+-- Of which types an instruction finds what it reads, and that a slot names nothing where it gets a value. A `ref` of a variant stands where
+-- one of its adt is asked for, and `nil` where any reference is.
+use Rattle.std.specs.Prelude.{ℕ, ◌+◌, ◌≡◌, ◌<◌, ◌≤◌, ◌⊎◌, Bool, List, [], ◌∷◌, ◌++◌, Option, None, Some}
 use Rattle.limbo_types.specs.Types as ty
 use Rattle.limbo_types.specs.Types.{Ty}
 use Rattle.limbo_typed.specs.declared.print.Piece.{Piece}
@@ -8,13 +8,14 @@ use Rattle.limbo_typed.specs.declared.print.Piece.TheVariants as piece
 use Rattle.limbo_typed.specs.Fitting.{HasPart, Stands}
 use Rattle.limbo_typed.specs.Sound.{type_of_hole}
 use Rattle.limbo_meaning.specs.Trees as tree
+use Rattle.limbo_meaning.specs.Values.{Value, among, references}
 use Rattle.limbo_kept.specs.Operating.{HasRoom}
 use Rattle.limbo_kept.specs.Places.{Leads}
 use Rattle.limbo_kept.specs.Trees.{Scope, WayIs, WorkIs}
 use Rattle.core_code.specs.Code.{Instr, Give, Gather, Pick, Known, Write, CopyInto, Cell, Call, Print, Skip, Truth, Element, Start, Next}
 use Rattle.core_code.specs.Code.{Other, Keep, Take, Drop, Mirror, Unless, Jump, Back, Return}
 use Rattle.core_code.specs.Terms.{count_of}
-use Rattle.core_typing.specs.Held.{Of, Decided, Turns, Regions, Slots, slot}
+use Rattle.core_typing.specs.Held.{Held, Of, Decided, Turns, Regions, NoRegion, MoreRegions, Slots, slot, type_held, emptied}
 
 -- Types whose values are references, or nothing.
 abbrev pub MayBeNil : Ty → Type 0
@@ -32,7 +33,7 @@ StandsAs u t = Stands u t ⊎ ((u ≡ ty.Nil) × MayBeNil t)
 
 -- In a slot stands a value where one of a type is asked for; in slots, one after the other.
 abbrev pub IsA : Slots → ℕ → Ty → Type 0
-IsA slots s t = (u : Ty) × (slot slots s ≡ Of u) × StandsAs u t
+IsA slots s t = (u : Ty) × (type_held (slot slots s) ≡ Some u) × StandsAs u t
 
 abbrev pub AreThese : Slots → List ℕ → List Ty → Type 0
 AreThese slots [] [] = Unit {0}
@@ -57,34 +58,60 @@ printed (piece.Hole h ∷ ps) = as_int (type_of_hole h) ++ printed ps
 -- without a value.
 abbrev pub Fills : Scope → Slots → Ty → (part : List ℕ) → ℕ → Type 0
 Fills s slots t part from =
-    ((v : Ty) × (slot slots from ≡ Of v) × HasRoom s.adts v × ((u : Ty) × Leads s.adts v part u × StandsAs u t))
-    ⊎ ((slot slots from ≡ Of ty.Nothing) × (part ≡ []) × HasRoom s.adts t)
+    ((v : Ty) × (type_held (slot slots from) ≡ Some v) × HasRoom s.adts v × ((u : Ty) × Leads s.adts v part u × StandsAs u t))
+    ⊎ ((type_held (slot slots from) ≡ Some ty.Nothing) × (part ≡ []) × HasRoom s.adts t)
 
 abbrev pub IsAIf : Slots → Option ℕ → Ty → Type 0
 IsAIf slots None t = Unit {0}
 IsAIf slots (Some s) t = IsA slots s t
 
+-- ---- slots that name nothing
+
+-- Nothing is named there any more.
+abbrev pub IsClean : Held → Type 0
+IsClean (Of t ns) = ns ≡ []
+IsClean (Decided b) = Unit {0}
+IsClean (Turns NoRegion) = Unit {0}
+IsClean (Turns (MoreRegions g rs)) = ⊥
+
+abbrev pub IsCleanIf : Slots → Option ℕ → Type 0
+IsCleanIf slots None = Unit {0}
+IsCleanIf slots (Some s) = IsClean (slot slots s)
+
+-- So it is in each slot from one on, and below another; and in all slots.
+abbrev pub AreClean : Slots → (from to : ℕ) → Type 0
+AreClean slots a b = (r : ℕ) → a ≤ r → r < b → IsClean (slot slots r)
+
+abbrev pub AllClean : Slots → Type 0
+AllClean slots = (r : ℕ) → IsClean (slot slots r)
+
+abbrev pub NamesNothing : Value → Type 0
+NamesNothing v = (n : ℕ) → among n (references v) ≡ 0
+
 module _ (s : Scope) (answer : Ty) (slots : Slots) where
-  -- An instruction finds what it reads as it needs it.
+  -- An instruction finds what it reads as it needs it, and nothing is named in a slot that it gives a value to.
   abbrev pub Finds : Instr → Type 0
-  Finds (Give t o into from) = (us : List Ty) × AreThese slots from us × WorkIs s t o us t
-  Finds (Gather t o into from) = (us : List Ty) × AreThese slots from us × WorkIs s t o us t
-  Finds (Pick t n into from) = (v : Ty) × (slot slots from ≡ Of v) × HasRoom s.adts v × HasPart s.adts v n t
-  Finds (Known v into) = Unit {0}
+  Finds (Give t o into from) = (us : List Ty) × AreThese slots from us × WorkIs s t o us t × IsClean (slot slots into)
+  Finds (Gather t o into from) = (us : List Ty) × AreThese slots from us × WorkIs s t o us t × IsClean (slot (emptied slots from) into)
+  Finds (Pick t n into from) =
+      (v : Ty) × (type_held (slot slots from) ≡ Some v) × HasRoom s.adts v × HasPart s.adts v n t × IsClean (slot slots into)
+  Finds (Known v into) = NamesNothing v × IsClean (slot slots into)
   Finds (Write t way operands part from) = (us : List Ty) × AreThese slots operands us × WayIs s way us t × Fills s slots t part from
   Finds (CopyInto array start from) = (i : Ty) × IsA slots array (ty.ArrayOf i) × IsA slots start ty.Int × IsA slots from (ty.ArrayOf i)
-  Finds (Cell t into item behind) = HasRoom s.adts t × IsA slots item t × IsAIf slots behind (ty.ListOf t)
-  Finds (Call t f into from) = (us : List Ty) × AreThese slots from us × WorkIs s t (tree.Call f) us t
-  Finds (Print ps into from) = AreThese slots from (printed ps)
-  Finds (Skip c into decision from passes) = IsA slots from ty.Int
-  Finds (Truth into from) = IsA slots from ty.Int
+  Finds (Cell t into item behind) =
+      HasRoom s.adts t × IsA slots item t × IsAIf slots behind (ty.ListOf t) × IsClean (slot slots into)
+  Finds (Call t f into from) = (us : List Ty) × AreThese slots from us × WorkIs s t (tree.Call f) us t × IsClean (slot slots into)
+  Finds (Print ps into from) = AreThese slots from (printed ps) × IsClean (slot slots into)
+  Finds (Skip c into decision from passes) = IsA slots from ty.Int × IsClean (slot slots into) × IsCleanIf slots decision
+  Finds (Truth into from) = IsA slots from ty.Int × IsClean (slot slots into)
   Finds (Element t array index from) = HasRoom s.adts t × IsA slots array (ty.ArrayOf t) × IsA slots from t
-  Finds (Start loop) = Unit {0}
+  Finds (Start loop) = IsClean (slot slots loop)
   Finds (Next array loop named passes) = (t : Ty) × IsA slots array (ty.ArrayOf t) × IsLoop slots loop
   Finds (Other t array loop from) = HasRoom s.adts t × IsA slots array (ty.ArrayOf t) × IsLoop slots loop × IsA slots from t
   Finds (Keep loop from words) = IsLoop slots loop
-  Finds (Take loop from words passes) = IsLoop slots loop
-  Finds (Drop r k) = (t : Ty) × (slot slots r ≡ Of t) × (k < count_of s.adts t)
+  -- what comes back goes into slots that name nothing, too
+  Finds (Take loop from words passes) = IsLoop slots loop × AreClean slots from (from + words)
+  Finds (Drop r k) = (t : Ty) × (type_held (slot slots r) ≡ Some t) × (k < count_of s.adts t)
   Finds (Mirror d passes) = (b : Bool) × (slot slots d ≡ Decided b)
   Finds (Unless c passes) = IsA slots c ty.Int
   Finds (Jump passes) = Unit {0}

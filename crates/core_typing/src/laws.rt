@@ -3,7 +3,8 @@
 ghost use Rattle.core_typing.specs.Functions.{TreesGoWell, ValuesGoWell, FunctionsGoWell, SoundModulesGoWell};
 
 /// Wherever the code of a typed tree comes to, each instruction finds operands of the types that it needs, and so does what stands behind
-/// it; and where it takes a part of a slot's value or drops a reference of it, the code in front tells of which type that is.
+/// it; a slot that it gives a value to names nothing, and behind the tree's drops no slot does; and where it takes a part of a slot's value
+/// or drops a reference of it, the code in front tells of which type that is.
 pub fn trees_go_well()
     ensures { TreesGoWell }
 {}
@@ -13,7 +14,8 @@ pub fn values_go_well()
     ensures { ValuesGoWell }
 {}
 
-/// Wherever the code of a typed function comes to, whatever the values are, each instruction finds operands of the types that it needs.
+/// Wherever the code of a typed function comes to, whatever the values are, each instruction finds operands of the types that it needs, and
+/// a slot that it gives a value to names nothing.
 pub fn functions_go_well()
     ensures { FunctionsGoWell }
 {}
