@@ -91,7 +91,7 @@ module _ (size : ℕ) (offsets : List ℕ) where
           let h : slice_get made_words w ≡ Some (word_by false) = g ∙ ap (λ b. Some (word_by b)) f in
           absurd cc
 
-  kind_of : ((o : ℕ) → Has offsets o → (o % 4 ≡ 0) × (o / 4 < size / 4)) → AreOf size offsets made_words
+  pub kind_of : ((o : ℕ) → Has offsets o → (o % 4 ≡ 0) × (o / 4 < size / 4)) → AreOf size offsets made_words
   kind_of lie = record {
     many = long;
     ranged = λ k z e. blanks_in_range (desc size offsets) 0 (size / 4) k z e;
@@ -229,10 +229,10 @@ module _ (defs : List Def) (types : List Ty) (n : ℕ) (laid : AllLaid defs type
         subst (λ (i : held.Held). SlotStands defs k x frame words (number_place defs types s) (reference_place defs types s) i l []) a.1
         (subst (λ (i : core.Slot).
         SlotStands defs k x frame words (number_place defs types s) (reference_place defs types s) held.empty i []) b.1
-        (a_value words (number_place defs types s) (reference_place defs types s) ty.Nothing value.nothing
-        (None, slot_there s a.0, nothing_there)))
+        (a_value words (number_place defs types s) (reference_place defs types s) ty.Nothing [] value.nothing
+        (None, slot_there s a.0, nothing_there) (λ m q g. absurd cc)))
 
-    begun : (are : WordsAre defs k x frame types (replicate n held.empty) (map (zero_of defs) types) (replicate n core.empty) words)
+    begun : (are : WordsAre defs k x frame None types (replicate n held.empty) (map (zero_of defs) types) (replicate n core.empty) words)
         × ((s : ℕ) → are.own s ≡ [])
     begun = (
       record {
@@ -245,7 +245,8 @@ module _ (defs : List Def) (types : List Ty) (n : ℕ) (laid : AllLaid defs type
         as_many = length-replicate n held.empty ∙ sym (length-replicate n core.empty);
         own = λ s. [];
         none_past = λ s l. refl;
-        each = each_slot;
+        busy_bare = λ s e. refl;
+        each = λ s h l free. each_slot s h l;
         single = λ s. tt;
         apart = λ s r b i j. absurd i;
       },

@@ -1,6 +1,8 @@
--- A frame in words, worked out by hand; chains of one record and of two; a big in its box; and a reference that isn't idle.
+-- A frame in words, worked out by hand, also with a busy slot; chains of one record and of two; a big in its box; blocks that are idle, and
+-- references and blocks that aren't.
 use Rattle.std.proofs.Common.{◌≡◌, ℕ, zero, suc, ◌+◌, ◌*◌, ◌/◌, ◌<◌, pos, List, [], ◌∷◌, length, Option, Some, None, refl, inl, inr}
-use Rattle.std.proofs.Common.{arith, sym, subst, ◌∙◌, ap}
+use Rattle.std.proofs.Common.{arith, sym, subst, ◌∙◌, ap, Bool, if◌then◌else◌}
+use Rattle.std.proofs.lemmas.Bool.Decides.{eqb_tells}
 use Rattle.std.specs.Prelude.{ℤ, slice_get}
 use Rattle.std.proofs.lemmas.Int.{ints}
 use Rattle.heap_model.specs.Heap.{Heap}
@@ -17,19 +19,23 @@ use Rattle.core_code.specs.Slots.{Holds}
 use Rattle.core_typing.specs.Held as held
 use Rattle.core_typing.specs.Held.{Of}
 use Rattle.dis_meaning.specs.Words.{Word, Plain, Refer}
+use Rattle.dis_meaning.specs.Counts.{refers as refers_once}
 use Rattle.dis_memory.specs.Blocks.{Block, Record}
+use Rattle.dis_memory.specs.Naming.{inside}
 use Rattle.value_words.specs.Contents.{AreInRange}
 use Rattle.value_words.specs.Forms.{Form, Cells, OwnedBy}
 use Rattle.value_words.specs.Facts.{Facts}
 use Rattle.value_words.specs.Stands.{a_number, a_name, none_stand, more_stand}
+use Rattle.value_heaps.specs.Blocks.{IsWithin}
 use Rattle.value_frames.specs.Frames.{frame_bytes, frame_references, number_place, reference_place, turn_bytes, turn_references}
 use Rattle.value_frames.specs.Types.{AreOf}
-use Rattle.value_frames.specs.Standing.{IsBox, IsIdle, nothing_there, text_left, box_left, SlotStands, a_value, a_loop, a_chain, no_more}
-use Rattle.value_frames.specs.Standing.{one_more, RegionStands, more_slots, no_slot, WordsAre}
+use Rattle.value_frames.specs.Standing.{NamesOnly, IsBox, IsIdle, nothing_there, text_left, carrier_left, SlotStands, a_value, a_loop}
+use Rattle.value_frames.specs.Standing.{a_chain, no_more, one_more, RegionStands, more_slots, no_slot, WordsAre}
+use Rattle.value_frames.proofs.Slots.{slots_change}
 
 -- ---- words that are of their type, by what refers among them
 
-abbrev refers : (number : ℕ) → List Word → List ℕ
+abbrev pub refers : (number : ℕ) → List Word → List ℕ
 refers n [] = []
 refers n (Refer r ∷ ws) = 4 * n ∷ refers (suc n) ws
 refers n (w ∷ ws) = refers (suc n) ws
@@ -51,7 +57,7 @@ is_there n (Refer s ∷ ws) (suc k) r e =
 is_there n (w ∷ ws) zero r e = absurd cc
 is_there n (w ∷ ws) (suc k) r e = subst (λ (m : ℕ). Has (refers (suc n) ws) (4 * m)) (omega arith) (is_there (suc n) ws k r e)
 
-kind_by : (ws : List Word) (size : ℕ) (offsets : List ℕ) → length ws ≡ size / 4 → refers 0 ws ≡ offsets → AreInRange ws
+pub kind_by : (ws : List Word) (size : ℕ) (offsets : List ℕ) → length ws ≡ size / 4 → refers 0 ws ≡ offsets → AreInRange ws
     → AreOf size offsets ws
 kind_by ws size offsets long same ranged = record {
   many = long;
@@ -83,7 +89,7 @@ in_range _ (refer_word r ws h) zero z e = absurd cc
 in_range _ (refer_word r ws h) (suc k) z e = in_range ws h k z e
 
 -- ---- Block 3 stands for value 9, which is a cell of a list of ints, and block 4 for "H". Blocks 5, 6 and 7 are frame 20's own. Block 8
--- is the box of the big 5.
+-- is the box of the big 5, block 9 has block 4 for good, and block 10 block 3.
 
 abbrev ints_list : Ty
 ints_list = ty.ListOf ty.Int
@@ -91,10 +97,18 @@ ints_list = ty.ListOf ty.Int
 abbrev box : List Word
 box = Plain (pos 0) ∷ Plain (pos 5) ∷ []
 
+abbrev text_box : List Word
+text_box = Refer (Some 4) ∷ []
+
+abbrev list_box : List Word
+list_box = Refer (Some 3) ∷ []
+
 abbrev known_of : ℕ → Option (Fact Block)
 known_of (suc (suc (suc zero))) = Some (Named 9)
 known_of (suc (suc (suc (suc zero)))) = Some (Chars (72 ∷ []))
 known_of (suc (suc (suc (suc (suc (suc (suc (suc zero)))))))) = Some (Carrier (Record box))
+known_of (suc (suc (suc (suc (suc (suc (suc (suc (suc zero))))))))) = Some (Carrier (Record text_box))
+known_of (suc (suc (suc (suc (suc (suc (suc (suc (suc (suc zero)))))))))) = Some (Carrier (Record list_box))
 known_of b = None
 
 abbrev formed_of : ℕ → Option Form
@@ -114,7 +128,9 @@ only_three (suc (suc (suc (suc (suc zero))))) m e = absurd cc
 only_three (suc (suc (suc (suc (suc (suc zero)))))) m e = absurd cc
 only_three (suc (suc (suc (suc (suc (suc (suc zero))))))) m e = absurd cc
 only_three (suc (suc (suc (suc (suc (suc (suc (suc zero)))))))) m e = absurd cc
-only_three (suc (suc (suc (suc (suc (suc (suc (suc (suc n))))))))) m e = absurd cc
+only_three (suc (suc (suc (suc (suc (suc (suc (suc (suc zero))))))))) m e = absurd cc
+only_three (suc (suc (suc (suc (suc (suc (suc (suc (suc (suc zero)))))))))) m e = absurd cc
+only_three (suc (suc (suc (suc (suc (suc (suc (suc (suc (suc (suc n))))))))))) m e = absurd cc
 
 abbrev known : Facts
 known = record {
@@ -136,7 +152,7 @@ words =
     ∷ behind_linkage
 
 abbrev held_slots : held.Slots
-held_slots = Of ty.Int ∷ Of ints_list ∷ []
+held_slots = Of ty.Int [] ∷ Of ints_list (0 ∷ []) ∷ []
 
 abbrev slots : core.Slots
 slots = Holds (Num (pos 7)) ∷ Holds (Ref (Some 9)) ∷ []
@@ -154,26 +170,35 @@ bytes_are = refl
 references_are : frame_references [] (ty.Int ∷ []) 2 ≡ 36 ∷ 44 ∷ 52 ∷ []
 references_are = refl
 
+no_name : (z : ℤ) → NamesOnly [] (Num z)
+no_name z k n e = absurd cc
+
+-- the name of a list is the reference of number 0
+first_name : NamesOnly (0 ∷ []) (Ref (Some 9))
+first_name zero n e = inl refl
+first_name (suc k) n e = absurd cc
+
 module _ (x : Heap Block) where
   abbrev At : (s : ℕ) → held.Held → core.Slot → Type 0
   At s h l = SlotStands [] known x 20 words (number_place [] (ty.Int ∷ []) s) (reference_place [] (ty.Int ∷ []) s) h l []
 
   each_slot : (s : ℕ) (h : held.Held) (l : core.Slot) → slice_get held_slots s ≡ Some h → slice_get slots s ≡ Some l → At s h l
   each_slot zero h l e f =
-      let a : Of ty.Int ≡ h = cc in
+      let a : Of ty.Int [] ≡ h = cc in
       let b : Holds (Num (pos 7)) ≡ l = cc in
-      subst (λ (i : held.Held). At 0 i l) a (subst (λ (j : core.Slot). At 0 (Of ty.Int) j) b
-      (a_value words 40 44 ty.Int (Num (pos 7))
-      (a_number 40 kind.Int (pos 7) refl (small 7 (pos 7) (omega arith) refl), (Some 4, refl, text_left 4 (72 ∷ []) refl))))
+      subst (λ (i : held.Held). At 0 i l) a (subst (λ (j : core.Slot). At 0 (Of ty.Int []) j) b
+      (a_value words 40 44 ty.Int [] (Num (pos 7))
+      (a_number 40 kind.Int (pos 7) refl (small 7 (pos 7) (omega arith) refl), (Some 4, refl, text_left 4 (72 ∷ []) refl))
+      (no_name (pos 7))))
   each_slot (suc zero) h l e f =
-      let a : Of ints_list ≡ h = cc in
+      let a : Of ints_list (0 ∷ []) ≡ h = cc in
       let b : Holds (Ref (Some 9)) ≡ l = cc in
-      subst (λ (i : held.Held). At 1 i l) a (subst (λ (j : core.Slot). At 1 (Of ints_list) j) b
-      (a_value words 48 52 ints_list (Ref (Some 9))
-      (a_name 52 ints_list (Some 3) (Some 9) tt refl (record { fact = refl; formed = refl }))))
+      subst (λ (i : held.Held). At 1 i l) a (subst (λ (j : core.Slot). At 1 (Of ints_list (0 ∷ [])) j) b
+      (a_value words 48 52 ints_list (0 ∷ []) (Ref (Some 9))
+      (a_name 52 ints_list (Some 3) (Some 9) tt refl (record { fact = refl; formed = refl })) first_name))
   each_slot (suc (suc s)) h l e f = absurd cc
 
-  frame_stands : WordsAre [] known x 20 (ty.Int ∷ []) held_slots (Num (pos 5) ∷ []) slots words
+  frame_stands : WordsAre [] known x 20 None (ty.Int ∷ []) held_slots (Num (pos 5) ∷ []) slots words
   frame_stands = record {
     laid = more_laid ty.Int [] (number 4) [] (is_alone ty.Int (number 4) refl) none_laid;
     kind = kind_by words 56 (36 ∷ 44 ∷ 52 ∷ []) refl refl (in_range words words_small);
@@ -182,10 +207,36 @@ module _ (x : Heap Block) where
     as_many = refl;
     own = λ s. [];
     none_past = λ s l. refl;
-    each = each_slot;
+    busy_bare = λ s e. refl;
+    each = λ s h l free. each_slot s h l;
     single = λ s. tt;
     apart = λ s r b i j. absurd i;
   }
+
+-- ---- while the second slot is busy, nothing is said of its words: it waits for the name of a list
+
+abbrev busy_words : List Word
+busy_words =
+    Plain (pos 0) ∷ Plain (pos 0) ∷ Plain (pos 0) ∷ Plain (pos 0) ∷ Plain (pos 0) ∷ Plain (pos 0) ∷ Plain (pos 0) ∷ Plain (pos 0)
+    ∷ Plain (pos 5) ∷ Refer None ∷ Plain (pos 7) ∷ Refer (Some 4) ∷ Plain (pos 1) ∷ Refer (Some 10) ∷ []
+
+busy_small : AreSmall busy_words
+busy_small =
+    zero_word _ (zero_word _ (zero_word _ (zero_word _ (zero_word _ (zero_word _ (zero_word _ (zero_word _
+    (plain_word 5 _ (omega arith) (refer_word None _ (plain_word 7 _ (omega arith) (refer_word (Some 4) _
+    (plain_word 1 _ (omega arith) (refer_word (Some 10) _ no_words)))))))))))))
+
+same_elsewhere : (w : ℕ) → (IsWithin 48 8 w → ⊥) → slice_get busy_words w ≡ slice_get words w
+same_elsewhere (suc (suc (suc (suc (suc (suc (suc (suc (suc (suc (suc (suc zero)))))))))))) n = absurd (n (omega arith, omega arith))
+same_elsewhere (suc (suc (suc (suc (suc (suc (suc (suc (suc (suc (suc (suc (suc zero))))))))))))) n = absurd (n (omega arith, omega arith))
+same_elsewhere w n = refl
+
+busy_stands : (x : Heap Block) → WordsAre [] known x 20 (Some 1) (ty.Int ∷ []) held_slots (Num (pos 5) ∷ []) slots busy_words
+unfolding frame_stands
+busy_stands x =
+    (slots_change.leaves [] known known x x 20 (ty.Int ∷ []) held_slots (Num (pos 5) ∷ []) slots words busy_words 1 (frame_stands x)
+    (record { facts = λ b f e. e; makers = λ b i e. e; forms = λ b o e. e }) refl (record { each = same_elsewhere })
+    (kind_by busy_words 56 (36 ∷ 44 ∷ 52 ∷ []) refl refl (in_range busy_words busy_small)) (λ r b i. absurd i)).0
 
 -- ---- loops of which each turn left 7 in its one slot
 
@@ -198,7 +249,7 @@ heap =
     ∷ Some (Record (turn None None)) ∷ []
 
 abbrev held_turn : held.Region
-held_turn = held.MoreSlots (Of ty.Int) held.NoSlot
+held_turn = held.MoreSlots (Of ty.Int []) held.NoSlot
 
 abbrev turn_slots : core.Region
 turn_slots = core.MoreSlots (Holds (Num (pos 7))) core.NoSlot
@@ -210,9 +261,9 @@ turn_kind next last =
 
 turn_stands : (next last : Option ℕ) → RegionStands [] known heap 20 (turn next last) 8 held_turn turn_slots []
 turn_stands next last =
-    more_slots (turn next last) 8 (Of ty.Int) held.NoSlot (Holds (Num (pos 7))) core.NoSlot [] []
-    (a_value (turn next last) 8 12 ty.Int (Num (pos 7))
-    (a_number 8 kind.Int (pos 7) refl (small 7 (pos 7) (omega arith) refl), (None, refl, nothing_there)))
+    more_slots (turn next last) 8 (Of ty.Int []) held.NoSlot (Holds (Num (pos 7))) core.NoSlot [] []
+    (a_value (turn next last) 8 12 ty.Int [] (Num (pos 7))
+    (a_number 8 kind.Int (pos 7) refl (small 7 (pos 7) (omega arith) refl), (None, refl, nothing_there)) (no_name (pos 7)))
     (no_slot (turn next last) 16)
 
 abbrev one_slot : (number block : ℕ) → List Word
@@ -250,20 +301,27 @@ big_box = record {
   kind = kind_by box 8 [] refl refl (in_range box (zero_word _ (plain_word 5 _ (omega arith) no_words)));
 }
 
-big_stands : (x : Heap Block) → SlotStands [] known x 20 (one_slot 0 8) 0 4 (Of ty.Big) (Holds (Num (pos 5))) []
+big_stands : (x : Heap Block) → SlotStands [] known x 20 (one_slot 0 8) 0 4 (Of ty.Big []) (Holds (Num (pos 5))) []
 big_stands x =
-    a_value (one_slot 0 8) 0 4 ty.Big (Num (pos 5))
+    a_value (one_slot 0 8) 0 4 ty.Big [] (Num (pos 5))
     (8, box, refl, big_box, a_number 0 kind.Big (pos 5) refl (record { above = omega (arith, ints); below = omega (arith, ints) }))
-
-nothing_in : (w q : ℕ) → slice_get box w ≡ Some (Refer (Some q)) → (text : List ℕ) × (known_of q ≡ Some (Chars text))
-nothing_in zero q e = absurd cc
-nothing_in (suc zero) q e = absurd cc
-nothing_in (suc (suc w)) q e = absurd cc
+    (no_name (pos 5))
 
 big_idle : IsIdle [] known (Some 8)
-big_idle = box_left 8 ty.Big box big_box nothing_in
+big_idle = carrier_left 8 (Record box) refl (λ q i. absurd (omega (arith, i)))
 
--- ---- what stands for a value of the heap isn't left idle
+text_box_idle : IsIdle [] known (Some 9)
+text_box_idle = carrier_left 9 (Record text_box) refl only_text
+  where
+    only_text : (q : ℕ) → 0 < inside (Record text_box) q → (text : List ℕ) × (known_of q ≡ Some (Chars text))
+    only_text q i = elim (eqb_tells 4 q) [
+      | inl y ↦ (72 ∷ [], ap known_of (sym y.1))
+      | inr y ↦
+          let e : refers_once q (Refer (Some 4)) ≡ 0 = ap (λ (b : Bool). if b then 1 else 0) y.0 in
+          absurd (omega (arith, i, e))
+    ]
+
+-- ---- what stands for a value of the heap isn't left idle, nor a block that names one
 
 not_idle : (r : Option ℕ) → r ≡ Some 3 → IsIdle [] known r → ⊥
 not_idle _ e nothing_there = absurd cc
@@ -271,7 +329,23 @@ not_idle _ e (text_left b text f) =
     let same : b ≡ 3 = cc in
     let g : Some (Named 9) ≡ Some (Chars text) = ap known_of (sym same) ∙ f in
     absurd cc
-not_idle _ e (box_left b t inner i texts) =
+not_idle _ e (carrier_left b d f texts) =
     let same : b ≡ 3 = cc in
-    let g = ap known_of (sym same) ∙ i.carries in
+    let g : Some (Named 9) ≡ Some (Carrier d) = ap known_of (sym same) ∙ f in
     absurd cc
+
+list_box_not_idle : (r : Option ℕ) → r ≡ Some 10 → IsIdle [] known r → ⊥
+list_box_not_idle _ e nothing_there = absurd cc
+list_box_not_idle _ e (text_left b text f) =
+    let same : b ≡ 10 = cc in
+    let g : Some (Carrier (Record list_box)) ≡ Some (Chars text) = ap known_of (sym same) ∙ f in
+    absurd cc
+list_box_not_idle _ e (carrier_left b d f texts) =
+    let same : b ≡ 10 = cc in
+    let g : Some (Carrier (Record list_box)) ≡ Some (Carrier d) = ap known_of (sym same) ∙ f in
+    let h : Record list_box ≡ d = cc in
+    let i : Some (Named 9) ≡ Some (Chars (texts 3 (named d h)).0) = (texts 3 (named d h)).1 in
+    absurd cc
+  where
+    named : (d : Block) → Record list_box ≡ d → 0 < inside d 3
+    named d h = subst (λ (c : Block). 0 < inside c 3) h (omega arith)

@@ -22,7 +22,7 @@ use Rattle.value_words.specs.Forms.{OwnedBy}
 use Rattle.value_words.specs.Facts.{Facts, Grows}
 use Rattle.value_words.proofs.Later.{stands_later, all_later}
 use Rattle.value_frames.specs.Frames.{Form, Nowhere, AsNumber, AsReference, Boxed, form_of, linkage_bytes, number_place, reference_place}
-use Rattle.value_frames.specs.Standing.{IsBox, IsIdle, nothing_there, text_left, box_left, RefersIdly, ValueStands, IsOwn, WordsAre}
+use Rattle.value_frames.specs.Standing.{IsBox, IsIdle, nothing_there, text_left, carrier_left, RefersIdly, ValueStands, IsOwn, WordsAre}
 use Rattle.value_frames.specs.Standing.{SlotStands, a_value, a_decision, a_loop, ChainStands, no_chain, a_chain}
 use Rattle.value_frames.specs.Standing.{TailStands, no_more, one_more, RegionStands, no_slot, more_slots}
 use Rattle.value_frames.specs.Slots.{IsKept}
@@ -36,8 +36,8 @@ module _ (defs : List Def) (k k' : Facts) (grows : Grows k k') where
   idle_later : (r : Option ℕ) → IsIdle defs k r → IsIdle defs k' r
   idle_later _ nothing_there = nothing_there
   idle_later _ (text_left b text e) = text_left b text (grows.facts b (Chars text) e)
-  idle_later _ (box_left b t inner i texts) =
-      box_left b t inner (box_later t b inner i) (λ w q e. let f = texts w q e in (f.0, grows.facts q (Chars f.0) f.1))
+  idle_later _ (carrier_left b d e texts) =
+      carrier_left b d (grows.facts b (Carrier d) e) (λ q i. let f = texts q i in (f.0, grows.facts q (Chars f.0) f.1))
 
   idly_later : (words : List Word) (p : ℕ) → RefersIdly defs k words p → RefersIdly defs k' words p
   idly_later words p h = (h.0, h.1, idle_later h.0 h.2)
@@ -67,7 +67,8 @@ module _ (defs : List Def) (k k' : Facts) (grows : Grows k k') where
     mutual
       pub slot_later : (words : List Word) (n r : ℕ) (h : Held) (l : core.Slot) (own : List ℕ) → AreKept own
           → SlotStands defs k x frame words n r h l own → SlotStands defs k' x' frame words n r h l own
-      slot_later _ _ _ _ _ _ kept (a_value words n r t v s) = a_value words n r t v (value_later words n r (form_of t) t v s)
+      slot_later _ _ _ _ _ _ kept (a_value words n r t live v s m) =
+          a_value words n r t live v (value_later words n r (form_of t) t v s) m
       slot_later _ _ _ _ _ _ kept (a_decision words n r b e i) = a_decision words n r b e (idly_later words r i)
       slot_later _ _ _ _ _ _ kept (a_loop words n r next gs rs own e c) =
           a_loop words n r next gs rs own e (chain_later words r gs rs own kept c)
@@ -96,15 +97,15 @@ module _ (defs : List Def) (k k' : Facts) (grows : Grows k k') where
           (slot_later words p (p + 4) h s own (λ q i. kept q (has_left own more q i)) one)
           (region_later words (p + 8) hs g more (λ q i. kept q (has_right own more q i)) others)
 
-    abbrev IsSame : (types : List Ty) (known : held.Slots) (variables : List Value) (slots : core.Slots) (words : List Word)
-        (are : WordsAre defs k x frame types known variables slots words) → Type 0
-    IsSame types known variables slots words are =
-        (after : WordsAre defs k' x' frame types known variables slots words) × (after.own ≡ are.own)
+    abbrev IsSame : (busy : Option ℕ) (types : List Ty) (known : held.Slots) (variables : List Value) (slots : core.Slots)
+        (words : List Word) (are : WordsAre defs k x frame busy types known variables slots words) → Type 0
+    IsSame busy types known variables slots words are =
+        (after : WordsAre defs k' x' frame busy types known variables slots words) × (after.own ≡ are.own)
 
-    words_later : (types : List Ty) (known : held.Slots) (variables : List Value) (slots : core.Slots) (words : List Word)
-        (are : WordsAre defs k x frame types known variables slots words) → ((s : ℕ) → AreKept (are.own s))
-        → IsSame types known variables slots words are
-    words_later types known variables slots words are kept = (
+    words_later : (busy : Option ℕ) (types : List Ty) (known : held.Slots) (variables : List Value) (slots : core.Slots)
+        (words : List Word) (are : WordsAre defs k x frame busy types known variables slots words) → ((s : ℕ) → AreKept (are.own s))
+        → IsSame busy types known variables slots words are
+    words_later busy types known variables slots words are kept = (
       record {
         laid = are.laid;
         kind = are.kind;
@@ -112,8 +113,9 @@ module _ (defs : List Def) (k k' : Facts) (grows : Grows k k') where
         as_many = are.as_many;
         own = are.own;
         none_past = are.none_past;
-        each = λ s h l e f.
-            slot_later words (number_place defs types s) (reference_place defs types s) h l (are.own s) (kept s) (are.each s h l e f);
+        busy_bare = are.busy_bare;
+        each = λ s h l free e f.
+            slot_later words (number_place defs types s) (reference_place defs types s) h l (are.own s) (kept s) (are.each s h l free e f);
         single = are.single;
         apart = are.apart;
       },
@@ -142,7 +144,7 @@ module _ (defs : List Def) (k : Facts) (x : Heap Block) (frame b : ℕ) where
   mutual
     slot_frames : (words : List Word) (n r : ℕ) (h : Held) (l : core.Slot) (own : List ℕ) → Has own b
         → SlotStands defs k x frame words n r h l own → IsFrames
-    slot_frames _ _ _ _ _ _ i (a_value words n r t v s) = absurd i
+    slot_frames _ _ _ _ _ _ i (a_value words n r t live v s m) = absurd i
     slot_frames _ _ _ _ _ _ i (a_decision words n r d e f) = absurd i
     slot_frames _ _ _ _ _ _ i (a_loop words n r next gs rs own e c) = chain_frames words r gs rs own i c
 
@@ -177,15 +179,20 @@ module _ (defs : List Def) (k : Facts) (x : Heap Block) (frame b : ℕ) where
           | inr j ↦ region_frames words (p + 8) hs g more j others
         ]
 
-module _ (defs : List Def) (k : Facts) (x : Heap Block) (frame : ℕ) (types : List Ty) (known : held.Slots) (variables : List Value)
-    (slots : core.Slots) (words : List Word) (are : WordsAre defs k x frame types known variables slots words) where
+module _ (defs : List Def) (k : Facts) (x : Heap Block) (frame : ℕ) (busy : Option ℕ) (types : List Ty) (known : held.Slots)
+    (variables : List Value) (slots : core.Slots) (words : List Word)
+    (are : WordsAre defs k x frame busy types known variables slots words) where
   all_frames : (s b : ℕ) → Has (are.own s) b → IsFrames defs k x frame b
   all_frames s b i = go (slice_get slots s) refl (slice_get known s) refl
     where
+      -- a busy slot has none
+      free : busy ≡ Some s → ⊥
+      free e = subst (λ (own : List ℕ). Has own b) (are.busy_bare s e) i
+
       go : (l : Option core.Slot) → slice_get slots s ≡ l → (h : Option Held) → slice_get known s ≡ h → IsFrames defs k x frame b
       go (Some l) e (Some h) f =
           slot_frames defs k x frame b words (number_place defs types s) (reference_place defs types s) h l (are.own s) i
-          (are.each s h l f e)
+          (are.each s h l free f e)
       go (Some l) e None f =
           let m = are.as_many in
           let p = is_past known s f in
@@ -198,11 +205,11 @@ module _ (defs : List Def) (k : Facts) (x : Heap Block) (frame : ℕ) (types : L
   module _ (k' : Facts) (x' : Heap Block) (j : ℕ) (made : AreMadeBy k j are.own) where
     abbrev IsSameMade : Type 0
     IsSameMade =
-        (after : WordsAre defs k' x' frame types known variables slots words) × (after.own ≡ are.own) × AreMadeBy k' j after.own
+        (after : WordsAre defs k' x' frame busy types known variables slots words) × (after.own ≡ are.own) × AreMadeBy k' j after.own
 
     same_by : Grows k k' → ((s b : ℕ) → Has (are.own s) b → IsKept k' x x' b) → IsSameMade
     same_by grows kept =
-        let (after, same) = words_later defs k k' grows x x' frame types known variables slots words are kept in
+        let (after, same) = words_later defs k k' grows x x' frame busy types known variables slots words are kept in
         (after, same, subst (λ (own : ℕ → List ℕ). AreMadeBy k' j own) (sym same) (λ s b i. grows.makers b j (made s b i)))
 
     free_still : (q : ℕ) → k'.fact q ≡ k.fact q → Free k q → Free k' q
@@ -222,13 +229,14 @@ module _ (defs : List Def) (k : Facts) (x : Heap Block) (frame : ℕ) (types : L
           | inr w ↦ absurd (there s b i w.1)
         ])
 
-  frame_later : FrameLater defs k x frame types known variables slots words are
+  frame_later : FrameLater defs k x frame busy types known variables slots words are
   frame_later = record {
     owned = all_frames;
-    later = λ k' x' grows kept. words_later defs k k' grows x x' frame types known variables slots words are kept;
+    later = λ k' x' grows kept. words_later defs k k' grows x x' frame busy types known variables slots words are kept;
     others = λ k' x' j these made c not. by_others k' x' j made these c not;
     left = λ k' x' j made l there. by_leaving k' x' j made l there;
   }
 
 pub frames_later : FramesLater
-frames_later = λ defs k x frame types known variables slots words are. frame_later defs k x frame types known variables slots words are
+frames_later = λ defs k x frame busy types known variables slots words are.
+    frame_later defs k x frame busy types known variables slots words are

@@ -1,4 +1,6 @@
 pub mod Beginning
 pub mod Later
 pub mod Slots
+pub mod Rest
+pub mod Replacing
 pub mod Examples

@@ -1,6 +1,6 @@
 -- What a frame stands for where some of its words change, or blocks of one slot: what lies elsewhere stands as it stood.
-use Rattle.std.proofs.Common.{◌≡◌, ℕ, zero, suc, ◌+◌, ◌/◌, ◌%◌, ◌<◌, ◌≤◌, pos, Bool, true, false, List, [], ◌∷◌, length, Some, refl, sym}
-use Rattle.std.proofs.Common.{ap, ◌∙◌, ◌==◌, ◌⊎◌, subst, arith, inl, inr, None}
+use Rattle.std.proofs.Common.{◌≡◌, ℕ, zero, suc, ◌+◌, ◌/◌, ◌%◌, ◌<◌, ◌≤◌, pos, Bool, true, false, List, [], ◌∷◌, length, Option, Some}
+use Rattle.std.proofs.Common.{None, refl, sym, ap, ◌∙◌, ◌==◌, ◌⊎◌, subst, arith, inl, inr}
 use Rattle.std.specs.Prelude.{slice_get, slice_set}
 use Rattle.std.specs.Int.{next_multiple_of}
 use Rattle.std.proofs.lemmas.Bool.Decides.{eqb_tells}
@@ -42,7 +42,7 @@ put_there [] s y z l e = absurd (omega (arith, l))
 put_there (x ∷ xs) zero y z l e = cc
 put_there (x ∷ xs) (suc s) y z l e = put_there xs s y z (omega (arith, l)) e
 
-put_long : {A : Type 0} (xs : List A) (s : ℕ) (y : A) → length (slice_set xs s y) ≡ length xs
+pub put_long : {A : Type 0} (xs : List A) (s : ℕ) (y : A) → length (slice_set xs s y) ≡ length xs
 put_long [] zero y = refl
 put_long [] (suc s) y = refl
 put_long (x ∷ xs) zero y = refl
@@ -68,6 +68,10 @@ not_reference r n e =
     let g : length r.references ≡ 1 = ap (λ (q : Room). length q.references) f in
     let h : length r.references ≡ 0 = ap length n in
     absurd (omega (arith, g, h))
+
+-- words of a frame with these variables and slots
+abbrev AreOfFrame : List Def → List Ty → core.Slots → List Word → Type 0
+AreOfFrame defs types slots words = AreOf (frame_bytes defs types (length slots)) (frame_references defs types (length slots)) words
 
 module _ (defs : List Def) (k : Facts) where
   rows_stay : (words others : List Word) (at : ℕ) (w : Room) (ts : List Ty) (rs : List Room) (vs : List Value) → AllLaid defs ts rs
@@ -168,14 +172,15 @@ module _ (defs : List Def) (k : Facts) where
 
     slot_even : (words : List Word) (n r : ℕ) (h : held.Held) (l : core.Slot) (own : List ℕ)
         → SlotStands defs k x frame words n r h l own → r % 4 ≡ 0
-    slot_even _ _ _ _ _ _ (a_value words n r t v e) = value_even words n r t v e
+    slot_even _ _ _ _ _ _ (a_value words n r t live v e m) = value_even words n r t v e
     slot_even _ _ _ _ _ _ (a_decision words n r d e f) = idly_even words r f
     slot_even _ _ _ _ _ _ (a_loop words n r m gs rs own e c) = chain_even words r gs rs own c
 
     slot_stays : (words others : List Word) (n r : ℕ) (h : held.Held) (l : core.Slot) (own : List ℕ) → n % 4 ≡ 0 → r % 4 ≡ 0
         → Stays words others n → Stays words others r → SlotStands defs k x frame words n r h l own
         → SlotStands defs k x frame others n r h l own
-    slot_stays _ others _ _ _ _ _ a b s i (a_value words n r t v e) = a_value others n r t v (value_stays words n r others a b s i t v e)
+    slot_stays _ others _ _ _ _ _ a b s i (a_value words n r t live v e m) =
+        a_value others n r t live v (value_stays words n r others a b s i t v e) m
     slot_stays _ others _ _ _ _ _ a b s i (a_decision words n r d e f) =
         a_decision others n r d (word_stays words others n _ s e) (idly_stays words others r i f)
     slot_stays _ others _ _ _ _ _ a b s i (a_loop words n r m gs rs own e c) =
@@ -191,8 +196,8 @@ module _ (defs : List Def) (k : Facts) where
 
     -- ---- frames, where words change
 
-    module _ (types : List Ty) (known : held.Slots) (vs : List Value) (slots : core.Slots) (words others : List Word)
-        (are : WordsAre defs k x frame types known vs slots words) where
+    module _ (busy : Option ℕ) (types : List Ty) (known : held.Slots) (vs : List Value) (slots : core.Slots) (words others : List Word)
+        (are : WordsAre defs k x frame busy types known vs slots words) where
       -- words of bytes that aren't among those that changed
       stays : (at size byte : ℕ) → ElseAsWas words others at size → (IsWithin at size (byte / 4) → ⊥) → Stays words others byte
       stays at size byte e n = e.each (byte / 4) n
@@ -206,21 +211,18 @@ module _ (defs : List Def) (k : Facts) where
 
       -- a slot of which no word changed
       each_stays : (at size u : ℕ) → ElseAsWas words others at size → (IsWithin at size (number_place defs types u / 4) → ⊥)
-          → (IsWithin at size (reference_place defs types u / 4) → ⊥) → (h : held.Held) (l : core.Slot) → slice_get known u ≡ Some h
-          → slice_get slots u ≡ Some l
+          → (IsWithin at size (reference_place defs types u / 4) → ⊥) → (h : held.Held) (l : core.Slot) → (busy ≡ Some u → ⊥)
+          → slice_get known u ≡ Some h → slice_get slots u ≡ Some l
           → SlotStands defs k x frame others (number_place defs types u) (reference_place defs types u) h l (are.own u)
-      each_stays at size u e n m h l f g =
+      each_stays at size u e n m h l free f g =
           slot_stays words others (number_place defs types u) (reference_place defs types u) h l (are.own u) (omega arith) (omega arith)
-          (stays at size (number_place defs types u) e n) (stays at size (reference_place defs types u) e m) (are.each u h l f g)
-
-      abbrev AreOfFrame : Type 0
-      AreOfFrame = AreOf (frame_bytes defs types (length slots)) (frame_references defs types (length slots)) others
+          (stays at size (number_place defs types u) e n) (stays at size (reference_place defs types u) e m) (are.each u h l free f g)
 
       -- only words that are no slot's changed, and the variables are these now
-      outside : (us : List Value) (at size : ℕ) → ElseAsWas words others at size → AreOfFrame
+      outside : (us : List Value) (at size : ℕ) → ElseAsWas words others at size → AreOfFrame defs types slots others
           → AllStand defs k others linkage_bytes nothing types (rooms_of (rooms_in defs) types) us
           → ((u : ℕ) → (IsWithin at size (number_place defs types u / 4) → ⊥) × (IsWithin at size (reference_place defs types u / 4) → ⊥))
-          → (after : WordsAre defs k x frame types known us slots others) × (after.own ≡ are.own)
+          → (after : WordsAre defs k x frame busy types known us slots others) × (after.own ≡ are.own)
       outside us at size e kind values apart = (
         record {
           laid = are.laid;
@@ -229,6 +231,7 @@ module _ (defs : List Def) (k : Facts) where
           as_many = are.as_many;
           own = are.own;
           none_past = are.none_past;
+          busy_bare = are.busy_bare;
           each = λ u h l. each_stays at size u e (apart u).0 (apart u).1 h l;
           single = are.single;
           apart = are.apart;
@@ -236,21 +239,21 @@ module _ (defs : List Def) (k : Facts) where
         refl,
       )
 
-      linkage_changes : ElseAsWas words others 0 linkage_bytes → AreOfFrame
-          → (after : WordsAre defs k x frame types known vs slots others) × (after.own ≡ are.own)
+      linkage_changes : ElseAsWas words others 0 linkage_bytes → AreOfFrame defs types slots others
+          → (after : WordsAre defs k x frame busy types known vs slots others) × (after.own ≡ are.own)
       linkage_changes e kind =
           outside vs 0 linkage_bytes e kind (row_stays 0 linkage_bytes e (λ o l i. let j = i.1 in omega (arith, j)))
           (λ u. (λ i. let j = i.1 in omega (arith, j), λ i. let j = i.1 in omega (arith, j)))
 
-      variables_change : (us : List Value) → ElseAsWas words others linkage_bytes (row_of defs types).size → AreOfFrame
-          → AllStand defs k others linkage_bytes nothing types (rooms_of (rooms_in defs) types) us
-          → (after : WordsAre defs k x frame types known us slots others) × (after.own ≡ are.own)
+      variables_change : (us : List Value) → ElseAsWas words others linkage_bytes (row_of defs types).size
+          → AreOfFrame defs types slots others → AllStand defs k others linkage_bytes nothing types (rooms_of (rooms_in defs) types) us
+          → (after : WordsAre defs k x frame busy types known us slots others) × (after.own ≡ are.own)
       variables_change us e kind values =
           outside us linkage_bytes (row_of defs types).size e kind values
           (λ u. (λ i. let j = i.1 in omega (arith, j), λ i. let j = i.1 in omega (arith, j)))
 
-      spare_changes : ElseAsWas words others (spare_place defs types) 4 → AreOfFrame
-          → (after : WordsAre defs k x frame types known vs slots others) × (after.own ≡ are.own)
+      spare_changes : ElseAsWas words others (spare_place defs types) 4 → AreOfFrame defs types slots others
+          → (after : WordsAre defs k x frame busy types known vs slots others) × (after.own ≡ are.own)
       spare_changes e kind =
           outside vs (spare_place defs types) 4 e kind
           (row_stays (spare_place defs types) 4 e (λ o l i. let j = i.0 in omega (arith, j, l)))
@@ -270,10 +273,53 @@ module _ (defs : List Def) (k k' : Facts) (x x' : Heap Block) (frame : ℕ) (gro
       all_eight defs k' x' frame words others n h l own same
       (slot_later defs k k' grows x x' frame words n (n + 4) h l own keeps stands)
 
-  module _ (types : List Ty) (known : held.Slots) (vs : List Value) (slots : core.Slots) (words others : List Word) (s : ℕ)
-      (h : held.Held) (l : core.Slot) (own : List ℕ) (are : WordsAre defs k x frame types known vs slots words) (there : s < length slots)
+  -- what lies in front of the slots and in another slot stands as it stood
+  module _ (busy : Option ℕ) (types : List Ty) (known : held.Slots) (vs : List Value) (slots : core.Slots) (words others : List Word)
+      (s : ℕ) (are : WordsAre defs k x frame busy types known vs slots words) (was : (busy ≡ None) ⊎ (busy ≡ Some s))
+      (e : ElseAsWas words others (number_place defs types s) 8) where
+    variables_stand : AllStand defs k' others linkage_bytes nothing types (rooms_of (rooms_in defs) types) vs
+    variables_stand =
+        rows_stay defs k' words others linkage_bytes nothing types (rooms_of (rooms_in defs) types) vs are.laid
+        (λ o m. e.each ((linkage_bytes + o) / 4) (λ i. let j = i.0 in omega (arith, j, m)))
+        (all_later defs k k' words grows linkage_bytes nothing types (rooms_of (rooms_in defs) types) vs are.values)
+
+    other_free : (u : ℕ) → (u ≡ s → ⊥) → busy ≡ Some u → ⊥
+    other_free u ne f = elim was [
+      | inl g ↦ absurd (let z : None ≡ Some u = sym g ∙ f in cc)
+      | inr g ↦ ne (let z : Some s ≡ Some u = sym g ∙ f in cc)
+    ]
+
+    other_stands : (u : ℕ) (i : held.Held) (j : core.Slot) → (u ≡ s → ⊥) → slice_get known u ≡ Some i → slice_get slots u ≡ Some j
+        → ((b : ℕ) → Has (are.own u) b → IsKept k' x x' b)
+        → SlotStands defs k' x' frame others (number_place defs types u) (reference_place defs types u) i j (are.own u)
+    other_stands u i j ne f g keeps =
+        slot_same words others (number_place defs types u) i j (are.own u) (are.each u i j (other_free u ne) f g)
+        (λ w z. e.each w (λ y. let p = y.0 in let q = y.1 in let a = z.0 in let c = z.1 in ne (omega (arith, p, q, a, c)))) keeps
+
+    -- the slot has no block, and nothing is said of it now
+    goes_on : are.own s ≡ [] → AreOfFrame defs types slots others → ((r b : ℕ) → Has (are.own r) b → IsKept k' x x' b)
+        → (after : WordsAre defs k' x' frame (Some s) types known vs slots others) × (after.own ≡ are.own)
+    goes_on bare kind keeps = (
+      record {
+        laid = are.laid;
+        kind = kind;
+        values = variables_stand;
+        as_many = are.as_many;
+        own = are.own;
+        none_past = are.none_past;
+        busy_bare = λ u y. ap are.own (let z : u ≡ s = cc in z) ∙ bare;
+        each = λ u h l free f g. other_stands u h l (λ y. free (ap Some (sym y))) f g (keeps u);
+        single = are.single;
+        apart = are.apart;
+      },
+      refl,
+    )
+
+  module _ (busy : Option ℕ) (types : List Ty) (known : held.Slots) (vs : List Value) (slots : core.Slots) (words others : List Word)
+      (s : ℕ) (h : held.Held) (l : core.Slot) (own : List ℕ) (are : WordsAre defs k x frame busy types known vs slots words)
+      (was : (busy ≡ None) ⊎ (busy ≡ Some s)) (there : s < length slots)
       (e : ElseAsWas words others (number_place defs types s) 8)
-      (kind : AreOf (frame_bytes defs types (length slots)) (frame_references defs types (length slots)) others)
+      (kind : AreOfFrame defs types slots others)
       (stand : SlotStands defs k' x' frame others (number_place defs types s) (reference_place defs types s) h l own) (single : Single own)
       (rest : (r b : ℕ) → (r ≡ s → ⊥) → Has (are.own r) b → (Has own b → ⊥) × IsKept k' x x' b) where
     abbrev after_own : ℕ → List ℕ
@@ -321,27 +367,22 @@ module _ (defs : List Def) (k k' : Facts) (x x' : Heap Block) (frame : ℕ) (gro
         another : (u ≡ s → ⊥) → At u i j (after_own u)
         another ne =
             subst (λ (os : List ℕ). At u i j os) (sym (own_elsewhere u ne))
-            (slot_same words others (number_place defs types u) i j (are.own u)
-            (are.each u i j (sym (set_other known s u h ne) ∙ f) (sym (set_other slots s u l ne) ∙ g))
-            (λ w z. e.each w (λ y.
-            let p = y.0 in let q = y.1 in let a = z.0 in let c = z.1 in
-            ne (omega (arith, p, q, a, c))))
-            (λ b k. (rest u b ne k).1))
+            (other_stands busy types known vs slots words others s are was e u i j ne (sym (set_other known s u h ne) ∙ f)
+            (sym (set_other slots s u l ne) ∙ g) (λ b k. (rest u b ne k).1))
 
-    slot_changes : OneSlotChanged defs k k' x x' frame types known vs slots words others are s h l own
+    slot_changes : OneSlotChanged defs k k' x x' frame busy types known vs slots words others are s h l own
     slot_changes = record {
       after = record {
         laid = are.laid;
         kind = subst (λ (m : ℕ). AreOf (frame_bytes defs types m) (frame_references defs types m) others) (sym (put_long slots s l)) kind;
-        values = rows_stay defs k' words others linkage_bytes nothing types (rooms_of (rooms_in defs) types) vs are.laid
-            (λ o m. e.each ((linkage_bytes + o) / 4) (λ i. let j = i.0 in omega (arith, j, m)))
-            (all_later defs k k' words grows linkage_bytes nothing types (rooms_of (rooms_in defs) types) vs are.values);
+        values = variables_stand busy types known vs slots words others s are was e;
         as_many = put_long known s h ∙ are.as_many ∙ sym (put_long slots s l);
         own = after_own;
         none_past = λ r m.
             let p : length slots ≤ r = let q = put_long slots s l in omega (arith, q, m) in
             own_elsewhere r (λ y. omega (arith, y, p, there)) ∙ are.none_past r p;
-        each = each_slot;
+        busy_bare = λ u y. absurd cc;
+        each = λ u i j free. each_slot u i j;
         single = λ r. elim (eqb_tells r s) [
           | inl z ↦ subst (λ (os : List ℕ). Single os) (sym (own_here r z.1)) single
           | inr z ↦ subst (λ (os : List ℕ). Single os) (sym (own_elsewhere r z.1)) (are.single r)
@@ -363,12 +404,16 @@ pub slots_change : SlotsChange
 slots_change = record {
   stays = λ defs k k' x x' frame words others n h l own stands grows same keeps.
       slot_same defs k k' x x' frame grows words others n h l own stands same keeps;
-  slot = λ defs k k' x x' frame types known vs slots words others s h l own are grows there e kind stand single rest.
-      slot_changes defs k k' x x' frame grows types known vs slots words others s h l own are there e kind stand single rest;
-  variables = λ defs k x frame types known vs us slots words others are e kind values.
-      variables_change defs k x frame types known vs slots words others are us e kind values;
-  linkage = λ defs k x frame types known vs slots words others are e kind.
-      linkage_changes defs k x frame types known vs slots words others are e kind;
-  spare = λ defs k x frame types known vs slots words others are e kind.
-      spare_changes defs k x frame types known vs slots words others are e kind;
+  slot = λ defs k k' x x' frame busy types known vs slots words others s h l own are was grows there e kind stand single rest.
+      slot_changes defs k k' x x' frame grows busy types known vs slots words others s h l own are was there e kind stand single rest;
+  leaves = λ defs k k' x x' frame types known vs slots words others s are grows bare e kind keeps.
+      goes_on defs k k' x x' frame grows None types known vs slots words others s are (inl refl) e bare kind keeps;
+  within = λ defs k k' x x' frame types known vs slots words others s are grows e kind keeps.
+      goes_on defs k k' x x' frame grows (Some s) types known vs slots words others s are (inr refl) e (are.busy_bare s refl) kind keeps;
+  variables = λ defs k x frame busy types known vs us slots words others are e kind values.
+      variables_change defs k x frame busy types known vs slots words others are us e kind values;
+  linkage = λ defs k x frame busy types known vs slots words others are e kind.
+      linkage_changes defs k x frame busy types known vs slots words others are e kind;
+  spare = λ defs k x frame busy types known vs slots words others are e kind.
+      spare_changes defs k x frame busy types known vs slots words others are e kind;
 }

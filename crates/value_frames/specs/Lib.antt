@@ -4,3 +4,5 @@ pub mod Standing
 pub mod Beginning
 pub mod Slots
 pub mod Later
+pub mod Rest
+pub mod Replacing

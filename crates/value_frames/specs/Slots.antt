@@ -1,5 +1,5 @@
 -- When the words of a frame change, or blocks of its own, and what it stands for then.
-use Rattle.std.specs.Prelude.{ℕ, ◌+◌, ◌≡◌, ◌<◌, List, length, slice_get}
+use Rattle.std.specs.Prelude.{ℕ, ◌+◌, ◌≡◌, ◌<◌, ◌⊎◌, List, [], length, Option, None, Some, slice_get}
 use Rattle.heap_model.specs.Heap.{Heap, at}
 use Rattle.heap_model.specs.Facts.{Free}
 use Rattle.limbo_types.specs.Types.{Ty}
@@ -19,9 +19,8 @@ use Rattle.value_frames.specs.Frames.{linkage_bytes, row_of, number_place, refer
 use Rattle.value_frames.specs.Types.{AreOf}
 use Rattle.value_frames.specs.Standing.{Single, SlotStands, WordsAre}
 
--- All words but those of these bytes are as they were, and there are as many.
+-- All words but those of these bytes are as they were.
 pub record ElseAsWas (words others : List Word) (at size : ℕ) : Type 0 where
-  pub many : length others ≡ length words
   pub each : (w : ℕ) → (IsWithin at size w → ⊥) → slice_get others w ≡ slice_get words w
 
 -- A block is as it was, and still stands for nothing.
@@ -29,10 +28,10 @@ abbrev pub IsKept : (k' : Facts) (x x' : Heap Block) → ℕ → Type 0
 IsKept k' x x' b = Free k' b × (at x' b ≡ at x b)
 
 -- What a frame stands for where one slot has something else now, which has these blocks as its own.
-pub record OneSlotChanged (defs : List Def) (k k' : Facts) (x x' : Heap Block) (frame : ℕ) (types : List Ty) (known : held.Slots)
-    (vs : List Value) (slots : core.Slots) (words others : List Word) (are : WordsAre defs k x frame types known vs slots words) (s : ℕ)
-    (h : held.Held) (l : core.Slot) (own : List ℕ) : Type 0 where
-  pub after : WordsAre defs k' x' frame types (held.put known s h) vs (core.put slots s l) others
+pub record OneSlotChanged (defs : List Def) (k k' : Facts) (x x' : Heap Block) (frame : ℕ) (busy : Option ℕ) (types : List Ty)
+    (known : held.Slots) (vs : List Value) (slots : core.Slots) (words others : List Word)
+    (are : WordsAre defs k x frame busy types known vs slots words) (s : ℕ) (h : held.Held) (l : core.Slot) (own : List ℕ) : Type 0 where
+  pub after : WordsAre defs k' x' frame None types (held.put known s h) vs (core.put slots s l) others
   pub here : after.own s ≡ own
   pub elsewhere : (r : ℕ) → (r ≡ s → ⊥) → after.own r ≡ are.own r
 
@@ -43,30 +42,47 @@ pub record SlotsChange : Type 0 where
       ((w : ℕ) → IsWithin n 8 w → slice_get others w ≡ slice_get words w) → ((b : ℕ) → Has own b → IsKept k' x x' b) →
       SlotStands defs k' x' frame others n (n + 4) h l own
   -- one slot has something else, in its words or in its blocks, and all else stands as it stood: no other slot has one of its blocks, and
-  -- theirs are as they were
-  pub slot : (defs : List Def) (k k' : Facts) (x x' : Heap Block) (frame : ℕ) (types : List Ty) (known : held.Slots) (vs : List Value)
-      (slots : core.Slots) (words others : List Word) (s : ℕ) (h : held.Held) (l : core.Slot) (own : List ℕ)
-      (are : WordsAre defs k x frame types known vs slots words) → Grows k k' → s < length slots →
+  -- theirs are as they were; the slot may have been busy, and isn't now
+  pub slot : (defs : List Def) (k k' : Facts) (x x' : Heap Block) (frame : ℕ) (busy : Option ℕ) (types : List Ty) (known : held.Slots)
+      (vs : List Value) (slots : core.Slots) (words others : List Word) (s : ℕ) (h : held.Held) (l : core.Slot) (own : List ℕ)
+      (are : WordsAre defs k x frame busy types known vs slots words) → (busy ≡ None) ⊎ (busy ≡ Some s) → Grows k k' → s < length slots →
       ElseAsWas words others (number_place defs types s) 8 →
       AreOf (frame_bytes defs types (length slots)) (frame_references defs types (length slots)) others →
       SlotStands defs k' x' frame others (number_place defs types s) (reference_place defs types s) h l own → Single own →
       ((r b : ℕ) → (r ≡ s → ⊥) → Has (are.own r) b → (Has own b → ⊥) × IsKept k' x x' b) →
-      OneSlotChanged defs k k' x x' frame types known vs slots words others are s h l own
+      OneSlotChanged defs k k' x x' frame busy types known vs slots words others are s h l own
+  -- a slot that has no block as its own comes to be busy: its words may be any, and all else stands as it stood
+  pub leaves : (defs : List Def) (k k' : Facts) (x x' : Heap Block) (frame : ℕ) (types : List Ty) (known : held.Slots)
+      (vs : List Value) (slots : core.Slots) (words others : List Word) (s : ℕ)
+      (are : WordsAre defs k x frame None types known vs slots words) → Grows k k' → are.own s ≡ [] →
+      ElseAsWas words others (number_place defs types s) 8 →
+      AreOf (frame_bytes defs types (length slots)) (frame_references defs types (length slots)) others →
+      ((r b : ℕ) → Has (are.own r) b → IsKept k' x x' b) →
+      (after : WordsAre defs k' x' frame (Some s) types known vs slots others) × (after.own ≡ are.own)
+  -- the words of a busy slot change again
+  pub within : (defs : List Def) (k k' : Facts) (x x' : Heap Block) (frame : ℕ) (types : List Ty) (known : held.Slots)
+      (vs : List Value) (slots : core.Slots) (words others : List Word) (s : ℕ)
+      (are : WordsAre defs k x frame (Some s) types known vs slots words) → Grows k k' →
+      ElseAsWas words others (number_place defs types s) 8 →
+      AreOf (frame_bytes defs types (length slots)) (frame_references defs types (length slots)) others →
+      ((r b : ℕ) → Has (are.own r) b → IsKept k' x x' b) →
+      (after : WordsAre defs k' x' frame (Some s) types known vs slots others) × (after.own ≡ are.own)
   -- the variables are others, and all else stands as it stood
-  pub variables : (defs : List Def) (k : Facts) (x : Heap Block) (frame : ℕ) (types : List Ty) (known : held.Slots) (vs us : List Value)
-      (slots : core.Slots) (words others : List Word) → (are : WordsAre defs k x frame types known vs slots words) →
+  pub variables : (defs : List Def) (k : Facts) (x : Heap Block) (frame : ℕ) (busy : Option ℕ) (types : List Ty) (known : held.Slots)
+      (vs us : List Value) (slots : core.Slots) (words others : List Word) →
+      (are : WordsAre defs k x frame busy types known vs slots words) →
       ElseAsWas words others linkage_bytes (row_of defs types).size →
       AreOf (frame_bytes defs types (length slots)) (frame_references defs types (length slots)) others →
       AllStand defs k others linkage_bytes nothing types (rooms_of (rooms_in defs) types) us →
-      (after : WordsAre defs k x frame types known us slots others) × (after.own ≡ are.own)
+      (after : WordsAre defs k x frame busy types known us slots others) × (after.own ≡ are.own)
   -- what stands in the linkage is nobody's, nor what the spare word refers to
-  pub linkage : (defs : List Def) (k : Facts) (x : Heap Block) (frame : ℕ) (types : List Ty) (known : held.Slots) (vs : List Value)
-      (slots : core.Slots) (words others : List Word) → (are : WordsAre defs k x frame types known vs slots words) →
+  pub linkage : (defs : List Def) (k : Facts) (x : Heap Block) (frame : ℕ) (busy : Option ℕ) (types : List Ty) (known : held.Slots)
+      (vs : List Value) (slots : core.Slots) (words others : List Word) → (are : WordsAre defs k x frame busy types known vs slots words) →
       ElseAsWas words others 0 linkage_bytes →
       AreOf (frame_bytes defs types (length slots)) (frame_references defs types (length slots)) others →
-      (after : WordsAre defs k x frame types known vs slots others) × (after.own ≡ are.own)
-  pub spare : (defs : List Def) (k : Facts) (x : Heap Block) (frame : ℕ) (types : List Ty) (known : held.Slots) (vs : List Value)
-      (slots : core.Slots) (words others : List Word) → (are : WordsAre defs k x frame types known vs slots words) →
+      (after : WordsAre defs k x frame busy types known vs slots others) × (after.own ≡ are.own)
+  pub spare : (defs : List Def) (k : Facts) (x : Heap Block) (frame : ℕ) (busy : Option ℕ) (types : List Ty) (known : held.Slots)
+      (vs : List Value) (slots : core.Slots) (words others : List Word) → (are : WordsAre defs k x frame busy types known vs slots words) →
       ElseAsWas words others (spare_place defs types) 4 →
       AreOf (frame_bytes defs types (length slots)) (frame_references defs types (length slots)) others →
-      (after : WordsAre defs k x frame types known vs slots others) × (after.own ≡ are.own)
+      (after : WordsAre defs k x frame busy types known vs slots others) × (after.own ≡ are.own)

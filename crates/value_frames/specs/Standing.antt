@@ -1,5 +1,5 @@
 -- When a frame of the machine stands for one of three-address code.
-use Rattle.std.specs.Prelude.{ℕ, ℤ, suc, pos, ◌+◌, ◌≡◌, ◌≤◌, Bool, true, false, List, [], ◌∷◌, ◌++◌, length, Option, None, Some}
+use Rattle.std.specs.Prelude.{ℕ, ℤ, suc, pos, ◌+◌, ◌≡◌, ◌<◌, ◌≤◌, Bool, true, false, List, [], ◌∷◌, ◌++◌, length, Option, None, Some}
 use Rattle.std.specs.Prelude.{slice_get}
 use Rattle.heap_model.specs.Heap.{Heap, at}
 use Rattle.heap_model.specs.Facts.{Chars, Carrier, Free}
@@ -7,7 +7,7 @@ use Rattle.limbo_types.specs.Types.{Ty}
 use Rattle.limbo_layout.specs.Adts.{Def, Has}
 use Rattle.limbo_layout.specs.Layout.{nothing, AllLaid}
 use Rattle.limbo_layout.specs.Laying.{rooms_of}
-use Rattle.limbo_meaning.specs.Values.{Value, Num}
+use Rattle.limbo_meaning.specs.Values.{Value, Num, references}
 use Rattle.core_code.specs.Rooms.{rooms_in}
 use Rattle.core_code.specs.Slots as core
 use Rattle.core_code.specs.Slots.{Slot, Holds, Region, NoSlot, MoreSlots, Regions, NoRegion, MoreRegions}
@@ -15,6 +15,7 @@ use Rattle.core_typing.specs.Held as held
 use Rattle.core_typing.specs.Held.{Held, Of, Decided, Turns}
 use Rattle.dis_meaning.specs.Words.{Word, Plain, Refer, Found, word_at}
 use Rattle.dis_memory.specs.Blocks.{Block, Record}
+use Rattle.dis_memory.specs.Naming.{inside}
 use Rattle.value_words.specs.Forms.{OwnedBy}
 use Rattle.value_words.specs.Facts.{Facts}
 use Rattle.value_words.specs.Stands.{Stands, AllStand}
@@ -42,18 +43,23 @@ abbrev pub slots_in : held.Region → ℕ
 slots_in held.NoSlot = 0
 slots_in (held.MoreSlots h g) = suc (slots_in g)
 
+-- Of the references of a value these alone, by their numbers in order, may name something.
+abbrev pub NamesOnly : (live : List ℕ) → Value → Type 0
+NamesOnly live v = (k n : ℕ) → slice_get (references v) k ≡ Some (Some n) → held.Has live k
+
 module _ (defs : List Def) (k : Facts) where
   -- A block that has a record's words for good: the box of a value of a type.
   pub record IsBox (t : Ty) (block : ℕ) (inner : List Word) : Type 0 where
     pub carries : k.fact block ≡ Some (Carrier (Record inner))
     pub kind : AreOf (box_bytes defs t) (room_for defs t).references inner
 
-  -- What a word refers to that stands for no value any more: nothing, a text, or the box of a value that refers to nothing but texts.
+  -- What a word refers to that stands for no value any more: nothing, a text, or a block that carries its words for good, which refer to
+  -- nothing but texts, as those of a box do whose value names nothing.
   pub data IsIdle : Option ℕ → Type 0 where
     nothing_there : IsIdle None
     text_left : (b : ℕ) (text : List ℕ) → k.fact b ≡ Some (Chars text) → IsIdle (Some b)
-    box_left : (b : ℕ) (t : Ty) (inner : List Word) → IsBox t b inner → ((w q : ℕ) → slice_get inner w ≡ Some (Refer (Some q))
-        → (text : List ℕ) × (k.fact q ≡ Some (Chars text))) → IsIdle (Some b)
+    carrier_left : (b : ℕ) (d : Block) → k.fact b ≡ Some (Carrier d)
+        → ((q : ℕ) → 0 < inside d q → (text : List ℕ) × (k.fact q ≡ Some (Chars text))) → IsIdle (Some b)
 
   abbrev pub RefersIdly : (words : List Word) → (place : ℕ) → Type 0
   RefersIdly words p = (r : Option ℕ) × (word_at words (pos p) ≡ Found (Refer r)) × IsIdle r
@@ -79,8 +85,8 @@ module _ (defs : List Def) (k : Facts) where
     mutual
       -- What a slot holds, by what is known of it, and the frame's own blocks that it has.
       pub data SlotStands : (words : List Word) → (number reference : ℕ) → Held → Slot → (own : List ℕ) → Type 0 where
-        a_value : (words : List Word) (n r : ℕ) (t : Ty) (v : Value) → ValueStands words n r (form_of t) t v
-            → SlotStands words n r (Of t) (Holds v) []
+        a_value : (words : List Word) (n r : ℕ) (t : Ty) (live : List ℕ) (v : Value) → ValueStands words n r (form_of t) t v
+            → NamesOnly live v → SlotStands words n r (Of t live) (Holds v) []
         a_decision : (words : List Word) (n r : ℕ) (b : Bool) → word_at words (pos n) ≡ Found (Plain (truth b)) → RefersIdly words r
             → SlotStands words n r (Decided b) (Holds (Num (truth b))) []
         a_loop : (words : List Word) (n r next : ℕ) (gs : held.Regions) (rs : Regions) (own : List ℕ)
@@ -112,17 +118,19 @@ module _ (defs : List Def) (k : Facts) where
             → SlotStands words p (p + 4) h s own → RegionStands words (p + 8) hs g more
             → RegionStands words p (held.MoreSlots h hs) (MoreSlots s g) (own ++ more)
 
-    -- A frame's variables, and its slots by what is known of them. No two slots have one block as their own, and no slot has one twice;
-    -- where there is no slot nothing is owned.
-    pub record WordsAre (types : List Ty) (known : held.Slots) (variables : List Value) (slots : core.Slots)
-        (words : List Word) : Type 0 where
+    -- A frame's variables, and its slots by what is known of them. Of a busy slot nothing is said, since its value is on its way, as an
+    -- answer that is waited for and a box that is filled are; it owns nothing. No two slots have one block as their own, and no slot has
+    -- one twice; where there is no slot nothing is owned.
+    pub record WordsAre (busy : Option ℕ) (types : List Ty) (known : held.Slots) (variables : List Value)
+        (slots : core.Slots) (words : List Word) : Type 0 where
       pub laid : AllLaid defs types (rooms_of (rooms_in defs) types)
       pub kind : AreOf (frame_bytes defs types (length slots)) (frame_references defs types (length slots)) words
       pub values : AllStand defs k words linkage_bytes nothing types (rooms_of (rooms_in defs) types) variables
       pub as_many : length known ≡ length slots
       pub own : (slot : ℕ) → List ℕ
       pub none_past : (s : ℕ) → length slots ≤ s → own s ≡ []
-      pub each : (s : ℕ) (h : Held) (l : Slot) → slice_get known s ≡ Some h → slice_get slots s ≡ Some l →
+      pub busy_bare : (s : ℕ) → busy ≡ Some s → own s ≡ []
+      pub each : (s : ℕ) (h : Held) (l : Slot) → (busy ≡ Some s → ⊥) → slice_get known s ≡ Some h → slice_get slots s ≡ Some l →
           SlotStands words (number_place defs types s) (reference_place defs types s) h l (own s)
       pub single : (s : ℕ) → Single (own s)
       pub apart : (s r b : ℕ) → Has (own s) b → Has (own r) b → s ≡ r
