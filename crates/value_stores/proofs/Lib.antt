@@ -1,0 +1,6 @@
+mod Rooms
+mod Lying
+mod Standing
+pub mod Parts
+pub mod Stores
+pub mod Places
