@@ -1,0 +1,10 @@
+pub mod Giving
+pub mod Distinct
+pub mod Counting
+pub mod Referring
+pub mod Strings
+pub mod Arrays
+pub mod Lists
+pub mod Copying
+pub mod ByteArrays
+pub mod Examples
