@@ -119,4 +119,5 @@ ReferencesLeadBy defs c = (k : Facts) (w : Heap HeapValue) (x : World) → World
 -- What is said of the blocks of values is such.
 abbrev pub BlocksAreSuch : Type 0
 BlocksAreSuch =
-    (law : ContentsAre) (defs : List Def) (globals : List Ty) (constants : List Constant) → AreBlocks defs (contents_by law defs globals constants)
+    (law : ContentsAre) (defs : List Def) (globals : List Ty) (constants : List Constant) →
+    AreBlocks defs (contents_by law defs globals constants)
