@@ -187,7 +187,7 @@ module _ {B F : Type 0} (k : Facts B F) (g h : Graph) (names words : ℕ → ℕ
     path_live a q l (on {b = b} p lb u) = heaps.closed.closed b q lb u
 
     pub own_kept : (q : ℕ) → 0 < roots.own q → blocks q ≡ true
-    own_kept q o = reached_kept h words blocks its heaps.closed roots.live q (chain_reached k h words q (roots.way q o))
+    own_kept q o = reached_kept h words blocks its heaps.closed (λ a u. roots.live a (roots.roots a u)) q (chain_reached k h words q (roots.way q o))
 
     abbrev Or : ℕ → Type 0
     Or q = (blocks q ≡ true) ⊎ Under q

@@ -155,7 +155,10 @@ module _ {V B F : Type 0} (c : Contents V B F) where
     same = record {
       own = λ q. words q + c.words d q;
       roots = λ q p. omega arith;
-      live = λ q p. subst (λ q. there (at x q) ≡ true) (is q p) live;
+      live = λ q p. elim (either (words q) (c.words d q) p) [
+        | inl y ↦ subst (λ q. there (at x q) ≡ true) (is q y) live
+        | inr y ↦ s.closed.closed n q live (subst (λ z. 0 < z) (sym (uses q)) y)
+      ];
       way = λ q p. elim (either (words q) (c.words d q) p) [
         | inl y ↦ word y
         | inr y ↦ next (word mine) (subst IsInner (sym fact) tt) live (subst (λ z. 0 < z) (sym (uses q)) y)

@@ -201,8 +201,8 @@ ready_stays : (k k' : Facts Block Form) (j : ℕ) (x x' : Heap Block) (p : Progr
 ready_stays k k' j x x' p q r l h = record {
   first = stands_grows k k' l.grows p.first q.first r.first;
   second = stands_grows k k' l.grows p.second q.second r.second;
-  live = h.same.live;
-  place = place_stays k k' j x x' p.todo q.temp q.todo l (λ n u. h.same.live n (omega arith)) r.place;
+  live = λ n u. h.same.live n (h.same.roots n u);
+  place = place_stays k k' j x x' p.todo q.temp q.todo l (λ n u. h.same.live n (h.same.roots n (omega arith))) r.place;
 }
 
 no_change : (these : ℕ → Type 0) (k : Facts Block Form) (x : Heap Block) → Changes these k k x x

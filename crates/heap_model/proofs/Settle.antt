@@ -55,7 +55,7 @@ module _ {B F : Type 0} (k : Facts B F) (g h : Graph) (names words : ℕ → ℕ
     chain_sub q (next {a = a} c f l u) = next (chain_sub a c) f l u
 
     own_stays : (q : ℕ) → 0 < some.own q → blocks q ≡ true
-    own_stays q o = reached_kept h words blocks hs heaps.closed roots.live q (chain_reached k h words q (chain_sub q (some.way q o)))
+    own_stays q o = reached_kept h words blocks hs heaps.closed (λ a u. roots.live a (roots.roots a u)) q (chain_reached k h words q (chain_sub q (some.way q o)))
 
     chain_after : (q : ℕ) → Chain k h w q → Chain k (only h blocks) w q
     chain_after q (word p) = word p
@@ -66,7 +66,7 @@ module _ {B F : Type 0} (k : Facts B F) (g h : Graph) (names words : ℕ → ℕ
     roots_after = record {
       own = some.own;
       roots = some.roots;
-      live = λ q p. own_stays q (some.roots q p);
+      live = own_stays;
       way = λ q o. chain_after q (some.way q o);
       within = λ q r o f u. some.within q r o f (times_some (blocks q) _ u).1;
       covers = some.covers;
@@ -116,7 +116,7 @@ pub holds_both : {B F : Type 0} (k : Facts B F) (h : Graph) (n1 w1 n2 w2 : ℕ �
 holds_both k h n1 w1 n2 w2 a b = record {
   own = λ q. a.own q + b.own q;
   roots = λ q p. elim (either (w1 q) (w2 q) p) [ inl x ↦ let y = a.roots q x in omega arith | inr x ↦ let y = b.roots q x in omega arith ];
-  live = λ q p. elim (either (w1 q) (w2 q) p) [ inl x ↦ a.live q x | inr x ↦ b.live q x ];
+  live = λ q p. elim (either (a.own q) (b.own q) p) [ inl x ↦ a.live q x | inr x ↦ b.live q x ];
   way = λ q p. elim (either (a.own q) (b.own q) p) [
     | inl x ↦ chain_more k h w1 _ (λ q p. omega arith) q (a.way q x)
     | inr x ↦ chain_more k h w2 _ (λ q p. omega arith) q (b.way q x)
@@ -156,7 +156,7 @@ holds_on {B = B} these who k k' h h' names words ne leaves holds =
       same = record {
         own = s.own;
         roots = s.roots;
-        live = λ q w. leaves.live q (s.live q w);
+        live = λ q o. leaves.live q (s.live q o);
         way = λ q o. way q (s.way q o);
         within = λ q r o f u. within q r o f u;
         covers = λ q o. covers q o (s.covers q o);

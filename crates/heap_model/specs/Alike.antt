@@ -23,12 +23,12 @@ pub data Chain {B F : Type 0} (k : Facts B F) (h : Graph) (words : ℕ → ℕ) 
   next : {a q : ℕ} → Chain k h words a → Inner k a → h.live a ≡ true → 0 < h.uses a q → Chain k h words q
 
 -- What one holder (a process, a table) or all together refer to: these heap values in the source, these blocks in the machine.
--- `own` counts the words of the holder and of the inner blocks that it holds. Source names are compared as sets: two names of one
--- value need no two words.
+-- `own` counts the words of the holder and of the inner blocks that it holds; each block that one of these refers to is there. Source
+-- names are compared as sets: two names of one value need no two words.
 pub record SameRoots {B F : Type 0} (k : Facts B F) (h : Graph) (names words : ℕ → ℕ) : Type 0 where
   pub own : ℕ → ℕ
   pub roots : (q : ℕ) → 0 < words q → 0 < own q
-  pub live : (q : ℕ) → 0 < words q → h.live q ≡ true
+  pub live : (q : ℕ) → 0 < own q → h.live q ≡ true
   pub way : (q : ℕ) → 0 < own q → Chain k h words q
   pub within : (q r : ℕ) → 0 < own q → Inner k q → 0 < h.uses q r → 0 < own r
   pub covers : (q : ℕ) → 0 < own q → Inner k q ⊎ Covers k (λ m. 0 < names m) q

@@ -1,7 +1,8 @@
 -- A process worked out by hand: the only word of its one frame that refers to anything refers to a box, a carrier, and this to a record;
 -- and a block that is made and not yet known to stand for anything.
 use Rattle.std.proofs.Common.{◌≡◌, ℕ, zero, suc, ◌<◌, pos, true, [], ◌∷◌, Option, Some, None, refl, sym, subst, inl, inr, arith, ◌∙◌}
-use Rattle.heap_model.specs.Heap.{Heap, at, there, graph}
+use Rattle.heap_model.specs.Kept.{IsClosed}
+use Rattle.heap_model.specs.Heap.{Heap, at, there, in_one, graph}
 use Rattle.heap_model.specs.Facts.{Fact, Named, Carrier, itself, refers}
 use Rattle.heap_model.specs.Alike.{Holds}
 use Rattle.heap_model.proofs.Alike.{covers_named, covers_not_inner}
@@ -96,8 +97,19 @@ live q u = elim (either (counts.refers q (Refer (Some 0))) (counts.refers q (Ref
   | inr v ↦ subst (λ n. there (at heap n) ≡ true) (refers_same q 1 v) refl
 ]
 
+-- No block refers to anything but the box, which refers to the record.
+closed : IsClosed (graph inside heap)
+closed = record { closed = leads_on }
+  where
+    leads_on : (a b : ℕ) → there (at heap a) ≡ true → 0 < in_one inside (at heap a) b → there (at heap b) ≡ true
+    leads_on zero b e u = absurd (omega (arith, u))
+    leads_on (suc zero) b e u = subst (λ n. there (at heap n) ≡ true) (refers_same b 2 (omega (arith, u))) refl
+    leads_on (suc (suc zero)) b e u = absurd (omega (arith, u))
+    leads_on (suc (suc (suc zero))) b e u = absurd (omega (arith, u))
+    leads_on (suc (suc (suc (suc a)))) b e u = absurd (omega (arith, u))
+
 holds : Holds known (λ j. j ≡ 4) (graph inside heap) names (machine.names process)
-holds = process_holds known 4 heap names process accounted leads live
+holds = process_holds known 4 heap names process accounted leads closed live
 
 -- No word of the process refers to the record. It is held by way of the box.
 not_by_itself : machine.names process 2 ≡ 0

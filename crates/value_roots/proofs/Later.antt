@@ -1,4 +1,5 @@
--- Words stay accounted for while the inner blocks that they reach stay; and lists of words are accounted for together.
+-- Words stay accounted for while the inner blocks that they reach stay; and lists of words are accounted for together exactly where each
+-- is.
 use Rattle.std.proofs.Common.{◌≡◌, ℕ, ◌<◌, List, [], ◌∷◌, ◌++◌, inl, inr, Some, refl, sym, subst, ◌∙◌}
 use Rattle.heap_model.specs.Heap.{Heap, at}
 use Rattle.heap_model.specs.Facts.{Chars, Carrier, IsFree, IsInner, Free, Inner, Covers, refers, chars}
@@ -73,12 +74,22 @@ module _ (k k' : Facts) (i : ℕ) (x x' : Heap Block) (names names' : ℕ → �
       → AllAccounted k' i x' names' ws
   later ws frees carriers each = all_later (InnerOf k x ws) frees carriers ws each (λ b u. u)
 
--- ---- lists of words together
+-- ---- lists of words, together and each
 
 pub several : (k : Facts) (i : ℕ) (x : Heap Block) (names : ℕ → ℕ) (us ws : List Word) → AllAccounted k i x names us
     → AllAccounted k i x names ws → AllAccounted k i x names (us ++ ws)
 several k i x names _ ws none bs = bs
 several k i x names _ ws (more u us a each) bs = more u (us ++ ws) a (several k i x names us ws each bs)
+
+pub first_accounted : (k : Facts) (i : ℕ) (x : Heap Block) (names : ℕ → ℕ) (us ws : List Word) → AllAccounted k i x names (us ++ ws)
+    → AllAccounted k i x names us
+first_accounted k i x names [] ws both = none
+first_accounted k i x names (u ∷ us) ws (more _ _ a each) = more u us a (first_accounted k i x names us ws each)
+
+pub second_accounted : (k : Facts) (i : ℕ) (x : Heap Block) (names : ℕ → ℕ) (us ws : List Word) → AllAccounted k i x names (us ++ ws)
+    → AllAccounted k i x names ws
+second_accounted k i x names [] ws both = both
+second_accounted k i x names (u ∷ us) ws (more _ _ a each) = second_accounted k i x names us ws each
 
 leads_more : (k : Facts) (x : Heap Block) (m : ℕ) (ws us : List Word) → ((w : Word) → Has ws w → Has us w)
     → LeadTo k x m ws → LeadTo k x m us
@@ -90,3 +101,9 @@ first_leads k x m us ws l = leads_more k x m us (us ++ ws) (λ w h. has_first us
 
 pub second_leads : (k : Facts) (x : Heap Block) (m : ℕ) (us ws : List Word) → LeadTo k x m ws → LeadTo k x m (us ++ ws)
 second_leads k x m us ws l = leads_more k x m ws (us ++ ws) (λ w h. has_second us ws w h) l
+
+pub first_reaches : (k : Facts) (x : Heap Block) (b : ℕ) (us ws : List Word) → InnerOf k x us b → InnerOf k x (us ++ ws) b
+first_reaches k x b us ws r = inner_more k x us (us ++ ws) b (λ w h. has_first us ws w h) r
+
+pub second_reaches : (k : Facts) (x : Heap Block) (b : ℕ) (us ws : List Word) → InnerOf k x ws b → InnerOf k x (us ++ ws) b
+second_reaches k x b us ws r = inner_more k x ws (us ++ ws) b (λ w h. has_second us ws w h) r

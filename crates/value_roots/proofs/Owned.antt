@@ -1,5 +1,6 @@
 -- What words that are accounted for hold: what they and the inner blocks behind them refer to.
 use Rattle.std.proofs.Common.{◌≡◌, ℕ, ◌+◌, ◌<◌, ◌≤◌, true, List, ◌∷◌, ◌⊎◌, inl, inr, Some, refl, sym, ap, subst, ◌∙◌, arith}
+use Rattle.heap_model.specs.Kept.{IsClosed}
 use Rattle.heap_model.specs.Heap.{Heap, at, there, in_one, graph}
 use Rattle.heap_model.specs.Facts.{Free, Inner, Refers, Covers}
 use Rattle.heap_model.specs.Alike.{Chain, word, next, Holds}
@@ -80,6 +81,11 @@ module _ (k : Facts) (i : ℕ) (x : Heap Block) (names : ℕ → ℕ) where
         | inl r ↦ one_way w a (λ n u. reach n (omega (arith, u))) q r
         | inr r ↦ all_way ws each (λ n u. reach n (omega (arith, u))) q r
       ]
+
+    -- and is there, where no reference names a block that isn't there
+    way_live : IsClosed (graph inside x) → ((q : ℕ) → 0 < words q → there (at x q) ≡ true) → (q : ℕ) → Way q → there (at x q) ≡ true
+    way_live closed live q (word p) = live q p
+    way_live closed live q (next {a = a} way inner there u) = closed.closed a q there u
 
   -- ---- what an inner block among them refers to is among them
 
@@ -176,12 +182,13 @@ module _ (k : Facts) (i : ℕ) (x : Heap Block) (names : ℕ → ℕ) where
   -- ---- so the words hold what is named
 
   pub roots : (ws : List Word) → AllAccounted k i x names ws → ((m : ℕ) → 0 < names m → LeadTo k x m ws)
-      → ((q : ℕ) → 0 < in_words q ws → there (at x q) ≡ true) → Holds k (λ j. j ≡ i) (graph inside x) names (λ q. in_words q ws)
-  roots ws each leads live = record {
+      → IsClosed (graph inside x) → ((q : ℕ) → 0 < in_words q ws → there (at x q) ≡ true)
+      → Holds k (λ j. j ≡ i) (graph inside x) names (λ q. in_words q ws)
+  roots ws each leads closed live = record {
     same = record {
       own = own_all ws each;
       roots = λ q p. let l = all_least ws each q in omega arith;
-      live = live;
+      live = λ q p. way_live (λ n. in_words n ws) closed live q (all_way (λ n. in_words n ws) ws each (λ n u. word u) q p);
       way = λ q p. all_way (λ n. in_words n ws) ws each (λ n u. word u) q p;
       within = λ q r p f u. all_within ws each q r p f u;
       covers = λ q p. (all_for ws each q p).covers;

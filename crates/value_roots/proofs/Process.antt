@@ -1,5 +1,6 @@
 -- A process names what its words do, those of all its frames together.
 use Rattle.std.proofs.Common.{◌≡◌, ℕ, ◌<◌, true, List, [], ◌∷◌, ◌++◌, subst, arith}
+use Rattle.heap_model.specs.Kept.{IsClosed}
 use Rattle.heap_model.specs.Heap.{Heap, at, there, graph}
 use Rattle.heap_model.specs.Alike.{Holds}
 use Rattle.heap_model.proofs.Heap.{fun_ext}
@@ -26,8 +27,8 @@ process_counts p n =
     omega arith
 
 pub process_holds : (k : Facts) (i : ℕ) (x : Heap Block) (names : ℕ → ℕ) (p : Process) → AllAccounted k i x names (process_words p)
-    → ((m : ℕ) → 0 < names m → LeadTo k x m (process_words p)) → ((q : ℕ) → 0 < machine.names p q → there (at x q) ≡ true)
-    → Holds k (λ j. j ≡ i) (graph inside x) names (machine.names p)
-process_holds k i x names p each leads live =
+    → ((m : ℕ) → 0 < names m → LeadTo k x m (process_words p)) → IsClosed (graph inside x)
+    → ((q : ℕ) → 0 < machine.names p q → there (at x q) ≡ true) → Holds k (λ j. j ≡ i) (graph inside x) names (machine.names p)
+process_holds k i x names p each leads closed live =
     subst (λ f. Holds k (λ j. j ≡ i) (graph inside x) names f) (fun_ext (process_counts p))
-    (roots k i x names (process_words p) each leads (λ q u. live q (subst (λ n. 0 < n) (process_counts p q) u)))
+    (roots k i x names (process_words p) each leads closed (λ q u. live q (subst (λ n. 0 < n) (process_counts p q) u)))
