@@ -1,0 +1,10 @@
+pub mod KeptOwn
+pub mod KeptFrames
+pub mod KeptWays
+pub mod Kept
+pub mod RootedValues
+pub mod RootedSlots
+pub mod RootedFrames
+pub mod RootedProcesses
+pub mod RootedBare
+pub mod RootedExamples

@@ -1,0 +1,4 @@
+pub mod Stands
+pub mod Sides
+pub mod Kept
+pub mod Rooted

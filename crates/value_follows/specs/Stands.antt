@@ -1,0 +1,129 @@
+-- When a process of the machine stands for one of three-address code over values.
+use Rattle.std.specs.Prelude.{ℕ, suc, pos, ◌+◌, ◌≡◌, ◌<◌, List, [], ◌∷◌, Option, None, Some, slice_get}
+use Rattle.heap_model.specs.Facts.{Is}
+use Rattle.limbo_types.specs.Types as ty
+use Rattle.limbo_types.specs.Types.{Ty}
+use Rattle.limbo_layout.specs.Adts.{Has}
+use Rattle.limbo_typed.specs.Typed as typed
+use Rattle.system_model.specs.Prints.{Writing}
+use Rattle.limbo_meaning.specs.Program.{routine_of}
+use Rattle.limbo_kept.specs.Trees.{Scope}
+use Rattle.limbo_kept.specs.Processes.{scope_of}
+use Rattle.limbo_kept.specs.Modules.{outline_of}
+use Rattle.core_code.specs.Machine as code
+use Rattle.core_code.specs.Slots as core
+use Rattle.core_code.specs.Slots.{slot_names}
+use Rattle.core_typing.specs.Held as held
+use Rattle.core_typing.specs.Held.{Of}
+use Rattle.core_typing.specs.Going.{Goes, all_of}
+use Rattle.dis_meaning.specs.Words.{InBlock, InFrame, Word, Refer, Address, Found, word_at}
+use Rattle.dis_meaning.specs.Process.{Frame, Process}
+use Rattle.dis_memory.specs.Blocks.{World}
+use Rattle.value_words.specs.Forms.{Instances}
+use Rattle.value_words.specs.Facts.{Facts}
+use Rattle.value_frames.specs.Frames.{Form, Nowhere, AsNumber, AsReference, Boxed, form_of, answer_place, spare_place, number_place}
+use Rattle.value_frames.specs.Frames.{reference_place, room_for, box_bytes}
+use Rattle.value_frames.specs.Standing.{RefersIdly, IsOwn, WordsAre}
+use Rattle.value_frames.specs.Later.{AreMadeBy}
+use Rattle.value_code.specs.Objects.{of_function, base_of, sizes}
+
+module _ (m : typed.Module) where
+  abbrev pub scope : typed.Function → Scope
+  scope f = scope_of (outline_of m) (routine_of f).variables
+
+  abbrev pub types_of : typed.Function → List Ty
+  types_of f = (of_function m f).variables
+
+  -- Wherever it comes to from there, each instruction finds what it needs.
+  abbrev pub GoesOn : typed.Function → (pc : ℕ) → held.Slots → Type 0
+  GoesOn f pc known = (n : ℕ) → Goes (scope f) f.of.answer (of_function m f).code n pc known
+
+  -- Where the code of a function's instruction begins.
+  abbrev pub place_of : (number : ℕ) → typed.Function → (pc : ℕ) → ℕ
+  place_of n f pc = base_of m n + sizes m f.of.answer (of_function m f) pc
+
+  module _ (k : Facts) (i : ℕ) (x : World) where
+    -- A frame is one of this function, by its number, and its words stand for the other's variables and slots, but for a busy one.
+    pub record FrameIs (busy : Option ℕ) (g : code.Frame) (f : Frame) : Type 0 where
+      pub number : ℕ
+      pub function : typed.Function
+      pub there : slice_get m.functions number ≡ Some function
+      pub code : g.code ≡ (of_function m function).code
+      pub answer : g.answer ≡ function.of.answer
+      pub instance : Is k g.instance f.instance
+      pub formed : k.form f.instance ≡ Some Instances
+      pub known : held.Slots
+      pub words : WordsAre m.adts k x.heap f.serial busy (types_of function) known g.variables g.slots f.words
+      pub mine : AreMadeBy k i words.own
+      pub fresh : f.serial < x.outside.frames
+
+    -- The place of a frame's word that is spare.
+    abbrev pub spare_of : typed.Function → ℕ
+    spare_of f = spare_place m.adts (types_of f)
+
+    -- Where the answer of a call goes: nowhere, to a slot's number or reference, or to the record that is to be its box. The word at 16 of
+    -- the callee's frame has the address.
+    abbrev pub AnswerGoes : Form → Ty → (f : Frame) → (types : List Ty) → (into : ℕ) → (callee : Frame) → (own : ℕ → List ℕ) → Type 0
+    AnswerGoes Nowhere t f types into callee own = RefersIdly m.adts k f.words (reference_place m.adts types into)
+    AnswerGoes AsNumber t f types into callee own =
+        RefersIdly m.adts k f.words (reference_place m.adts types into)
+        × (word_at callee.words (pos answer_place) ≡ Found (Address (InFrame f.serial) (pos (number_place m.adts types into))))
+    AnswerGoes AsReference t f types into callee own =
+        RefersIdly m.adts k f.words (reference_place m.adts types into)
+        × (word_at callee.words (pos answer_place) ≡ Found (Address (InFrame f.serial) (pos (reference_place m.adts types into))))
+    AnswerGoes Boxed t f types into callee own =
+        (b : ℕ) × (inner : List Word)
+        × IsOwn m.adts k x.heap f.serial f.words (reference_place m.adts types into) (box_bytes m.adts t) (room_for m.adts t).references b inner
+        × (word_at callee.words (pos answer_place) ≡ Found (Address (InBlock b) (pos 0))) × (k.maker b ≡ Some i)
+        × ((s : ℕ) → Has (own s) b → ⊥)
+
+    -- A frame waits for an answer of a type from the one that it called, in front of the instruction behind the call.
+    pub record Waits (g : code.Frame) (f : Frame) (t : Ty) (callee : Frame) : Type 0 where
+      pub is : FrameIs (Some g.into) g f
+      pub goes : GoesOn is.function g.pc (held.put is.known g.into (Of t (all_of m.adts t)))
+      pub pc : f.pc ≡ place_of is.number is.function g.pc
+      pub spare : word_at f.words (pos (spare_of is.function)) ≡ Found (Refer None)
+      pub answer : AnswerGoes (form_of t) t f (types_of is.function) g.into callee is.words.own
+      pub older : f.serial < callee.serial
+      -- what stands in that slot until then names nothing
+      pub unnamed : (n : ℕ) → slot_names (core.slot g.slots g.into) n ≡ 0
+
+    -- All frames that wait, the latest first; the first of them for an answer of this type. The first function gives none.
+    pub data AllWait : Ty → (callee : Frame) → List code.Frame → List Frame → Type 0 where
+      none_waits : (callee : Frame) → AllWait ty.Nothing callee [] []
+      waits_below : (t : Ty) (callee : Frame) (g : code.Frame) (f : Frame) (gs : List code.Frame) (fs : List Frame) → Waits g f t callee
+          → AllWait g.answer f gs fs → AllWait t callee (g ∷ gs) (f ∷ fs)
+
+    -- The running frames stand for one another, but for a busy slot, wherever in the code of the instruction the machine is; and those that
+    -- wait do.
+    pub record Stands (busy : Option ℕ) (p : code.Process) (q : Process) : Type 0 where
+      pub number : p.number ≡ q.number
+      pub is : FrameIs busy p.frame q.frame
+      pub goes : GoesOn is.function p.frame.pc is.known
+      pub waits : AllWait p.frame.answer q.frame p.below q.below
+
+    -- Two processes, at the begin of an instruction: nothing is on its way.
+    pub record Ready (p : code.Process) (q : Process) : Type 0 where
+      pub stands : Stands None p q
+      pub pc : q.frame.pc ≡ place_of stands.is.number stands.is.function p.frame.pc
+      pub spare : word_at q.frame.words (pos (spare_of stands.is.function)) ≡ Found (Refer None)
+      pub none_made : q.made ≡ []
+
+    -- Two that wait for a reply to a print. Its answer goes to the number of a slot, which refers to Sys until then.
+    pub record Asking (p : code.Process) (q : Process) : Type 0 where
+      pub number : p.number ≡ q.number
+      pub is : FrameIs (Some p.frame.into) p.frame q.frame
+      pub goes : GoesOn is.function p.frame.pc (held.put is.known p.frame.into (Of ty.Int []))
+      pub waits : AllWait p.frame.answer q.frame p.below q.below
+      pub pc : suc q.frame.pc ≡ place_of is.number is.function p.frame.pc
+      pub spare : word_at q.frame.words (pos (spare_of is.function)) ≡ Found (Refer None)
+      pub none_made : q.made ≡ []
+      pub refers : RefersIdly m.adts k q.frame.words (reference_place m.adts (types_of is.function) p.frame.into)
+      pub unnamed : (n : ℕ) → slot_names (core.slot p.frame.slots p.frame.into) n ≡ 0
+      pub writing : Writing
+      pub printing : p.printing ≡ Some writing
+      pub printing_too : q.printing ≡ Some (record {
+        writing = writing;
+        place = InFrame q.frame.serial;
+        at = pos (number_place m.adts (types_of is.function) p.frame.into);
+      })
