@@ -1,0 +1,9 @@
+pub mod Items
+pub mod Putting
+pub mod Regions
+pub mod Globals
+pub mod Data
+pub mod Variables
+pub mod Suiting
+pub mod Opening
+pub mod Examples

@@ -1,0 +1,4 @@
+pub mod Puts
+pub mod Putting
+pub mod Opening
+pub mod Laws
