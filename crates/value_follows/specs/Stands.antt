@@ -73,7 +73,8 @@ module _ (m : typed.Module) where
         × (word_at callee.words (pos answer_place) ≡ Found (Address (InFrame f.serial) (pos (reference_place m.adts types into))))
     AnswerGoes Boxed t f types into callee own =
         (b : ℕ) × (inner : List Word)
-        × IsOwn m.adts k x.heap f.serial f.words (reference_place m.adts types into) (box_bytes m.adts t) (room_for m.adts t).references b inner
+        × IsOwn m.adts k x.heap f.serial f.words (reference_place m.adts types into) (box_bytes m.adts t)
+        (room_for m.adts t).references b inner
         × (word_at callee.words (pos answer_place) ≡ Found (Address (InBlock b) (pos 0))) × (k.maker b ≡ Some i)
         × ((s : ℕ) → Has (own s) b → ⊥)
 
