@@ -52,6 +52,7 @@ module _ (m : typed.Module) (k k' : Facts) (i : ℕ) (x x' : World) (grows : Gro
     there = is.there;
     code = is.code;
     answer = is.answer;
+    many = is.many;
     instance = grows.facts f.instance (Named g.instance) is.instance;
     formed = grows.forms f.instance Instances is.formed;
     known = is.known;

@@ -1,5 +1,5 @@
 -- When a process of the machine stands for one of three-address code over values.
-use Rattle.std.specs.Prelude.{ℕ, suc, pos, ◌+◌, ◌≡◌, ◌<◌, List, [], ◌∷◌, Option, None, Some, slice_get}
+use Rattle.std.specs.Prelude.{ℕ, suc, pos, ◌+◌, ◌≡◌, ◌<◌, List, [], ◌∷◌, length, Option, None, Some, slice_get}
 use Rattle.heap_model.specs.Facts.{Is}
 use Rattle.limbo_types.specs.Types as ty
 use Rattle.limbo_types.specs.Types.{Ty}
@@ -50,6 +50,8 @@ module _ (m : typed.Module) where
       pub there : slice_get m.functions number ≡ Some function
       pub code : g.code ≡ (of_function m function).code
       pub answer : g.answer ≡ function.of.answer
+      -- it has as many slots as the function says
+      pub many : length g.slots ≡ (of_function m function).slots
       pub instance : Is k g.instance f.instance
       pub formed : k.form f.instance ≡ Some Instances
       pub known : held.Slots
@@ -73,8 +75,8 @@ module _ (m : typed.Module) where
         × (word_at callee.words (pos answer_place) ≡ Found (Address (InFrame f.serial) (pos (reference_place m.adts types into))))
     AnswerGoes Boxed t f types into callee own =
         (b : ℕ) × (inner : List Word)
-        × IsOwn m.adts k x.heap f.serial f.words (reference_place m.adts types into) (box_bytes m.adts t)
-        (room_for m.adts t).references b inner
+        × IsOwn m.adts k x.heap f.serial f.words (reference_place m.adts types into) (box_bytes m.adts t) (room_for m.adts t).references b
+        inner
         × (word_at callee.words (pos answer_place) ≡ Found (Address (InBlock b) (pos 0))) × (k.maker b ≡ Some i)
         × ((s : ℕ) → Has (own s) b → ⊥)
 

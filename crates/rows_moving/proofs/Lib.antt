@@ -1,0 +1,9 @@
+pub mod Putting
+pub mod References
+pub mod Variables
+pub mod Reading
+pub mod Storing
+pub mod Sources
+pub mod Writing
+pub mod Knowns
+pub mod Globals
