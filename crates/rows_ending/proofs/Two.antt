@@ -154,9 +154,9 @@ module _ (m : typed.Module) (b : Base m) (i : ℕ) (from : Option ℕ) (p : code
         silent (sides m) (place m) (λ l z r t. Way (sides m) (place m) 1 l i z r t) k k i w x x p q (on_next (memory x has_it)) step_is
         (nothing_changes m k i x) worlds (further k w x q ready hold worlds (on_next (memory x has_it)) refl) (
           b.holds_again k i w x p has_it ready_still worlds
-              (b.there_again x x q (on_next (memory x has_it)) step_is worlds.0.closed hold.same.live),
+              (b.there_again x x q (on_next (memory x has_it)) step_is worlds.0.closed (λ n h. hold.same.live n (hold.same.roots n h))),
           λ now y v left holds also.
-              let r = b.ready_later k now i x y p has_it ready_still left holds in
+              let r = (b.ready_later k now i x y p has_it ready_still left holds).0 in
               goes_back now v y has_it r holds also (has now y) p.frame.answer q.frame p.below (with_words l others ∷ fs) refl refl refl refl
               r.stands.waits,
         )
@@ -172,7 +172,7 @@ module _ (m : typed.Module) (b : Base m) (i : ℕ) (from : Option ℕ) (p : code
     (
       ready.1,
       λ now y w left hold worlds.
-          let r = b.ready_later k now i x y p q ready.0 left hold in
+          let r = (b.ready_later k now i x y p q ready.0 left hold).0 in
           go now w y r hold worlds p.frame.answer q.frame p.below q.below refl refl refl refl r.stands.waits,
     ),
   )

@@ -5,5 +5,4 @@ pub mod Reading
 pub mod Storing
 pub mod Sources
 pub mod Writing
-pub mod Knowns
 pub mod Globals

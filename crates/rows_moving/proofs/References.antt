@@ -7,10 +7,9 @@ use Rattle.limbo_types.specs.Types.{Ty}
 use Rattle.limbo_layout.specs.Adts.{Def, Has}
 use Rattle.limbo_values.specs.declared.number.Kind.TheVariants as kind
 use Rattle.limbo_typed.specs.Typed as typed
-use Rattle.limbo_typed.specs.declared.stmt.Constant.TheVariants as constant
-use Rattle.limbo_meaning.specs.Trees.{Literal, Nil}
+use Rattle.limbo_meaning.specs.Trees.{Nil}
 use Rattle.limbo_meaning.specs.Process.{Shared}
-use Rattle.limbo_meaning.specs.Values.{Value, Chars, Ref, zero_of}
+use Rattle.limbo_meaning.specs.Values.{Value, Ref, zero_of}
 use Rattle.system_model.specs.Limits.{frames_limit}
 use Rattle.core_code.specs.Code.{Instr, Give}
 use Rattle.core_code.specs.Machine as code
@@ -46,14 +45,14 @@ use Rattle.number_effects.proofs.Records.{words_move}
 use Rattle.number_effects.proofs.Stepping.{steps_obey}
 use Rattle.value_follows.specs.Stands.{Ready, GoesOn, types_of}
 use Rattle.value_follows.specs.Sides.{sides, HoldTheSame, program}
-use Rattle.value_follows.specs.Rows.{Base, InstrGoes}
+use Rattle.value_follows.specs.Rows.{Base}
 use Rattle.value_follows.proofs.Standing.{finds, instance_here, code_here, at_slots, at_words}
 use Rattle.value_follows.proofs.Slots.{uses}
 use Rattle.value_follows.proofs.Single.{Once, single, both_go}
-use Rattle.value_follows.proofs.Jumps.{row, first, next_place, behind_it}
+use Rattle.value_follows.proofs.Jumps.{first, next_place, behind_it}
 use Rattle.value_follows.proofs.Numbers.{begins}
 use Rattle.value_follows.proofs.Putting.{at_rest}
-use Rattle.rows_moving.specs.Rows.{NilsGo, TextsGo}
+use Rattle.rows_moving.specs.Rows.{NilsGo}
 use Rattle.rows_moving.proofs.Putting.{ready_given}
 
 -- ---- words that refer, and what stands there
@@ -222,30 +221,3 @@ nils_go m b t into from form k i x p q ready here =
     (ap (code.next frames_limit (program m) w p) here))
 
 -- ---- strings
-
-text_names : (cs : List ℕ) → NamesOnly [] (Chars cs)
-text_names cs k n f = absurd cc
-
-chars_go : (m : typed.Module) (b : Base m) (cs : List ℕ) (into : ℕ) (from : List ℕ)
-    → InstrGoes m (Give ty.Chars (Literal (constant.Chars cs)) into from)
-chars_go m b cs into from k i x p q ready here =
-    single m b i p q k x ready (λ now w y r hold worlds.
-    let is = r.stands.is in
-    let instr = Give ty.Chars (Literal (constant.Chars cs)) into from in
-    let found = finds m is.function p.frame.pc is.known instr r.stands.goes (code_here m now i y p q r instr here) in
-    let at = row m b now i w y p q r hold worlds instr here in
-    let read = constant_read m b now i w y p q r hold worlds instr here at.at ty.Chars (Chars cs) refl
-    (at.stand (placed m at.at ty.Chars (Chars cs)) (inl refl)) in
-    reference_stored m b now i w y p q r hold worlds instr here into
-    (uses m now i y None p.frame q.frame is p.frame.pc instr (code_here m now i y p q r instr here)).0 found.3
-    refl (operand.Mp (pos at.at)) refl read.0 read.1 ty.Chars (Chars cs) [] refl read.2 (text_names cs)
-    (behind_it m b now i w y p q r hold worlds instr here 0 (suc p.frame.pc) (held.put is.known into (Of ty.Chars [])) (omega arith) refl)
-    (ap (code.next frames_limit (program m) w p) here))
-
-pub texts_go : TextsGo
-texts_go m b t cs into from k i x p q ready here =
-    let instr = Give t (Literal (constant.Chars cs)) into from in
-    let found = finds m ready.0.stands.is.function p.frame.pc ready.0.stands.is.known instr ready.0.stands.goes
-    (code_here m k i x p q ready.0 instr here) in
-    let chars : t ≡ ty.Chars = found.2.0 in
-    subst (λ u. InstrGoes m (Give u (Literal (constant.Chars cs)) into from)) (sym chars) (chars_go m b cs into from) k i x p q ready here

@@ -1,12 +1,11 @@
 -- Rows of one instruction that move a value within a frame, or from the module's data to a frame, and change nothing else.
-use Rattle.std.specs.Prelude.{ℕ, ℤ, ◌≡◌, ◌⊎◌, false, List, Some, slice_get}
+use Rattle.std.specs.Prelude.{ℕ, ◌≡◌, ◌⊎◌, false, List, Some, slice_get}
 use Rattle.limbo_types.specs.Types as ty
 use Rattle.limbo_types.specs.Types.{Ty}
 use Rattle.limbo_typed.specs.Typed as typed
-use Rattle.limbo_typed.specs.declared.stmt.Constant.TheVariants as constant
 use Rattle.limbo_meaning.specs.Places.{Local, Global, Way}
-use Rattle.limbo_meaning.specs.Trees.{Literal, Nil, Read}
-use Rattle.limbo_meaning.specs.Values.{Value, Num, nothing}
+use Rattle.limbo_meaning.specs.Trees.{Nil, Read}
+use Rattle.limbo_meaning.specs.Values.{nothing}
 use Rattle.core_code.specs.Code as core
 use Rattle.core_code.specs.Machine as code
 use Rattle.core_code.specs.Slots.{slot, value_of}
@@ -22,16 +21,6 @@ use Rattle.value_follows.specs.Rows.{Base, InstrGoes, RowGoes}
 abbrev pub NilsGo : Type 0
 NilsGo =
     (m : typed.Module) → Base m → (t : Ty) (into : ℕ) (from : List ℕ) → form_of t ≡ AsReference → InstrGoes m (core.Give t Nil into from)
-
--- So does a value that is known and no number: it names nothing, and nothing of it stands in the slot.
-abbrev pub KnownsGo : Type 0
-KnownsGo = (m : typed.Module) → Base m → (v : Value) (into : ℕ) → ((z : ℤ) → v ≡ Num z → ⊥) → InstrGoes m (core.Known v into)
-
--- A constant that is a string comes into a slot.
-abbrev pub TextsGo : Type 0
-TextsGo =
-    (m : typed.Module) → Base m → (t : Ty) (cs : List ℕ) (into : ℕ) (from : List ℕ) →
-    InstrGoes m (core.Give t (Literal (constant.Chars cs)) into from)
 
 -- A value of such a type stands in the words of its slot, a number or a reference, and one instruction moves it.
 abbrev pub IsSimple : Ty → Type 0

@@ -1,20 +1,10 @@
 //! What holds of rows that move values within a frame.
 
-ghost use Rattle.rows_moving.specs.Rows.{NilsGo, KnownsGo, TextsGo, ReadsGo, GlobalsGo, WritesGo};
+ghost use Rattle.rows_moving.specs.Rows.{NilsGo, ReadsGo, GlobalsGo, WritesGo};
 
 /// `nil` comes into a slot.
 pub fn nils_go()
     ensures { NilsGo }
-{}
-
-/// A value that is known and no number comes into a slot.
-pub fn knowns_go()
-    ensures { KnownsGo }
-{}
-
-/// A constant that is a string does.
-pub fn texts_go()
-    ensures { TextsGo }
 {}
 
 /// Part of a variable is read into a slot, where it is a number or a reference.

@@ -6,4 +6,4 @@
 
 mod laws;
 
-pub use laws::{globals_go, knowns_go, nils_go, reads_go, texts_go, writes_go};
+pub use laws::{globals_go, nils_go, reads_go, writes_go};
