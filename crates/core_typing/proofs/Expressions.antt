@@ -94,7 +94,7 @@ module _ (s : Scope) (answer : Ty) (code : List Instr) where
       (λ after a c. (us, these_on after l.values (types_in s.adts ts) us a st, (is.0, is.1, is.2, inl refl), c)) all
   node_goes lo t tree.Nil ts us u l p w vd df c h is st f all =
       gives_goes s answer code lo t tree.Nil l (types_in s.adts ts) p w
-      (λ after a c. (us, these_on after l.values (types_in s.adts ts) us a st, (is.0, inl refl), c)) all
+      (λ after a c. (us, these_on after l.values (types_in s.adts ts) us a st, (is.0, is.1, inl refl), c)) all
   node_goes lo t (tree.Read r) ts us u l p w vd df c h is st f all =
       gives_goes s answer code lo t (tree.Read r) l (types_in s.adts ts) p w
       (λ after a c. (us, these_on after l.values (types_in s.adts ts) us a st, (is.0, is.1, inl refl), c)) all

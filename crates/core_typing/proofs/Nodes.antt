@@ -507,7 +507,7 @@ module _ (s : Scope) (answer : Ty) (code : List Instr) where
       let e : mid ≡ mid + (0 - 1) = omega arith in
       subst (λ (z : ℕ). Leaves pc before after lo (suc z) z (Known (Ref None) mid ∷ []) (ds ++ []) (ty.ListOf i)) e
       (one_leaves pc before after last lo (suc mid) mid (Known (Ref None) mid) (ds ++ []) (ty.ListOf i)
-      (λ n. refl, clean mid (omega arith) (omega arith)) tt refl
+      (tt, λ n. refl, clean mid (omega arith) (omega arith)) tt refl
       (λ h.
       let g = gave code pc mid ty.Nil (Known (Ref None) mid) h (λ r. refl) in
       let x = left_put s.adts (told code pc) (told code (suc pc)) before after lo mid [] ds (ds ++ []) ts ty.Nil [] g p (omega arith) left

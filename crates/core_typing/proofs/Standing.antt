@@ -166,7 +166,7 @@ module _ (s : Scope) where
   node_stands : (t : Ty) (o : Work) (ts : Terms) (us : List Ty) (u : Ty) → WorkIs s t o us u → AllStand (types_in s.adts ts) us
       → Suits s.adts t o ts → Stands (type_of s.adts (Node t o ts)) u
   node_stands t (tree.Literal c) ts us u w a h = w.3
-  node_stands t tree.Nil ts us u w a h = w.1
+  node_stands t tree.Nil ts us u w a h = w.2
   node_stands t (Operate o) ts us u w a h = w.3
   node_stands t (tree.Read r) ts us u w a h = w.2
   node_stands t (tree.Assign aims) ts us u w a h =

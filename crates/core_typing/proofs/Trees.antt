@@ -17,12 +17,13 @@ use Rattle.core_code.specs.Terms.{type_at}
 use Rattle.core_code.specs.Statements.{whole}
 use Rattle.core_code.proofs.Used.{term_up, terms_up, items_up, rest_up, end_up}
 use Rattle.core_follows.specs.Drops.{Between}
-use Rattle.core_follows.specs.Handled.{IsKnown, Suits, Declares, Handled, AllHandled, HandledItems, HandledRest, types_in}
+use Rattle.core_follows.specs.Handled as handled
+use Rattle.core_follows.specs.Handled.{Suits, Declares, Handled, AllHandled, HandledItems, HandledRest, types_in}
 use Rattle.core_follows.proofs.Holding.{has_front, has_back}
 use Rattle.core_follows.proofs.Static.{drops_within, all_within, items_within, rest_within, values_counted, no_drops}
 use Rattle.core_follows.proofs.Valued.{value_stands, values_stand, values_differ}
 use Rattle.core_typing.specs.Held.{Of, slot, put, type_held}
-use Rattle.core_typing.specs.Needs.{StandsAs, NamesNothing, AreClean}
+use Rattle.core_typing.specs.Needs.{StandsAs, NamesNothing, IsKnown, AreClean}
 use Rattle.core_typing.specs.Written.{type_known, told}
 use Rattle.core_typing.specs.Trees.{HasValue, LengthSo, DeclaresSo, Formed, AllFormed, ItemsFormed}
 use Rattle.core_typing.specs.Functions.{TreesGoWell, ValuesGoWell}
@@ -39,11 +40,12 @@ use Rattle.core_typing.proofs.Filling.{grown_none, grown_on, grown_more, sides, 
 module _ (s : Scope) (answer : Ty) (code : List Instr) where
   -- ---- what is known
 
-  known_goes : (lo : ℕ) (v : Value) → NamesNothing v → GoesBy s answer code lo (lower s.adts lo (Evaluated v)) (type_known v)
-  known_goes lo v names pc slots n has fits clean k =
+  known_goes : (lo : ℕ) (v : Value) → IsKnown v → NamesNothing v → GoesBy s answer code lo (lower s.adts lo (Evaluated v)) (type_known v)
+  known_goes lo v known names pc slots n has fits clean k =
       let i = Of (type_known v) [] in
       let g = gave_to code pc (pc + 1) lo (type_known v) (Known v lo) (omega arith) has.0 (λ r. refl) in
-      goes_to s answer code n pc (suc pc) slots (put slots lo i) (Known v lo) has.0 (names, clean lo (omega arith) (omega arith)) tt refl
+      goes_to s answer code n pc (suc pc) slots (put slots lo i) (Known v lo) has.0
+      (known, names, clean lo (omega arith) (omega arith)) tt refl
       (same_place s answer code n (pc + 1) (suc pc) (put slots lo i) (omega arith)
       (k (put slots lo i) (record {
         long = put_long slots lo i;
@@ -56,8 +58,8 @@ module _ (s : Scope) (answer : Ty) (code : List Instr) where
   names_nothing : (v : Value) → references v ≡ [] → NamesNothing v
   names_nothing v e n = ap (among n) e
 
-  length_goes : (lo : ℕ) (t : Term) → IsKnown t → LengthSo t → GoesBy s answer code lo (lower s.adts lo t) ty.Int
-  length_goes lo (Evaluated (Num z)) h f = known_goes lo (Num z) (names_nothing (Num z) h)
+  length_goes : (lo : ℕ) (t : Term) → handled.IsKnown t → LengthSo t → GoesBy s answer code lo (lower s.adts lo t) ty.Int
+  length_goes lo (Evaluated (Num z)) h f = known_goes lo (Num z) tt (names_nothing (Num z) h)
   length_goes lo (Evaluated _) h f = absurd f
   length_goes lo _ h f = absurd h
 
@@ -74,13 +76,14 @@ module _ (s : Scope) (answer : Ty) (code : List Instr) where
       let i = Of (type_known v) [] in
       let last = put slots lo i in
       let known : type_known v ≡ ty.Nothing = ap type_known d.1 in
+      let plain : IsKnown v = subst IsKnown (sym d.1) refl in
       let names : NamesNothing v = λ m. ap (λ (x : Value). among m (references x)) d.1 in
       let there : type_held (slot last value) ≡ Some ty.Nothing =
       ap (λ (r : ℕ). type_held (slot last r)) at ∙ ap type_held (put_same slots lo i fits) ∙ ap (λ (u : Ty). Some u) known in
       let rest = writes s.adts (a ∷ aims) (lo ∷ []) value in
       let g = gave code pc lo (type_known v) (Known v lo) has.0 (λ r. refl) in
       let told_value : told code (suc pc) value ≡ Some ty.Nothing = ap (told code (suc pc)) at ∙ g.there ∙ ap (λ (u : Ty). Some u) known in
-      goes_to s answer code n pc (suc pc) slots last (Known v lo) has.0 (names, clean lo (omega arith) (omega arith)) tt refl
+      goes_to s answer code n pc (suc pc) slots last (Known v lo) has.0 (plain, names, clean lo (omega arith) (omega arith)) tt refl
       (declares_go s answer code (a ∷ aims) last (lo ∷ []) value n (suc pc) there told_value f has.1
       (same_place s answer code n (pc + suc (length rest)) (suc pc + length rest) last (omega arith)
       (k last (record {
@@ -141,7 +144,7 @@ module _ (s : Scope) (answer : Ty) (code : List Instr) where
         let v = items_up s.adts t n.free shared from items in
         let w = rest_up s.adts t n.free (named s.adts items) shared es.free rest in
         let length_go : GoesBy s answer code lo n ty.Int = ⊎_elim
-        (λ (x : IsKnown l). length_goes lo l x f.0)
+        (λ (x : handled.IsKnown l). length_goes lo l x f.0)
         (λ (x : Handled s.adts l). λ pc slots m has fits clean k. term_goes l ty.Int is.1 x f.1 lo pc slots m has fits clean
         (λ after left. k after (record {
           long = left.long;

@@ -8,7 +8,7 @@ use Rattle.limbo_typed.specs.declared.print.Piece.TheVariants as piece
 use Rattle.limbo_typed.specs.Fitting.{HasPart, Stands}
 use Rattle.limbo_typed.specs.Sound.{type_of_hole}
 use Rattle.limbo_meaning.specs.Trees as tree
-use Rattle.limbo_meaning.specs.Values.{Value, among, references}
+use Rattle.limbo_meaning.specs.Values.{Value, Num, Ref, nothing, among, references}
 use Rattle.limbo_kept.specs.Operating.{HasRoom}
 use Rattle.limbo_kept.specs.Places.{Leads}
 use Rattle.limbo_kept.specs.Trees.{Scope, WayIs, WorkIs}
@@ -88,6 +88,12 @@ AllClean slots = (r : ℕ) → IsClean (slot slots r)
 abbrev pub NamesNothing : Value → Type 0
 NamesNothing v = (n : ℕ) → among n (references v) ≡ 0
 
+-- A value that no step gives: a number, a reference, the value without parts.
+abbrev pub IsKnown : Value → Type 0
+IsKnown (Num z) = Unit {0}
+IsKnown (Ref r) = Unit {0}
+IsKnown v = v ≡ nothing
+
 module _ (s : Scope) (answer : Ty) (slots : Slots) where
   -- An instruction finds what it reads as it needs it, and nothing is named in a slot that it gives a value to.
   abbrev pub Finds : Instr → Type 0
@@ -95,7 +101,7 @@ module _ (s : Scope) (answer : Ty) (slots : Slots) where
   Finds (Gather t o into from) = (us : List Ty) × AreThese slots from us × WorkIs s t o us t × IsClean (slot (emptied slots from) into)
   Finds (Pick t n into from) =
       (v : Ty) × (type_held (slot slots from) ≡ Some v) × HasRoom s.adts v × HasPart s.adts v n t × IsClean (slot slots into)
-  Finds (Known v into) = NamesNothing v × IsClean (slot slots into)
+  Finds (Known v into) = IsKnown v × NamesNothing v × IsClean (slot slots into)
   Finds (Write t way operands part from) = (us : List Ty) × AreThese slots operands us × WayIs s way us t × Fills s slots t part from
   Finds (CopyInto array start from) = (i : Ty) × IsA slots array (ty.ArrayOf i) × IsA slots start ty.Int × IsA slots from (ty.ArrayOf i)
   Finds (Cell t into item behind) =

@@ -335,7 +335,7 @@ module _ (s : Scope) (store : Store) (m : Memory) (mem : MemoryIsOf s.adts s.glo
   performed_kept : (u t : Ty) (o : Work) (us : List Ty) (vs : List Value) → AllFit s.adts store us vs → WorkIs s u o us t
       → Kept t (performed s.adts m u o vs)
   performed_kept u t (Literal c) us vs f w = passed u t (constant_value c) w.2 w.3 (constant_fits s store u c w.0 w.1)
-  performed_kept u t Nil us vs f w = passed u t nothing w.0 w.1 (zero_fits s.adts store u w.0)
+  performed_kept u t Nil us vs f w = passed u t nothing w.1 w.2 (zero_fits s.adts store u w.1)
   performed_kept u t (Operate o) us vs f w =
       kept_unless (IsLeft s.adts s.globals store s.variables u) t (result_of s.adts m u o vs) (leaves s.adts m u o)
       (left s.adts s.globals store s.variables m mem u w.1 w.2 o us vs w.0 f)

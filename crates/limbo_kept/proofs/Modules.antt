@@ -499,7 +499,7 @@ module _ (r : Stores) (m : Module) (laid : AdtsAreLaid m.adts) (variables : List
         → AllNodes Well (Of t n) → Is scope (node_of t n) u
     node_is t (typed.Number n) u h s st w q = ([], tt, inl (s, tt, room t h, st))
     node_is t (typed.Chars x) u h s st w q = ([], tt, inl (s, w.0, room t h, st))
-    node_is t typed.Nil u h s st w q = ([], tt, inl (room t h, st))
+    node_is t typed.Nil u h s st w q = ([], tt, inl (s, room t h, st))
     node_is t (typed.Read (At v p)) u h s st w q = (
       place_types p,
       place_operands v p s.0.1 w.1 q.1,

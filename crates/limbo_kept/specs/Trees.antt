@@ -9,7 +9,7 @@ use Rattle.limbo_typed.specs.declared.print.Piece.{Piece}
 use Rattle.limbo_typed.specs.declared.print.Piece.TheVariants as piece
 use Rattle.limbo_typed.specs.declared.stmt.Constant.{Constant}
 use Rattle.limbo_typed.specs.declared.stmt.Constant.TheVariants as constant
-use Rattle.limbo_typed.specs.Fitting.{HasPart, IsRefOf, Stands, AllStand, EachStands, Gives, IsConstant}
+use Rattle.limbo_typed.specs.Fitting.{HasPart, HasNil, IsRefOf, Stands, AllStand, EachStands, Gives, IsConstant}
 use Rattle.limbo_meaning.specs.Values.{nothing}
 use Rattle.limbo_meaning.specs.Places.{Root, Local, Global, Element, Target, Way, operands_of}
 use Rattle.limbo_meaning.specs.Operations.{item_of}
@@ -91,7 +91,7 @@ module _ (s : Scope) where
   -- A node of a type gives, of operands of these types, what stands for the last type.
   abbrev pub WorkIs : Ty → Work → List Ty → Ty → Type 0
   WorkIs u (Literal c) us t = IsConstant u c × IsWritten c × HasRoom s.adts u × Stands u t
-  WorkIs u Nil us t = HasRoom s.adts u × Stands u t
+  WorkIs u Nil us t = HasNil u × HasRoom s.adts u × Stands u t
   WorkIs u (Operate o) us t = Gives s.adts o us u × HasRoom s.adts u × HasRoom s.adts (item_of u) × Stands u t
   WorkIs u (Read w) us t = WayIs s w us u × HasRoom s.adts u × Stands u t
   WorkIs u (Assign aims) us t =
