@@ -1,5 +1,5 @@
 -- The code of single instructions, and the object of a small module, written out by hand.
-use Rattle.std.proofs.Common.{◌≡◌, ℕ, zero, ◌+◌, ◌-◌, ◌*◌, pos, false, [], ◌∷◌, None, Some, codes, refl}
+use Rattle.std.proofs.Common.{◌≡◌, ℕ, ℤ, zero, ◌+◌, ◌-◌, ◌*◌, pos, false, [], ◌∷◌, None, Some, codes, refl}
 use Rattle.std.specs.Prelude.{slice_get}
 use Rattle.limbo_types.specs.Types as ty
 use Rattle.limbo_types.specs.Types.{Ty}
@@ -21,10 +21,10 @@ use Rattle.dis_isa.specs.declared.op.Op.{Op}
 use Rattle.dis_isa.specs.declared.op.Op.TheVariants as op
 use Rattle.core_code.specs.Code as core
 use Rattle.core_code.specs.Code.{Instr}
-use Rattle.value_code.specs.Data.{Named, OfTurn, OfRegion, PrintFrame}
+use Rattle.value_code.specs.Data.{Word, Named, OfTurn, OfRegion, PrintFrame}
 use Rattle.value_code.specs.Operands.{Scene}
-use Rattle.value_code.specs.Code.{Site, code_of}
-use Rattle.value_code.specs.Objects.{object_of}
+use Rattle.value_code.specs.Code.{Site, code_of, data_of}
+use Rattle.value_code.specs.Objects.{datum_bytes, object_of}
 
 -- ---- operands as the assembler writes them: n(fp), n(mp), n(m(fp)), $n
 
@@ -150,6 +150,36 @@ goes_on : code_of (site an_array) (core.Next 0 1 (pos 4 ∷ []) 5)
     ∷ three op.Jmp operand.None middle.None (imm 102)
     ∷ []
 goes_on = refl
+
+-- An immediate has 30 bits: the first of these indices is one, and the second stands in the data, 8 bytes behind the first.
+goes_far : code_of (site an_array) (core.Next 0 1 (pos 536870911 ∷ pos 536870912 ∷ []) 5)
+    ≡ two op.Movw (fp 48) (fp 24)
+    ∷ two op.Lena (fp 44) (fp 20)
+    ∷ three op.Bgew (fp 24) (in_fp 20) (imm 250)
+    ∷ three op.Beqw (imm 536870911) (in_fp 24) (imm 107)
+    ∷ three op.Beqw (mp 72) (in_fp 24) (imm 107)
+    ∷ three op.Addw (imm 1) (in_fp 24) (fp 48)
+    ∷ three op.Jmp operand.None middle.None (imm 200)
+    ∷ three op.Addw (imm 1) (in_fp 24) (fp 24)
+    ∷ three op.Jmp operand.None middle.None (imm 102)
+    ∷ []
+goes_far = refl
+
+far_data : data_of [] (λ f. []) ty.Int an_array (core.Next 0 1 (pos 536870911 ∷ pos 536870912 ∷ []) 5)
+    ≡ Word (pos 536870911) ∷ Word (pos 536870912) ∷ []
+far_data = refl
+
+word_takes : (m : typed.Module) (z : ℤ) → datum_bytes m (Word z) ≡ 8
+word_takes m z = refl
+
+-- indx 44(fp), 24(fp), 64(mp); movw 56(fp), 0(24(fp))
+fills_far : code_of (site an_array) (core.Element ty.Int 0 (pos 536870912) 2)
+    ≡ three op.Indx (fp 44) (in_fp 24) (mp 64) ∷ two op.Movw (fp 56) (at 24 0) ∷ []
+fills_far = refl
+
+fills_near : code_of (site an_array) (core.Element ty.Int 0 (pos 4) 2)
+    ≡ three op.Indx (fp 44) (in_fp 24) (imm 4) ∷ two op.Movw (fp 56) (at 24 0) ∷ []
+fills_near = refl
 
 -- A call of function 5 with an int: the frame is of type 7, the argument at 32, and the answer goes to slot 1.
 calls : code_of (site ints) (core.Call ty.Int 5 1 (0 ∷ []))

@@ -1,5 +1,5 @@
 -- How many instructions of the machine one of three-address code becomes doesn't depend on where it stands, nor on numbers of types.
-use Rattle.std.proofs.Common.{◌≡◌, ℕ, suc, ℤ, Bool, true, false, List, [], ◌∷◌, ◌++◌, length, Option, None, Some, refl, ap, arith}
+use Rattle.std.proofs.Common.{◌≡◌, ℕ, suc, ◌+◌, ℤ, Bool, true, false, List, [], ◌∷◌, ◌++◌, length, Option, None, Some, refl, ap, arith}
 use Rattle.std.proofs.Common.{length-append, pos, ◌∙◌}
 use Rattle.std.specs.Prelude.{slice_index_or}
 use Rattle.limbo_types.specs.Types as ty
@@ -137,14 +137,14 @@ known_long s v into at at' = even refl
 
 -- ---- codes of many parts
 
-compared_all_long : (zs : List ℤ) (pc pc' : ℕ) → AsLong (compared_all zs pc) (compared_all zs pc')
-compared_all_long [] pc pc' = even refl
-compared_all_long (z ∷ zs) pc pc' = more (compared_all_long zs pc pc')
+compared_all_long : (zs : List ℤ) (at at' pc pc' : ℕ) → AsLong (compared_all zs at pc) (compared_all zs at' pc')
+compared_all_long [] at at' pc pc' = even refl
+compared_all_long (z ∷ zs) at at' pc pc' = more (compared_all_long zs (at + 8) (at' + 8) pc pc')
 
-searched_long : (s : Scene) (zs : List ℤ) (here here' l next next' : ℕ)
-    → AsLong (searched s zs here l next) (searched s zs here' l next')
-searched_long s [] here here' l next next' = even refl
-searched_long s (z ∷ zs) here here' l next next' = join (compared_all_long (z ∷ zs) _ _) (even refl)
+searched_long : (s : Scene) (zs : List ℤ) (at at' here here' l next next' : ℕ)
+    → AsLong (searched s zs at here l next) (searched s zs at' here' l next')
+searched_long s [] at at' here here' l next next' = even refl
+searched_long s (z ∷ zs) at at' here here' l next next' = join (compared_all_long (z ∷ zs) at at' _ _) (even refl)
 
 module _ (s : Scene) (types types' : Named → ℕ) where
   gathered_long : (t : Ty) (ks rs : List ℕ) (into : ℕ) → AsLong (gathered s types t ks rs into) (gathered s types' t ks rs into)
@@ -248,7 +248,7 @@ module _ (c : Site) (entries : ℕ → ℕ) (types : Named → ℕ) (frames : �
   code_long (core.Truth into from) = even refl
   code_long (core.Element t array index from) = more (moved_long c.scene.adts t _ _ _ _ _ _)
   code_long (core.Start l) = even refl
-  code_long (core.Next array l named n) = more (more (more (searched_long c.scene named _ _ l _ _)))
+  code_long (core.Next array l named n) = more (more (more (searched_long c.scene named _ _ _ _ l _ _)))
   code_long (core.Other t array l from) = more (more (moved_long c.scene.adts t _ _ _ _ _ _))
   code_long (core.Keep l from words) = even refl
   code_long (core.Take l from words n) = even refl

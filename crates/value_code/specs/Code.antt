@@ -89,6 +89,12 @@ zero_data (ty.Tuple ts) = Zero (ty.Tuple ts) ∷ []
 zero_data (ty.Adt n) = Zero (ty.Adt n) ∷ []
 zero_data t = []
 
+-- ---- a number as a source: an immediate where it fits, else what stands in the data
+
+abbrev pub number_source : Bool → ℤ → (at : ℕ) → isa.Operand
+number_source true z at = operand.Imm z
+number_source false z at = operand.Mp (pos at)
+
 -- ---- zeros
 
 abbrev pub zeroed : List Def → Ty → (type at : ℕ) → isa.Operand → Code
@@ -103,9 +109,11 @@ zeroed defs t n at d = inst op.Movp nil_word middle.None d ∷ []
 -- ---- initialisers: the first index from a loop's number on that isn't named. It is looked for where else the address of an element
 -- stands, so that the loop stays as it is where none is left.
 
-abbrev pub compared_all : List ℤ → (named : ℕ) → Code
-compared_all [] pc = []
-compared_all (z ∷ zs) pc = inst op.Beqw (operand.Imm z) (of_own element_place) (operand.Imm (pos pc)) ∷ compared_all zs pc
+-- Each index is a datum, 8 bytes behind the one in front.
+abbrev pub compared_all : List ℤ → (at named : ℕ) → Code
+compared_all [] at pc = []
+compared_all (z ∷ zs) at pc =
+    inst op.Beqw (number_source (fits_source z) z at) (of_own element_place) (operand.Imm (pos pc)) ∷ compared_all zs (at + 8) pc
 
 -- the index behind the one that is looked at
 abbrev pub counted : isa.Operand → code_inst.Inst
@@ -122,10 +130,6 @@ module _ (s : Scene) where
   emptied f r = []
 
   -- ---- constants
-
-  abbrev pub number_source : Bool → ℤ → (at : ℕ) → isa.Operand
-  number_source true z at = operand.Imm z
-  number_source false z at = operand.Mp (pos at)
 
   abbrev pub literal : Ty → Constant → (into at type : ℕ) → Code
   literal t (constant.Chars cs) into at n = inst op.Movp (operand.Mp (pos at)) middle.None (reference s into) ∷ []
@@ -169,10 +173,10 @@ module _ (s : Scene) where
 
   -- ---- initialisers: the instruction's code begins here, and looks behind two instructions whether an index is left
 
-  abbrev pub searched : List ℤ → (here loop next : ℕ) → Code
-  searched [] here l next = counted (number s l) ∷ []
-  searched (z ∷ zs) here l next =
-      compared_all (z ∷ zs) (here + 5 + length (z ∷ zs))
+  abbrev pub searched : List ℤ → (at here loop next : ℕ) → Code
+  searched [] at here l next = counted (number s l) ∷ []
+  searched (z ∷ zs) at here l next =
+      compared_all (z ∷ zs) at (here + 5 + length (z ∷ zs))
       ++ (counted (number s l) ∷ jump_to next ∷ counted (own element_place) ∷ jump_to (here + 2) ∷ [])
 
 -- ---- what an instruction names, and its data
@@ -206,6 +210,8 @@ module _ (defs : List Def) (parameters : ℕ → List Ty) (answer : Ty) (told : 
   data_of (core.Known (Num z) into) = Word z ∷ []
   data_of (core.Write t w ops part from) = zero_data t
   data_of (core.Print ps into from) = Text (format_text ps) ∷ []
+  data_of (core.Element t array index from) = Word index ∷ []
+  data_of (core.Next array loop named n) = map (λ z. Word z) named
   data_of (core.Return None) = zero_data answer
   data_of i = []
 
@@ -401,13 +407,14 @@ module _ (c : Site) where
   code_of (core.Skip k into decision from n) = skipped k into decision from (c.past n)
   code_of (core.Truth into from) = decided c.here op.Bnew (number s from) (middle.Imm (pos 0)) (number s into)
   code_of (core.Element t array index from) =
-      element_of array (operand.Imm index) ∷ moved s.adts t (record_number t) (in_slot s t from) (behind element_place 0)
+      element_of array (number_source (fits_source index) index c.at)
+      ∷ moved s.adts t (record_number t) (in_slot s t from) (behind element_place 0)
   code_of (core.Start loop) = inst op.Movw (operand.Imm (pos 0)) middle.None (number s loop) ∷ let_go s loop ∷ []
   code_of (core.Next array loop named n) =
       inst op.Movw (number s loop) middle.None (own element_place)
       ∷ inst op.Lena (reference s array) middle.None (own passing_place)
       ∷ inst op.Bgew (own element_place) (of_own passing_place) (operand.Imm (pos (c.past n)))
-      ∷ searched s named c.here loop (c.past 0)
+      ∷ searched s named c.at c.here loop (c.past 0)
   code_of (core.Other t array loop from) =
       inst op.Subw (operand.Imm (pos 1)) (number_middle s loop) (own passing_place)
       ∷ element_of array (own passing_place) ∷ moved s.adts t (record_number t) (in_slot s t from) (behind element_place 0)

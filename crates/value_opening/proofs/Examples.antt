@@ -111,11 +111,23 @@ notes_texts = refl
 notes_spelled : AreSpelled (object_of notes).items
 notes_spelled = (
   λ e. (codes "$Sys", (refl, refl)),
-  (λ e. (codes "ab", (refl, refl)), (λ e. absurd cc, (λ e. absurd cc, (λ e. absurd cc, (λ e. absurd cc, (λ e. absurd cc, tt)))))),
+  (
+    λ e. (codes "ab", (refl, refl)),
+    (λ e. absurd cc, (λ e. absurd cc, (λ e. absurd cc, (λ e. absurd cc, (λ e. absurd cc, (λ e. absurd cc, (λ e. absurd cc, tt))))))),
+  ),
 )
 
 notes_ints : Each IsOfInt (all_data_of notes)
-notes_ints = (tt, (few 2 (omega arith), (few 1 (omega arith), (few 2 (omega arith), (few 1 (omega arith), (few 1 (omega arith), tt))))))
+notes_ints = (
+  tt,
+  (
+    few 2 (omega arith),
+    (
+      few 1 (omega arith),
+      (few 0 (omega arith), (few 2 (omega arith), (few 1 (omega arith), (few 1 (omega arith), (few 1 (omega arith), tt))))),
+    ),
+  ),
+)
   where
     few : (n : ℕ) → n ≤ 2 → InRange kind.Int (pos n)
     few n l = record { above = omega (arith, ints, l); below = omega (arith, ints, l) }
@@ -208,7 +220,7 @@ lengthy_sound = record {
   exceptions = tt;
 }
 
-lengthy_data : all_data_of lengthy ≡ datum.Word (pos 2147483648) ∷ datum.Word (pos 0) ∷ []
+lengthy_data : all_data_of lengthy ≡ datum.Word (pos 2147483648) ∷ datum.Word (pos 0) ∷ datum.Word (pos 2147483647) ∷ []
 lengthy_data = refl
 
 -- Nothing stands for such an int.

@@ -31,7 +31,7 @@ use Rattle.limbo_kept.specs.Modules.{outline_of, signature_of}
 use Rattle.limbo_kept.proofs.Fitted.{room_of_part}
 use Rattle.limbo_kept.proofs.Opening.{modules_keep_types}
 use Rattle.core_code.specs.Code.{Instr, Give, Gather, Pick, Known, Write, CopyInto, Call, Print, Skip, Truth, Element}
-use Rattle.core_code.specs.Code.{Other, Keep, Drop, Mirror, Unless, Jump, Back, Return, Function}
+use Rattle.core_code.specs.Code.{Next, Other, Keep, Drop, Mirror, Unless, Jump, Back, Return, Function}
 use Rattle.core_code.specs.Terms as terms
 use Rattle.core_code.specs.Terms.{Lowered, LoweredAll, Moved, is_moved, drop_after, drops_after, drops_after_all, drops_from, drops_if}
 use Rattle.core_code.specs.Terms.{writes, cells, cell_drops, list_code, node, others, lower, lower_all, lower_items, lower_rest, slot_at}
@@ -397,6 +397,10 @@ module _ (m : typed.Module) where
   constant_fine t (constant.Number z) i = (tt, tt)
   constant_fine t (constant.Chars cs) i = (tt, tt)
 
+  words_fine : (zs : List ℤ) → Each Fine (map (λ z. Word z) zs)
+  words_fine [] = tt
+  words_fine (z ∷ zs) = (tt, words_fine zs)
+
   module _ (answer : Ty) (g : Function) (room : HasRoom m.adts answer) where
     given_fine : (pc : ℕ) (t : Ty) (o : Work) (into : ℕ) (from : List ℕ) → Good m.adts (Give t o into from)
         → Each Fine (data_at m answer g pc (Give t o into from))
@@ -413,6 +417,8 @@ module _ (m : typed.Module) where
     instr_fine pc (Known v into) h = known_fine pc v into
     instr_fine pc (Write t w ops part from) h = zero_fine t h
     instr_fine pc (Print ps into from) h = (tt, tt)
+    instr_fine pc (Element t array index from) h = (tt, tt)
+    instr_fine pc (Next array loop named n) h = words_fine named
     instr_fine pc (Return None) h = zero_fine answer room
     instr_fine pc _ h = tt
 
