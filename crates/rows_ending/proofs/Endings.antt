@@ -29,7 +29,7 @@ use Rattle.value_code.specs.Data.{OfRecord}
 use Rattle.value_code.specs.Code.{Site, code_of, zeroed}
 use Rattle.number_effects.proofs.Control.{control_goes}
 use Rattle.number_effects.proofs.Stepping.{steps_obey}
-use Rattle.value_follows.specs.Stands.{Ready, AllWait, none_waits, waits_below, AnswerGoes, types_of}
+use Rattle.value_follows.specs.Stands.{Answer, Awaited, Ready, Waits, AllWait, none_waits, waits_below, AnswerGoes, types_of}
 use Rattle.value_follows.specs.Sides.{sides, HoldTheSame, program}
 use Rattle.value_follows.specs.Rows.{Base, site_of}
 use Rattle.value_follows.proofs.Single.{Once, single, both_go, both_end}
@@ -78,15 +78,16 @@ module _ (m : typed.Module) (b : Base m) (k : Facts) (i : ℕ) (w : Shared) (x :
         nothing_code (site_of m ready.stands.is.number ready.stands.is.function p.frame.pc (row m b k i w x p q ready hold worlds (Return from) here).at)
         from (sym ready.stands.is.answer ∙ nothing_there)
 
-    go_back : (t : Ty) (gs : List code.Frame) (fs : List Frame) → t ≡ ty.Nothing → p.frame.answer ≡ t → p.below ≡ gs → q.below ≡ fs
-        → AllWait m k i x t q.frame gs fs → Once m b i p q k w x
-    go_back t _ _ e s f g (none_waits c) =
+    go_back : (a : Answer) (t : Ty) (gs : List code.Frame) (fs : List Frame) → a ≡ Awaited → t ≡ ty.Nothing → p.frame.answer ≡ t
+        → p.below ≡ gs → q.below ≡ fs → AllWait m k i x a t q.frame gs fs → Once m b i p q k w x
+    go_back _ t _ _ none e s f g (none_waits a c) =
         both_end m b i p q k w x worlds Ended
         (steps_obey.does frames_limit (object_of m ∷ []) x q (object_of m) ret (Ends x Ended)
         (first m b k i w x p q ready hold worlds (Return from) here ret reaches_it)
         (control_goes.ret_last frames_limit (object_of m) x q ret refl g))
         (returns ∙ ap (λ below. code.returns m.adts w p below (given p.frame.slots from)) f)
-    go_back t _ _ e s f g (waits_below u c h l gs fs waits rest) =
+    go_back _ t _ _ none e s f g (waits_below a u c h l gs fs waiting rest) =
+        let waits = subst (λ o. Waits m k i x o h l u c) none waiting in
         let v = fitted m.adts p.frame.answer (given p.frame.slots from) in
         let empty : v ≡ nothing = ap (λ t. fitted m.adts t (given p.frame.slots from)) nothing_there in
         both_go m b i p q k w x hold worlds (code.with_frames p (code.answered h v) gs) (with_frames q l fs q.made)
@@ -99,22 +100,22 @@ module _ (m : typed.Module) (b : Base m) (k : Facts) (i : ℕ) (w : Shared) (x :
         u (all_of m.adts u) v
         (subst (λ y. ValueStands m.adts k l.words (number_place m.adts (types_of m waits.is.function) h.into)
         (reference_place m.adts (types_of m waits.is.function) h.into) y u v) (sym (ap form_of e))
-        (subst (λ y. AnswerGoes m k i x y u l (types_of m waits.is.function) h.into c waits.is.words.own) (ap form_of e) waits.answer))
+        (empty, subst (λ y. AnswerGoes m k i x Awaited y u l (types_of m waits.is.function) h.into c waits.is.words.own) (ap form_of e) waits.answer))
         (λ a n f. let d = ap (λ y. slice_get (references y) a) empty in absurd cc)))
 
 pub nothing_returns : NothingReturns
 nothing_returns m b from k i x p q ready form here =
     single m b i p q k x ready (λ now w y r hold worlds.
     let none = nowhere_is p.frame.answer form in
-    go_back m b now i w y p q r hold worlds from here none p.frame.answer p.below q.below none refl refl refl r.stands.waits)
+    go_back m b now i w y p q r hold worlds from here none Awaited p.frame.answer p.below q.below refl none refl refl refl r.stands.waits)
 
 -- where no frame waits the function gives none
-no_answer : (m : typed.Module) (k : Facts) (i : ℕ) (x : World) (t : Ty) (c : Frame) (gs : List code.Frame) (fs : List Frame)
-    → AllWait m k i x t c gs fs → gs ≡ [] → t ≡ ty.Nothing
-no_answer m k i x _ _ _ _ (none_waits c) e = refl
-no_answer m k i x _ _ _ _ (waits_below t c g f gs fs w rest) e = absurd cc
+no_answer : (m : typed.Module) (k : Facts) (i : ℕ) (x : World) (a : Answer) (t : Ty) (c : Frame) (gs : List code.Frame) (fs : List Frame)
+    → AllWait m k i x a t c gs fs → gs ≡ [] → t ≡ ty.Nothing
+no_answer m k i x _ _ _ _ _ (none_waits a c) e = refl
+no_answer m k i x _ _ _ _ _ (waits_below a t c g f gs fs w rest) e = absurd cc
 
 pub ends_go : EndsGo
 ends_go m b from k i x p q ready none here =
     nothing_returns m b from k i x p q ready
-    (ap form_of (no_answer m k i x p.frame.answer q.frame p.below q.below ready.0.stands.waits none)) here
+    (ap form_of (no_answer m k i x Awaited p.frame.answer q.frame p.below q.below ready.0.stands.waits none)) here

@@ -36,7 +36,7 @@ use Rattle.number_effects.proofs.Reading.{operands_are_read}
 use Rattle.number_effects.proofs.Records.{words_move}
 use Rattle.number_effects.proofs.Stepping.{steps_obey}
 use Rattle.dis_memory.specs.Step.{obey}
-use Rattle.value_follows.specs.Stands.{Ready, Waits, AllWait, types_of}
+use Rattle.value_follows.specs.Stands.{Awaited, Ready, Waits, AllWait, types_of}
 use Rattle.value_follows.specs.Sides.{sides, HoldTheSame}
 use Rattle.value_follows.specs.Rows.{Base}
 use Rattle.value_follows.proofs.Standing.{instance_here}
@@ -131,10 +131,10 @@ module _ (m : typed.Module) (b : Base m) (i : ℕ) (p : code.Process) (here : sl
 
   module _ (k : Facts) (w : Shared) (x : World) (q : Process) (ready : Ready m k i x p q) (hold : HoldTheSame m k i x p q)
       (worlds : (sides m).worlds k w x) (h : code.Frame) (l : Frame) (gs : List code.Frame) (fs : List Frame) (f : p.below ≡ h ∷ gs)
-      (g : q.below ≡ l ∷ fs) (waits : Waits m k i x h l p.frame.answer q.frame) (rest : AllWait m k i x h.answer l gs fs) where
+      (g : q.below ≡ l ∷ fs) (waits : Waits m k i x Awaited h l p.frame.answer q.frame) (rest : AllWait m k i x Awaited h.answer l gs fs) where
     nil_read : source_reference x q nil_word ≡ Found None
     nil_read =
-        let instance = instance_here m b k i w x p q None ready.stands.is hold worlds.0 in
+        let instance = instance_here m b k i w x p q [] ready.stands.is hold worlds.0 in
         let stands = (instance.2 (placed m 4 ty.Nil (Ref None)) (inr (inl refl))).stands in
         operands_are_read.source_referring x q nil_word instance.0 4 (spots_lead.of_module x q 0 instance.0 4 instance.1).0
         ∙ ap (λ (a : Access Word). a >>= reference) (nil_refers m.adts k instance.0 4 ty.Nil (Ref None) refl stands)

@@ -51,7 +51,7 @@ use Rattle.number_effects.proofs.Numbers.{numbers_work}
 use Rattle.number_effects.proofs.Reading.{operands_are_read}
 use Rattle.number_effects.proofs.Records.{words_move}
 use Rattle.number_effects.proofs.Stepping.{steps_obey}
-use Rattle.value_follows.specs.Stands.{Ready, Waits, AllWait, types_of}
+use Rattle.value_follows.specs.Stands.{Awaited, Ready, Waits, AllWait, types_of}
 use Rattle.value_follows.specs.Sides.{sides, HoldTheSame}
 use Rattle.value_follows.specs.Rows.{Base, site_of}
 use Rattle.value_follows.proofs.Standing.{finds, code_here}
@@ -193,7 +193,7 @@ module _ (m : typed.Module) (k : Facts) (i : ℕ) (x : World) (p : code.Process)
   giving (Some r) here =
       let is = ready.stands.is in
       let there = code_here m k i x p q ready (Return (Some r)) here in
-      let n = number_is m k i x None p.frame q.frame is j r form (uses m k i x None p.frame q.frame is p.frame.pc (Return (Some r)) there) (λ e. absurd cc)
+      let n = number_is m k i x [] p.frame q.frame is j r form (uses m k i x [] p.frame q.frame is p.frame.pc (Return (Some r)) there) (λ e. e)
       (subst (λ t. IsA is.known r t) (sym is.answer ∙ same) (finds m is.function p.frame.pc is.known (Return (Some r)) ready.stands.goes there)) in
       record {
         number = n.number;
@@ -219,7 +219,7 @@ module _ (m : typed.Module) (b : Base m) (i : ℕ) (from : Option ℕ) (p : code
 
   module _ (k : Facts) (w : Shared) (x : World) (q : Process) (ready : Ready m k i x p q) (hold : HoldTheSame m k i x p q)
       (worlds : (sides m).worlds k w x) (h : code.Frame) (l : Frame) (gs : List code.Frame) (fs : List Frame) (f : p.below ≡ h ∷ gs)
-      (g : q.below ≡ l ∷ fs) (waits : Waits m k i x h l p.frame.answer q.frame) (rest : AllWait m k i x h.answer l gs fs) where
+      (g : q.below ≡ l ∷ fs) (waits : Waits m k i x Awaited h l p.frame.answer q.frame) (rest : AllWait m k i x Awaited h.answer l gs fs) where
     abbrev at_site : Site
     at_site = site_here m b i from p mover two gives_some here k w x q ready hold worlds
 

@@ -2,6 +2,7 @@
 use Rattle.std.proofs.Common.{◌≡◌, ℕ, Bool, true, false, zero, suc, pos, ◌/◌, ◌%◌, ◌==◌, ◌<◌, List, [], ◌∷◌, length, Option, Some, None, refl, ap, ◌∙◌, subst, arith, inl, inr}
 use Rattle.std.proofs.Common.{if◌then◌else◌}
 use Rattle.std.specs.Prelude.{slice_get}
+use Rattle.std.proofs.lemmas.Bool.Decides.{eqb_tells}
 use Rattle.limbo_types.specs.Types.{Ty}
 use Rattle.limbo_layout.specs.Adts.{Has}
 use Rattle.limbo_typed.specs.Typed as typed
@@ -22,7 +23,7 @@ use Rattle.value_frames.specs.Later.{AreMadeBy}
 use Rattle.value_frames.proofs.Slots.{slots_change, put_long}
 use Rattle.value_frames.proofs.Later.{frames_later}
 use Rattle.value_moves.proofs.Changing.{low_or_high}
-use Rattle.value_follows.specs.Stands.{types_of, AnswerGoes, Waits, AllWait, Ready}
+use Rattle.value_follows.specs.Stands.{types_of, Awaited, AnswerGoes, Waits, AllWait, Ready}
 
 -- ---- the slot that waits is one of the frame's: its word that refers is there
 
@@ -45,7 +46,7 @@ word_inside words at w e = go (at % 4 == 0) e
     go false e = absurd cc
 
 module _ (m : typed.Module) (k : Facts) (i : ℕ) (x : World) (t : Ty) (f : Frame) (types : List Ty) (into : ℕ) (callee : Frame) (own : ℕ → List ℕ) where
-  refers_there : (form : Form) → AnswerGoes m k i x form t f types into callee own
+  refers_there : (form : Form) → AnswerGoes m k i x Awaited form t f types into callee own
       → (r : Option ℕ) × (word_at f.words (pos (reference_place m.adts types into)) ≡ Found (Refer r))
   refers_there Nowhere a = (a.0, a.1)
   refers_there AsNumber a = (a.0.0, a.0.1)
@@ -53,7 +54,7 @@ module _ (m : typed.Module) (k : Facts) (i : ℕ) (x : World) (t : Ty) (f : Fram
   refers_there Boxed a = (Some a.0, a.2.word)
 
 pub slot_below : (m : typed.Module) (k : Facts) (i : ℕ) (x : World) (g : code.Frame) (f : Frame) (t : Ty) (callee : Frame)
-    → Waits m k i x g f t callee → g.into < length g.slots
+    → Waits m k i x Awaited g f t callee → g.into < length g.slots
 slot_below m k i x g f t callee w =
     let types = types_of m w.is.function in
     let r = refers_there m k i x t f types g.into callee w.is.words.own (form_of t) w.answer in
@@ -63,7 +64,10 @@ slot_below m k i x g f t callee w =
 
 -- ---- a frame that waits has its answer
 
-module _ (m : typed.Module) (k : Facts) (i : ℕ) (x : World) (g : code.Frame) (f : Frame) (t : Ty) (callee : Frame) (w : Waits m k i x g f t callee) (v : Value)
+alone : (s : ℕ) → held.without s (s ∷ []) ≡ []
+alone s = elim (eqb_tells s s) [ inl y ↦ ap (λ (b : Bool). if b then [] else s ∷ []) y.0 | inr y ↦ absurd (y.1 refl) ]
+
+module _ (m : typed.Module) (k : Facts) (i : ℕ) (x : World) (g : code.Frame) (f : Frame) (t : Ty) (callee : Frame) (w : Waits m k i x Awaited g f t callee) (v : Value)
   where
     abbrev pub types : List Ty
     types = types_of m w.is.function
@@ -75,20 +79,21 @@ module _ (m : typed.Module) (k : Facts) (i : ℕ) (x : World) (g : code.Frame) (
     Answers =
         SlotStands m.adts k x.heap f.serial f.words (number_place m.adts types g.into) (reference_place m.adts types g.into) held_then (Holds v) []
 
-    abbrev Then : Type 0
-    Then =
-        (after : WordsAre m.adts k x.heap f.serial None types (held.put w.is.known g.into held_then) g.variables (core.put g.slots g.into (Holds v)) f.words)
+    abbrev Then : List ℕ → Type 0
+    Then busy =
+        (after : WordsAre m.adts k x.heap f.serial busy types (held.put w.is.known g.into held_then) g.variables (core.put g.slots g.into (Holds v)) f.words)
         × AreMadeBy k i after.own
 
-    answer_known : Answers → Then
+    answer_known : Answers → Then []
     answer_known stands =
         let are = w.is.words in
         let l = slot_below m k i x g f t callee w in
-        let owned = (frames_later m.adts k x.heap f.serial (Some g.into) types w.is.known g.variables g.slots f.words are).owned in
-        let after = slots_change.slot m.adts k k x.heap x.heap f.serial (Some g.into) types w.is.known g.variables g.slots f.words f.words g.into
-        held_then (Holds v) [] are (inr refl)
+        let owned = (frames_later m.adts k x.heap f.serial (g.into ∷ []) types w.is.known g.variables g.slots f.words are).owned in
+        let after = slots_change.slot m.adts k k x.heap x.heap f.serial (g.into ∷ []) types w.is.known g.variables g.slots f.words f.words g.into
+        held_then (Holds v) [] are
         (record { facts = λ n f e. e; makers = λ n j e. e; forms = λ n o e. e }) l (record { each = λ w no. refl }) are.kind stands tt
-        (λ u b ne h. (λ e. e, ((owned u b h).0, refl))) in (
+        (λ u b ne h. (λ e. e, ((owned u b h).0, refl))) in
+        subst Then (alone g.into) (
           after.after,
           λ u b h. elim (low_or_high u g.into) [
             | inl low ↦ w.is.mine u b (subst (λ o. Has o b) (after.elsewhere u (λ e. omega (arith, e, low))) h)
@@ -102,7 +107,7 @@ module _ (m : typed.Module) (k : Facts) (i : ℕ) (x : World) (g : code.Frame) (
         )
 
     module _ (p : code.Process) (q : Process) (gs : List code.Frame) (fs : List Frame) (number : p.number ≡ q.number) (none_made : q.made ≡ [])
-        (waits : AllWait m k i x g.answer f gs fs) where
+        (waits : AllWait m k i x Awaited g.answer f gs fs) where
       pub ready_back : Answers → Ready m k i x (code.with_frames p (code.answered g v) gs) (with_frames q f fs q.made)
       ready_back stands =
           let known = answer_known stands in

@@ -1,5 +1,5 @@
 -- A frame that waits for an answer, and does so with something else in its slot.
-use Rattle.std.proofs.Common.{◌≡◌, ◌⊎◌, ℕ, Bool, true, false, pos, ◌+◌, ◌*◌, ◌/◌, ◌%◌, ◌==◌, ◌<◌, ◌≤◌, List, [], ◌∷◌, ◌++◌, length, map, Some, refl, sym, ap, ◌∙◌, subst, arith, inl, inr}
+use Rattle.std.proofs.Common.{◌≡◌, ◌⊎◌, ℕ, Bool, true, false, pos, ◌+◌, ◌*◌, ◌/◌, ◌%◌, ◌==◌, ◌<◌, ◌≤◌, List, [], ◌∷◌, ◌++◌, length, map, refl, sym, ap, ◌∙◌, subst, arith, inl, inr}
 use Rattle.std.proofs.Common.{if◌then◌else◌}
 use Rattle.std.specs.Prelude.{slice_get, nat_eq}
 use Rattle.std.proofs.lemmas.Bool.Decides.{eqb_tells}
@@ -22,7 +22,7 @@ use Rattle.value_frames.proofs.Replacing.{kinds_stay}
 use Rattle.value_frames.proofs.Later.{frames_later}
 use Rattle.value_moves.specs.Changing.{Changes}
 use Rattle.value_moves.proofs.Changing.{low_or_high}
-use Rattle.value_follows.specs.Stands.{types_of, AnswerGoes, Waits, AllWait, none_waits, waits_below}
+use Rattle.value_follows.specs.Stands.{types_of, Answer, Awaited, AnswerGoes, Waits, AllWait, none_waits, waits_below}
 use Rattle.value_follows.proofs.Standing.{all_wait}
 use Rattle.value_follows.proofs.Putting.{NumberWord, number_word}
 use Rattle.rows_ending.proofs.Returning.{slot_below}
@@ -59,16 +59,16 @@ older_unchanged s new f l = elim (eqb_tells f.serial s) [
 
 module _ (m : typed.Module) (k : Facts) (i : ℕ) (x : World) where
   -- frames that wait are older than the one that they wait for
-  others_stay : (s : ℕ) (new : List Word) (t : Ty) (c : Frame) (gs : List code.Frame) (fs : List Frame) → c.serial ≤ s
-      → AllWait m k i x t c gs fs → map (change s new) fs ≡ fs
-  others_stay s new _ _ _ _ l (none_waits c) = refl
-  others_stay s new _ _ _ _ l (waits_below t c g f gs fs w rest) =
+  others_stay : (s : ℕ) (new : List Word) (a : Answer) (t : Ty) (c : Frame) (gs : List code.Frame) (fs : List Frame) → c.serial ≤ s
+      → AllWait m k i x a t c gs fs → map (change s new) fs ≡ fs
+  others_stay s new _ _ _ _ _ l (none_waits a c) = refl
+  others_stay s new _ _ _ _ _ l (waits_below a t c g f gs fs w rest) =
       let o = w.older in
       ap (λ h. h ∷ map (change s new) fs) (older_unchanged s new f (omega (arith, o, l)))
-      ∙ ap (λ hs. f ∷ hs) (others_stay s new g.answer f gs fs (omega (arith, o, l)) rest)
+      ∙ ap (λ hs. f ∷ hs) (others_stay s new Awaited g.answer f gs fs (omega (arith, o, l)) rest)
 
   module _ (t : Ty) (q : Process) (g : code.Frame) (f : Frame) (gs : List code.Frame) (fs : List Frame) (below : q.below ≡ f ∷ fs) (none_made : q.made ≡ [])
-      (w : Waits m k i x g f t q.frame) (rest : AllWait m k i x g.answer f gs fs) where
+      (w : Waits m k i x Awaited g f t q.frame) (rest : AllWait m k i x Awaited g.answer f gs fs) where
     pub words_found : words_in f.serial (all_frames q) ≡ Found f.words
     words_found =
         let o = w.older in
@@ -84,11 +84,11 @@ module _ (m : typed.Module) (k : Facts) (i : ℕ) (x : World) where
         ∙ ap (λ (hs : List Frame). with_frames q q.frame (change f.serial new f ∷ map (change f.serial new) fs) (map (change f.serial new) hs)) none_made
         ∙ ap (λ (h : Frame). with_frames q q.frame (h ∷ map (change f.serial new) fs) []) (changed_here f new)
         ∙ ap (λ (hs : List Frame). with_frames q q.frame (with_words f new ∷ hs) [])
-        (others_stay f.serial new g.answer f gs fs (omega arith) rest)
+        (others_stay f.serial new Awaited g.answer f gs fs (omega arith) rest)
 
   -- ---- something is stored in the slot
 
-  module _ (t : Ty) (g : code.Frame) (f : Frame) (callee : Frame) (w : Waits m k i x g f t callee) where
+  module _ (t : Ty) (g : code.Frame) (f : Frame) (callee : Frame) (w : Waits m k i x Awaited g f t callee) where
     abbrev pub types : List Ty
     types = types_of m w.is.function
 
@@ -96,8 +96,8 @@ module _ (m : typed.Module) (k : Facts) (i : ℕ) (x : World) where
     n_at = number_place m.adts types g.into
 
     -- where the answer goes, of one form
-    pub goes_to : (form : Form) → form_of t ≡ form → AnswerGoes m k i x form t f types g.into callee w.is.words.own
-    goes_to form e = subst (λ o. AnswerGoes m k i x o t f types g.into callee w.is.words.own) e w.answer
+    pub goes_to : (form : Form) → form_of t ≡ form → AnswerGoes m k i x Awaited form t f types g.into callee w.is.words.own
+    goes_to form e = subst (λ o. AnswerGoes m k i x Awaited o t f types g.into callee w.is.words.own) e w.answer
 
     pub old_word : NumberWord m.adts types (length g.slots) f.words w.is.words.laid w.is.words.kind g.into (slot_below m k i x g f t callee w)
     old_word =
@@ -124,16 +124,16 @@ module _ (m : typed.Module) (k : Facts) (i : ℕ) (x : World) where
           kinds_stay.all (frame_bytes m.adts types (length g.slots)) (frame_references m.adts types (length g.slots)) f.words others
           w.is.words.kind changes.many changes.refer changes.referred ranged
 
-      words_then : (after : WordsAre m.adts k x.heap f.serial (Some g.into) types w.is.known g.variables g.slots others) × (after.own ≡ w.is.words.own)
+      words_then : (after : WordsAre m.adts k x.heap f.serial (g.into ∷ []) types w.is.known g.variables g.slots others) × (after.own ≡ w.is.words.own)
       words_then =
           let are = w.is.words in
-          let owned = (frames_later m.adts k x.heap f.serial (Some g.into) types w.is.known g.variables g.slots f.words are).owned in
-          slots_change.within m.adts k k x.heap x.heap f.serial types w.is.known g.variables g.slots f.words others g.into are
+          let owned = (frames_later m.adts k x.heap f.serial (g.into ∷ []) types w.is.known g.variables g.slots f.words are).owned in
+          slots_change.within m.adts k k x.heap x.heap f.serial (g.into ∷ []) types w.is.known g.variables g.slots f.words others g.into are (inl refl)
           (record { facts = λ n f e. e; makers = λ n j e. e; forms = λ n o e. e }) else_as_was kind_stays (λ u b h. ((owned u b h).0, refl))
 
       -- it waits still, where its answer goes there as before
-      pub waits_then : (form : Form) → form_of t ≡ form → AnswerGoes m k i x form t (with_words f others) types g.into callee w.is.words.own
-          → Waits m k i x g (with_words f others) t callee
+      pub waits_then : (form : Form) → form_of t ≡ form → AnswerGoes m k i x Awaited form t (with_words f others) types g.into callee w.is.words.own
+          → Waits m k i x Awaited g (with_words f others) t callee
       waits_then form e answer =
           let now = words_then in
           record {
@@ -154,11 +154,11 @@ module _ (m : typed.Module) (k : Facts) (i : ℕ) (x : World) where
             goes = w.goes;
             pc = w.pc;
             spare = stays (spare_place m.adts types) (inl (omega (arith, from))) ∙ w.spare;
-            answer = subst (λ (own : ℕ → List ℕ). AnswerGoes m k i x (form_of t) t (with_words f others) types g.into callee own) (sym now.1)
-                (subst (λ o. AnswerGoes m k i x o t (with_words f others) types g.into callee w.is.words.own) (sym e) answer);
+            answer = subst (λ (own : ℕ → List ℕ). AnswerGoes m k i x Awaited (form_of t) t (with_words f others) types g.into callee own) (sym now.1)
+                (subst (λ o. AnswerGoes m k i x Awaited o t (with_words f others) types g.into callee w.is.words.own) (sym e) answer);
             older = w.older;
             unnamed = w.unnamed;
           }
 
-      pub rest_then : (gs : List code.Frame) (fs : List Frame) → AllWait m k i x g.answer f gs fs → AllWait m k i x g.answer (with_words f others) gs fs
-      rest_then gs fs rest = all_wait m k i x g.answer f (with_words f others) gs fs refl (stays answer_place (inl (omega (arith, from)))) rest
+      pub rest_then : (gs : List code.Frame) (fs : List Frame) → AllWait m k i x Awaited g.answer f gs fs → AllWait m k i x Awaited g.answer (with_words f others) gs fs
+      rest_then gs fs rest = all_wait m k i x Awaited g.answer f (with_words f others) gs fs refl (stays answer_place (inl (omega (arith, from)))) rest

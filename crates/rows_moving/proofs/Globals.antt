@@ -1,5 +1,5 @@
 -- Parts of the module's variables that are read into slots.
-use Rattle.std.proofs.Common.{◌≡◌, ℕ, ℤ, true, suc, pos, ◌+◌, List, [], ◌∷◌, length, Some, None, refl, sym, ap, ◌∙◌, subst, arith, inl, inr}
+use Rattle.std.proofs.Common.{◌≡◌, ℕ, ℤ, true, suc, pos, ◌+◌, List, [], ◌∷◌, length, Some, refl, sym, ap, ◌∙◌, subst, arith, inl, inr}
 use Rattle.std.specs.Prelude.{slice_get, slice_index_or}
 use Rattle.heap_model.specs.Heap.{at, there}
 use Rattle.heap_model.specs.Facts.{Is}
@@ -207,7 +207,7 @@ ints_go m b v part into from k i x p q ready here =
     let z = number_there m.adts now part_is.words at ty.Int (part_at part part_is.value) kind.Int refl part_is.stands in
     let plainly = operands_are_read.int_is_plain part_is.words at z.number z.found in
     int_moved m b now i w y p q r hold worlds instr here into
-    (uses m now i y None p.frame q.frame is p.frame.pc instr (code_here m now i y p q r instr here)).0 found.3
+    (uses m now i y [] p.frame q.frame is p.frame.pc instr (code_here m now i y p q r instr here)).0 found.3
     refl (operand.Mp (pos at)) refl z.number
     (record {
       word = plainly.0;
@@ -229,7 +229,7 @@ bytes_go m b v part into from k i x p q ready here =
     let part_is = part_there m now i w y p q r hold worlds v part found.0 ty.Byte found.2.0 in
     let at = place m now i w y p q r hold worlds v part in
     let z = number_there m.adts now part_is.words at ty.Byte (part_at part part_is.value) kind.Byte refl part_is.stands in
-    let uses = uses m now i y None p.frame q.frame is p.frame.pc instr (code_here m now i y p q r instr here) in
+    let uses = uses m now i y [] p.frame q.frame is p.frame.pc instr (code_here m now i y p q r instr here) in
     let to = number_place m.adts (types_of m is.function) into in
     let move = inst op.Movb (operand.Mp (pos at)) middle.None (own to) in
     let old = (old_word m now i y p q r into uses.0 found.3).number kind.Byte refl in
@@ -256,7 +256,7 @@ references_go m b t v part into from form k i x p q ready here =
     let row_at = row m b now i w y p q r hold worlds instr here in
     let live = got_by m.adts t (Read (of_global v part)) in
     reference_stored m b now i w y p q r hold worlds instr here into
-    (uses m now i y None p.frame q.frame is p.frame.pc instr (code_here m now i y p q r instr here)).0 found.3
+    (uses m now i y [] p.frame q.frame is p.frame.pc instr (code_here m now i y p q r instr here)).0 found.3
     (ap (λ (c : Code). length c)
     (read_code (blank_site m is.function.of.answer (of_function m is.function) p.frame.pc) t v part into from form))
     (operand.Mp (pos at))

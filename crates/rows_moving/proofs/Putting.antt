@@ -1,5 +1,5 @@
 -- A value that comes into the words of a slot which names nothing, and two processes that stand for one another then.
-use Rattle.std.proofs.Common.{◌≡◌, ℕ, Bool, true, false, suc, pos, ◌+◌, ◌*◌, ◌/◌, ◌%◌, ◌==◌, ◌<◌, ◌≤◌, List, [], length, None, refl, ap, ◌∙◌, subst, arith, inl, inr}
+use Rattle.std.proofs.Common.{◌≡◌, ℕ, Bool, true, false, suc, pos, ◌+◌, ◌*◌, ◌/◌, ◌%◌, ◌==◌, ◌<◌, ◌≤◌, List, [], length, refl, ap, ◌∙◌, subst, arith, inl, inr}
 use Rattle.std.proofs.Common.{if◌then◌else◌}
 use Rattle.std.specs.Prelude.{slice_get}
 use Rattle.limbo_types.specs.Types.{Ty}
@@ -52,9 +52,9 @@ module _ (m : typed.Module) (k : Facts) (i : ℕ) (x : World) (p : code.Process)
         → Ready m k i x (at_slots m k i x p q r (suc p.frame.pc) (core.put p.frame.slots s v)) (at_words m k i x p q r to others)
     ready_given h v stands to there goes =
         let are = r.stands.is.words in
-        let owned = (frames_later m.adts k x.heap q.frame.serial None types r.stands.is.known p.frame.variables p.frame.slots q.frame.words are).owned in
-        let after = slots_change.slot m.adts k k x.heap x.heap q.frame.serial None types r.stands.is.known p.frame.variables p.frame.slots
-        q.frame.words others s h v [] are (inl refl)
+        let owned = (frames_later m.adts k x.heap q.frame.serial [] types r.stands.is.known p.frame.variables p.frame.slots q.frame.words are).owned in
+        let after = slots_change.slot m.adts k k x.heap x.heap q.frame.serial [] types r.stands.is.known p.frame.variables p.frame.slots
+        q.frame.words others s h v [] are
         (record { facts = λ n f e. e; makers = λ n j e. e; forms = λ n o e. e }) l else_as_was kind stands tt
         (λ u b ne h. (λ e. e, ((owned u b h).0, refl))) in
         ready_on m k i x p q r (suc p.frame.pc) to (held.put r.stands.is.known s h) (core.put p.frame.slots s v) others

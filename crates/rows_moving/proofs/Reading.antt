@@ -1,5 +1,5 @@
 -- Parts of variables that are read into slots.
-use Rattle.std.proofs.Common.{◌≡◌, ℕ, ℤ, zero, suc, ◌+◌, List, [], ◌∷◌, length, Option, Some, None, refl, sym, ap, ◌∙◌, arith, inl, inr}
+use Rattle.std.proofs.Common.{◌≡◌, ℕ, ℤ, zero, suc, ◌+◌, List, [], ◌∷◌, length, Option, Some, refl, sym, ap, ◌∙◌, arith, inl, inr}
 use Rattle.std.specs.Prelude.{slice_get, slice_index_or}
 use Rattle.limbo_types.specs.Types as ty
 use Rattle.limbo_types.specs.Types.{Ty}
@@ -129,7 +129,7 @@ ints_go m b v part into from k i x p q ready here =
     let z = number_there m.adts now q.frame.words at ty.Int (part_at part part_is.value) kind.Int refl part_is.lies.stands in
     let plainly = operands_are_read.int_is_plain q.frame.words at z.number z.found in
     int_moved m b now i w y p q r hold worlds instr here into
-    (uses m now i y None p.frame q.frame is p.frame.pc instr (code_here m now i y p q r instr here)).0 found.3
+    (uses m now i y [] p.frame q.frame is p.frame.pc instr (code_here m now i y p q r instr here)).0 found.3
     refl (own at) refl z.number
     (record {
       word = plainly.0;
@@ -152,7 +152,7 @@ bytes_go m b v part into from k i x p q ready here =
     let part_is = part_there m now i y p q r v part found.0 ty.Byte found.2.0 in
     let at = place m now i y p q r v part in
     let z = number_there m.adts now q.frame.words at ty.Byte (part_at part part_is.value) kind.Byte refl part_is.lies.stands in
-    let uses = uses m now i y None p.frame q.frame is p.frame.pc instr (code_here m now i y p q r instr here) in
+    let uses = uses m now i y [] p.frame q.frame is p.frame.pc instr (code_here m now i y p q r instr here) in
     let to = number_place m.adts (types m now i y p q r) into in
     let move = inst op.Movb (own at) middle.None (own to) in
     let old = (old_word m now i y p q r into uses.0 found.3).number kind.Byte refl in
@@ -182,7 +182,7 @@ references_go m b t v part into from form k i x p q ready here =
     let row_at = row m b now i w y p q r hold worlds instr here in
     let live = got_by m.adts t (Read (of_local v part)) in
     reference_stored m b now i w y p q r hold worlds instr here into
-    (uses m now i y None p.frame q.frame is p.frame.pc instr (code_here m now i y p q r instr here)).0 found.3
+    (uses m now i y [] p.frame q.frame is p.frame.pc instr (code_here m now i y p q r instr here)).0 found.3
     (ap (λ (c : Code). length c)
     (read_code (blank_site m is.function.of.answer (of_function m is.function) p.frame.pc) t v part into from form))
     (own at)

@@ -133,7 +133,7 @@ module _ (m : typed.Module) (b : Base m) (k : Facts) (i : ℕ) (w : Shared) (x :
       → (r : Option ℕ) × (source_reference x q (operand.Mp (pos at)) ≡ Found r)
       × ((others : List Word) (to : ℕ) → word_at others (pos to) ≡ Found (Refer r) → Stands m.adts k others to t v)
   constant_read at t v form h =
-      let instance = instance_here m b k i w x p q None ready.stands.is hold worlds.0 in
+      let instance = instance_here m b k i w x p q [] ready.stands.is hold worlds.0 in
       let one = one_word m.adts k instance.0 at t v form (instance.2 (placed m at t v) h).stands in (
         one.refers,
         operands_are_read.source_referring x q (operand.Mp (pos at)) instance.0 at (spots_lead.of_module x q 0 instance.0 at instance.1).0
@@ -143,7 +143,7 @@ module _ (m : typed.Module) (b : Base m) (k : Facts) (i : ℕ) (w : Shared) (x :
 
   pub nil_read : source_reference x q nil_word ≡ Found None
   nil_read =
-      let instance = instance_here m b k i w x p q None ready.stands.is hold worlds.0 in
+      let instance = instance_here m b k i w x p q [] ready.stands.is hold worlds.0 in
       operands_are_read.source_referring x q nil_word instance.0 4 (spots_lead.of_module x q 0 instance.0 4 instance.1).0
       ∙ ap (λ (a : Access Word). a >>= reference)
       (nil_word_refers m.adts k instance.0 4 ty.Nil (Ref None) refl (instance.2 (placed m 4 ty.Nil (Ref None)) (inr (inl refl))).stands)
@@ -214,7 +214,7 @@ nils_go m b t into from form k i x p q ready here =
     let instr = Give t Nil into from in
     let found = finds m is.function p.frame.pc is.known instr r.stands.goes (code_here m now i y p q r instr here) in
     reference_stored m b now i w y p q r hold worlds instr here into
-    (uses m now i y None p.frame q.frame is p.frame.pc instr (code_here m now i y p q r instr here)).0 found.3
+    (uses m now i y [] p.frame q.frame is p.frame.pc instr (code_here m now i y p q r instr here)).0 found.3
     refl nil_word refl None (nil_read m b now i w y p q r hold worlds instr here) t (zero_of m.adts t) [] form
     (λ others to e. zero_stands m.adts now others to t form e) (zero_names m.adts t form)
     (behind_it m b now i w y p q r hold worlds instr here 0 (suc p.frame.pc) (held.put is.known into (Of t [])) (omega arith) refl)

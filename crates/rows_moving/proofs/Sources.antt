@@ -50,7 +50,7 @@ use Rattle.rows_moving.proofs.Variables.{has_path}
 
 -- ---- types that stand where others are asked for
 
-of_type : (h : Held) (u : Ty) → type_held h ≡ Some u → (live : List ℕ) × (h ≡ Of u live)
+pub of_type : (h : Held) (u : Ty) → type_held h ≡ Some u → (live : List ℕ) × (h ≡ Of u live)
 of_type (Of t ns) u e = (ns, ap (λ v. Of v ns) (same_some t u e))
 of_type (Decided b) u e = absurd cc
 of_type (Turns rs) u e = absurd cc
@@ -210,7 +210,7 @@ module _ (m : typed.Module) (k : Facts) (i : ℕ) (w : Shared) (x : World) (p : 
     slot_reads =
         let h = of_type (held.slot ready.stands.is.known s) t known in
         let stands = subst (λ h. SlotStands m.adts k x.heap q.frame.serial q.frame.words n_at r_at h (core.slot p.frame.slots s) own_blocks) h.1
-        (slot_is m k i x None p.frame q.frame ready.stands.is s l (λ e. absurd cc)) in
+        (slot_is m k i x [] p.frame q.frame ready.stands.is s l (λ e. e)) in
         let v = slots_rest.is_value m.adts k x.heap q.frame.serial q.frame.words n_at r_at t h.0 (core.slot p.frame.slots s) own_blocks stands in
         record {
           value = v.0;

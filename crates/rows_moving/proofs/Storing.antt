@@ -1,5 +1,5 @@
 -- A number or a reference that is stored as part of a variable, and two processes that stand for one another then.
-use Rattle.std.proofs.Common.{◌≡◌, ◌⊎◌, ℕ, ℤ, suc, pos, ◌+◌, ◌*◌, ◌/◌, ◌≤◌, List, [], ◌∷◌, length, Option, Some, None, refl, sym, ap, ◌∙◌, subst, arith, inl, inr}
+use Rattle.std.proofs.Common.{◌≡◌, ◌⊎◌, ℕ, ℤ, suc, pos, ◌+◌, ◌*◌, ◌/◌, ◌≤◌, List, [], ◌∷◌, length, Option, Some, refl, sym, ap, ◌∙◌, subst, arith, inl, inr}
 use Rattle.std.specs.Prelude.{slice_get, slice_set}
 use Rattle.limbo_types.specs.Types as ty
 use Rattle.limbo_types.specs.Types.{Ty}
@@ -46,7 +46,7 @@ use Rattle.number_effects.proofs.Numbers.{numbers_work}
 use Rattle.number_effects.proofs.Reading.{operands_are_read}
 use Rattle.number_effects.proofs.Records.{words_move}
 use Rattle.number_effects.proofs.Stepping.{steps_obey}
-use Rattle.value_follows.specs.Stands.{Ready, GoesOn, place_of}
+use Rattle.value_follows.specs.Stands.{Awaited, Ready, GoesOn, place_of}
 use Rattle.value_follows.specs.Sides.{sides, HoldTheSame}
 use Rattle.value_follows.specs.Rows.{Base}
 use Rattle.value_follows.proofs.Standing.{all_wait, at_words}
@@ -146,7 +146,7 @@ module _ (m : typed.Module) (k : Facts) (i : ℕ) (x : World) (p : code.Process)
         → GoesOn m r.stands.is.function (suc p.frame.pc) r.stands.is.known
         → Ready m k i x (at_variables (with_value new)) (at_words m k i x p q r at others)
     ready_stored at comes goes =
-        let after = slots_change.variables m.adts k x.heap q.frame.serial None ts r.stands.is.known p.frame.variables (with_value new) p.frame.slots
+        let after = slots_change.variables m.adts k x.heap q.frame.serial [] ts r.stands.is.known p.frame.variables (with_value new) p.frame.slots
         q.frame.words others r.stands.is.words else_as_was kind_stays row_lies.stand in
         record {
           stands = record {
@@ -166,7 +166,7 @@ module _ (m : typed.Module) (k : Facts) (i : ℕ) (x : World) (p : code.Process)
               fresh = r.stands.is.fresh;
             };
             goes = goes;
-            waits = all_wait m k i x p.frame.answer q.frame (at_words m k i x p q r at others).frame p.below q.below refl
+            waits = all_wait m k i x Awaited p.frame.answer q.frame (at_words m k i x p q r at others).frame p.below q.below refl
                 (stays answer_place (inl (omega arith))) r.stands.waits;
           };
           pc = comes;

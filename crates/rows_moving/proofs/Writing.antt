@@ -20,7 +20,7 @@ use Rattle.core_code.specs.Code.{Instr, Write}
 use Rattle.core_code.specs.Machine as code
 use Rattle.core_code.specs.Slots as core
 use Rattle.core_typing.specs.Held as held
-use Rattle.core_typing.specs.Held.{type_held}
+use Rattle.core_typing.specs.Held.{Of, type_held}
 use Rattle.core_typing.specs.Needs.{StandsAs, Fills}
 use Rattle.core_typing.specs.Going.{IsTold, Agrees}
 use Rattle.core_typing.specs.Written.{told}
@@ -36,7 +36,9 @@ use Rattle.dis_memory.specs.Blocks.{World}
 use Rattle.value_words.specs.Facts.{Facts}
 use Rattle.value_words.specs.Stands.{Stands}
 use Rattle.value_words.proofs.Wholes.{stands_whole}
-use Rattle.value_frames.specs.Frames.{AsNumber, AsReference, form_of, variable_place}
+use Rattle.value_frames.specs.Frames.{AsNumber, AsReference, form_of, variable_place, number_place, reference_place}
+use Rattle.value_frames.specs.Standing.{SlotStands}
+use Rattle.value_frames.proofs.Rest.{slots_rest}
 use Rattle.value_frames.specs.Frames as frames
 use Rattle.value_moves.specs.Operands.{Code, inst, own}
 use Rattle.value_stores.proofs.Places.{places_change}
@@ -45,17 +47,17 @@ use Rattle.value_code.specs.Data.{nil_word}
 use Rattle.value_code.specs.Operands.{part_in_slot}
 use Rattle.value_code.specs.Code.{Site, code_of, put, put_or_zero}
 use Rattle.number_effects.proofs.Reading.{operands_are_read}
-use Rattle.value_follows.specs.Stands.{Ready, GoesOn, scope}
+use Rattle.value_follows.specs.Stands.{Ready, GoesOn, scope, types_of}
 use Rattle.value_follows.specs.Sides.{sides, HoldTheSame, program}
 use Rattle.value_follows.specs.Rows.{Base, site_of}
 use Rattle.value_follows.proofs.Standing.{same_some, finds, code_here}
-use Rattle.value_follows.proofs.Slots.{uses, number_there}
+use Rattle.value_follows.proofs.Slots.{uses, number_there, slot_is}
 use Rattle.value_follows.proofs.Single.{Once, single}
 use Rattle.value_follows.proofs.Jumps.{row, behind_it}
-use Rattle.rows_moving.specs.Rows.{of_local, IsSimple, HasNothing, WritesGo}
+use Rattle.rows_moving.specs.Rows.{of_local, IsSimple, WritesGo}
 use Rattle.rows_moving.proofs.References.{nil_read, zero_stands}
 use Rattle.rows_moving.proofs.Variables.{function, place, part_there, PartThere}
-use Rattle.rows_moving.proofs.Sources.{same_form, same_number_type, has_parts, fits_word, SourceIs, slot_reads, source_is}
+use Rattle.rows_moving.proofs.Sources.{of_type, same_form, same_number_type, has_parts, fits_word, SourceIs, slot_reads, source_is}
 use Rattle.rows_moving.proofs.Storing.{with_value, byte_stored, int_stored, reference_written}
 
 -- ---- the row's code
@@ -162,7 +164,7 @@ module _ (m : typed.Module) (b : Base m) (k : Facts) (i : ℕ) (w : Shared) (x :
   real = site_of m ready.stands.is.number f p.frame.pc (row m b k i w x p q ready hold worlds instr here).at
 
   below_all : from < length p.frame.slots
-  below_all = (uses m k i x None p.frame q.frame ready.stands.is p.frame.pc instr (code_here m k i x p q ready instr here)).1
+  below_all = (uses m k i x [] p.frame q.frame ready.stands.is p.frame.pc instr (code_here m k i x p q ready instr here)).1
 
   module _ (there : PartThere m k i x p q ready v part t) where
     abbrev at_place : ℕ
@@ -310,8 +312,22 @@ module _ (m : typed.Module) (b : Base m) (k : Facts) (i : ℕ) (w : Shared) (x :
           number n f g = absurd cc
       zero_written (inr e) = reference_zero e
 
-  pub written : IsSimple t → HasNothing p from → Once m b i p q k w x
-  written simple has_nothing =
+  -- A slot that is known to be without parts has nothing.
+  empty_slot : type_held (held.slot known from) ≡ Some ty.Nothing → from_value ≡ nothing
+  empty_slot e =
+      let n = number_place m.adts (types_of m f) from in
+      let r = reference_place m.adts (types_of m f) from in
+      let own = ready.stands.is.words.own from in
+      let h = of_type (held.slot known from) ty.Nothing e in
+      let stands = subst (λ o. SlotStands m.adts k x.heap q.frame.serial q.frame.words n r o (core.slot p.frame.slots from) own) h.1
+      (slot_is m k i x [] p.frame q.frame ready.stands.is from below_all (λ e. e)) in
+      let v = slots_rest.is_value m.adts k x.heap q.frame.serial q.frame.words n r ty.Nothing h.0 (core.slot p.frame.slots from) own stands in
+      let reads = slots_rest.reads m.adts k x.heap q.frame.serial q.frame.words n r ty.Nothing h.0 v.0 own
+      (subst (λ l. SlotStands m.adts k x.heap q.frame.serial q.frame.words n r (Of ty.Nothing h.0) l own) v.1 stands) in
+      ap core.value_of v.1 ∙ (reads.nowhere refl).0
+
+  pub written : IsSimple t → Once m b i p q k w x
+  written simple =
       let row_is = code_here m k i x p q ready instr here in
       let found = finds m f p.frame.pc known instr ready.stands.goes row_is in
       let there = part_there m k i x p q ready v part found.0 t found.2 in
@@ -325,15 +341,12 @@ module _ (m : typed.Module) (b : Base m) (k : Facts) (i : ℕ) (w : Shared) (x :
           value_moved there u e (ap or_nothing tells.2 ∙ same) room y leads fits_as simple
       go there tells (inr (e, none, room)) =
           let same : tells.0 ≡ ty.Nothing = same_some tells.0 ty.Nothing (sym tells.1 ∙ e) in
-          let nothing_told = tells.2 ∙ ap (λ (u : Ty). Some u) same in
-          let code_same = ready.stands.is.code in
-          let value_is = has_nothing (ap (λ (c : List Instr). told c p.frame.pc from) code_same ∙ nothing_told) in
           zero_written there (ap or_nothing tells.2 ∙ same)
-          (ap (λ (ns : List ℕ). part_at ns from_value) none ∙ value_is) simple
+          (ap (λ (ns : List ℕ). part_at ns from_value) none ∙ empty_slot e) simple
 
 -- ---- the row
 
 pub writes_go : WritesGo
-writes_go m b t v part operands taken from simple k i x p q ready here has_nothing =
+writes_go m b t v part operands taken from simple k i x p q ready here =
     single m b i p q k x ready (λ now w y r hold worlds.
-    written m b now i w y p q r hold worlds t v part operands taken from here simple has_nothing)
+    written m b now i w y p q r hold worlds t v part operands taken from here simple)

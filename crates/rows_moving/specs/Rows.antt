@@ -1,21 +1,12 @@
 -- Rows of one instruction that move a value within a frame, or from the module's data to a frame, and change nothing else.
-use Rattle.std.specs.Prelude.{ℕ, ◌≡◌, ◌⊎◌, false, List, Some, slice_get}
-use Rattle.limbo_types.specs.Types as ty
+use Rattle.std.specs.Prelude.{ℕ, ◌≡◌, ◌⊎◌, false, List}
 use Rattle.limbo_types.specs.Types.{Ty}
 use Rattle.limbo_typed.specs.Typed as typed
 use Rattle.limbo_meaning.specs.Places.{Local, Global, Way}
 use Rattle.limbo_meaning.specs.Trees.{Nil, Read}
-use Rattle.limbo_meaning.specs.Values.{nothing}
 use Rattle.core_code.specs.Code as core
-use Rattle.core_code.specs.Machine as code
-use Rattle.core_code.specs.Slots.{slot, value_of}
-use Rattle.core_typing.specs.Written.{told}
-use Rattle.dis_meaning.specs.Process.{Process}
-use Rattle.dis_memory.specs.Blocks.{World}
-use Rattle.value_words.specs.Facts.{Facts}
 use Rattle.value_frames.specs.Frames.{AsNumber, AsReference, form_of}
-use Rattle.value_follows.specs.Sides.{sides}
-use Rattle.value_follows.specs.Rows.{Base, InstrGoes, RowGoes}
+use Rattle.value_follows.specs.Rows.{Base, InstrGoes}
 
 -- `nil` comes into a slot, as a value of a type whose values are references.
 abbrev pub NilsGo : Type 0
@@ -45,13 +36,8 @@ GlobalsGo =
     (m : typed.Module) → Base m → (t : Ty) (v : ℕ) (part : List ℕ) (into : ℕ) (from : List ℕ) → IsSimple t →
     InstrGoes m (core.Give t (Read (of_global v part)) into from)
 
--- In a slot that has a value without parts, as the code in front tells, nothing stands.
-abbrev pub HasNothing : code.Process → (from : ℕ) → Type 0
-HasNothing p from = told p.frame.code p.frame.pc from ≡ Some ty.Nothing → value_of (slot p.frame.slots from) ≡ nothing
-
 -- Part of a variable is written, with what a slot has or with part of that; or with zero, where the slot has a value without parts.
 abbrev pub WritesGo : Type 0
 WritesGo =
     (m : typed.Module) → Base m → (t : Ty) (v : ℕ) (part operands taken : List ℕ) (from : ℕ) → IsSimple t →
-    (k : Facts) (i : ℕ) (x : World) (p : code.Process) (q : Process) → (sides m).ready k i x p q →
-    slice_get p.frame.code p.frame.pc ≡ Some (core.Write t (of_local v part) operands taken from) → HasNothing p from → RowGoes m k i x p q
+    InstrGoes m (core.Write t (of_local v part) operands taken from)

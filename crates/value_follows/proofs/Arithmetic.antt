@@ -1,5 +1,5 @@
 -- What is calculated from two bytes or two ints.
-use Rattle.std.proofs.Common.{◌≡◌, ℕ, ℤ, suc, pos, ◌<◌, ◌≤◌, List, [], ◌∷◌, length, Some, None, Result, Ok, Err, IfOk, refl, ap, ◌∙◌, subst, arith}
+use Rattle.std.proofs.Common.{◌≡◌, ℕ, ℤ, suc, pos, ◌<◌, ◌≤◌, List, [], ◌∷◌, length, Some, Result, Ok, Err, IfOk, refl, ap, ◌∙◌, subst, arith}
 use Rattle.std.specs.Prelude.{slice_get}
 use Rattle.limbo_types.specs.Types.{Ty}
 use Rattle.limbo_values.specs.declared.number.Kind.{Kind}
@@ -101,7 +101,7 @@ module _ (m : typed.Module) (b : Base m) (o : Operator) (j : Kind) (form : form_
     comes r = code.gives frames_limit (program m) w p into p.frame.slots
         (unless_raised (gives_number m.adts (code.memory frames_limit (program m) w p) (with_text r)) (leaves m.adts (code.memory frames_limit (program m) w p) (of_kind j) (Arithmetic o j)))
 
-    module _ (ya : NumberIs m k i x None p.frame q.frame ready.stands.is j a) (yc : NumberIs m k i x None p.frame q.frame ready.stands.is j c)
+    module _ (ya : NumberIs m k i x [] p.frame q.frame ready.stands.is j a) (yc : NumberIs m k i x [] p.frame q.frame ready.stands.is j c)
         (l : into < length p.frame.slots) (clean : IsClean (held.slot ready.stands.is.known into))
         (size : size_at m ready.stands.is.function.of.answer (of_function m ready.stands.is.function) p.frame.pc (Some instr) ≡ 1)
         (is : begins m b k i w x p q ready hold worlds instr here (inst (arithmetic_op o j) (own (place c)) (of_own (place a)) (own (place into))))
@@ -155,10 +155,10 @@ bytes_go m b o into a c k i x p q ready here =
     let row = code_here m now i y p q r it here in
     let found = finds m is.function p.frame.pc is.known it r.stands.goes row in
     let these = subst (AreThese is.known (a ∷ c ∷ [])) found.2.0.0 found.1 in
-    let named = uses m now i y None p.frame q.frame is p.frame.pc it row in
+    let named = uses m now i y [] p.frame q.frame is p.frame.pc it row in
     calculated m b o Byte refl into a c now i w y p q r hold worlds here
-    (number_is m now i y None p.frame q.frame is Byte a refl named.1.0 (λ e. absurd cc) these.0)
-    (number_is m now i y None p.frame q.frame is Byte c refl named.1.1.0 (λ e. absurd cc) these.1.0)
+    (number_is m now i y [] p.frame q.frame is Byte a refl named.1.0 (λ e. e) these.0)
+    (number_is m now i y [] p.frame q.frame is Byte c refl named.1.1.0 (λ e. e) these.1.0)
     named.0 found.3 refl refl (omega arith)
     (λ z range. ap (λ (y : ℤ). code.goes_on w p (core.put p.frame.slots into (Holds (Num y)))) (within Byte z range)))
 
@@ -170,10 +170,10 @@ ints_go m b o into a c k i x p q ready here =
     let row = code_here m now i y p q r it here in
     let found = finds m is.function p.frame.pc is.known it r.stands.goes row in
     let these = subst (AreThese is.known (a ∷ c ∷ [])) found.2.0.0 found.1 in
-    let named = uses m now i y None p.frame q.frame is p.frame.pc it row in
+    let named = uses m now i y [] p.frame q.frame is p.frame.pc it row in
     calculated m b o Int refl into a c now i w y p q r hold worlds here
-    (number_is m now i y None p.frame q.frame is Int a refl named.1.0 (λ e. absurd cc) these.0)
-    (number_is m now i y None p.frame q.frame is Int c refl named.1.1.0 (λ e. absurd cc) these.1.0)
+    (number_is m now i y [] p.frame q.frame is Int a refl named.1.0 (λ e. e) these.0)
+    (number_is m now i y [] p.frame q.frame is Int c refl named.1.1.0 (λ e. e) these.1.0)
     named.0 found.3 refl refl (omega arith)
     (λ z range. ap (λ (y : ℤ). code.goes_on w p (core.put p.frame.slots into (Holds (Num y)))) (within Int z range)))
 

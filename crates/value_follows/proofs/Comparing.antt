@@ -1,5 +1,5 @@
 -- The denial of an int, and how two bytes or two ints compare: what a branch decides.
-use Rattle.std.proofs.Common.{◌≡◌, ℕ, ℤ, pos, List, [], ◌∷◌, Some, None, refl, sym, ap, ◌∙◌, subst}
+use Rattle.std.proofs.Common.{◌≡◌, ℕ, ℤ, pos, List, [], ◌∷◌, Some, refl, sym, ap, ◌∙◌, subst}
 use Rattle.std.specs.Ordering.{int_eq}
 use Rattle.limbo_types.specs.Types as ty
 use Rattle.limbo_types.specs.Types.{Ty}
@@ -93,13 +93,13 @@ denied_goes m b into a k i x p q ready here =
     ∙ ap (λ (l : Slot). code.goes_on w p (core.put p.frame.slots into (Holds (fitted m.adts ty.Int (Num (denied (number_of (core.value_of l)))))))) z.holds
     ∙ ap (λ (y : ℤ). code.goes_on w p (core.put p.frame.slots into (Holds (Num y)))) (within Int (truth (int_eq z.number (pos 0))) (truth_range (int_eq z.number (pos 0)))))
   where
-    first : (k : Facts) (x : World) (r : Ready m k i x p q) → NumberIs m k i x None p.frame q.frame r.stands.is Int a
+    first : (k : Facts) (x : World) (r : Ready m k i x p q) → NumberIs m k i x [] p.frame q.frame r.stands.is Int a
     first k x r =
         let is = r.stands.is in
         let it = Give ty.Int (Operate Not) into (a ∷ []) in
         let row = code_here m k i x p q r it here in
         let found = finds m is.function p.frame.pc is.known it r.stands.goes row in
-        number_is m k i x None p.frame q.frame is Int a refl (uses m k i x None p.frame q.frame is p.frame.pc it row).1.0 (λ e. absurd cc)
+        number_is m k i x [] p.frame q.frame is Int a refl (uses m k i x [] p.frame q.frame is p.frame.pc it row).1.0 (λ e. e)
         (subst (AreThese is.known (a ∷ [])) found.2.0.0 found.1).0
 
 pub one_slot : (slots : held.Slots) (from : List ℕ) (t : Ty) → AreThese slots from (t ∷ []) → (a : ℕ) × (from ≡ a ∷ [])
@@ -155,15 +155,15 @@ module _ (m : typed.Module) (b : Base m) (c : Comparison) (j : Kind) (form : for
           let found = finds m r.stands.is.function p.frame.pc r.stands.is.known compare r.stands.goes (code_here m k i x p q r compare here) in
           subst (AreThese r.stands.is.known (a ∷ d ∷ [])) found.2.0.0 found.1
 
-      left : (k : Facts) (x : World) (r : Ready m k i x p q) → NumberIs m k i x None p.frame q.frame r.stands.is j a
+      left : (k : Facts) (x : World) (r : Ready m k i x p q) → NumberIs m k i x [] p.frame q.frame r.stands.is j a
       left k x r =
-          number_is m k i x None p.frame q.frame r.stands.is j a form
-          (uses m k i x None p.frame q.frame r.stands.is p.frame.pc compare (code_here m k i x p q r compare here)).1.0 (λ e. absurd cc) (both k x r).0
+          number_is m k i x [] p.frame q.frame r.stands.is j a form
+          (uses m k i x [] p.frame q.frame r.stands.is p.frame.pc compare (code_here m k i x p q r compare here)).1.0 (λ e. e) (both k x r).0
 
-      right : (k : Facts) (x : World) (r : Ready m k i x p q) → NumberIs m k i x None p.frame q.frame r.stands.is j d
+      right : (k : Facts) (x : World) (r : Ready m k i x p q) → NumberIs m k i x [] p.frame q.frame r.stands.is j d
       right k x r =
-          number_is m k i x None p.frame q.frame r.stands.is j d form
-          (uses m k i x None p.frame q.frame r.stands.is p.frame.pc compare (code_here m k i x p q r compare here)).1.1.0 (λ e. absurd cc) (both k x r).1.0
+          number_is m k i x [] p.frame q.frame r.stands.is j d form
+          (uses m k i x [] p.frame q.frame r.stands.is p.frame.pc compare (code_here m k i x p q r compare here)).1.1.0 (λ e. e) (both k x r).1.0
 
 kinds_go : (m : typed.Module) (b : Base m) (c : Comparison) (j : Kind) (into a d : ℕ) → (j ≡ Big → ⊥)
     → InstrGoes m (Give ty.Int (Operate (Compare c j)) into (a ∷ d ∷ []))

@@ -1,5 +1,5 @@
 -- Bytes that become ints, and ints that become bytes.
-use Rattle.std.proofs.Common.{◌≡◌, ℕ, ℤ, suc, ◌<◌, ◌≤◌, List, [], ◌∷◌, length, Some, None, refl, ap, ◌∙◌, subst, arith}
+use Rattle.std.proofs.Common.{◌≡◌, ℕ, ℤ, suc, ◌<◌, ◌≤◌, List, [], ◌∷◌, length, Some, refl, ap, ◌∙◌, subst, arith}
 use Rattle.std.specs.Prelude.{slice_get}
 use Rattle.limbo_types.specs.Types.{Ty}
 use Rattle.limbo_values.specs.declared.number.Kind.{Kind}
@@ -53,7 +53,7 @@ module _ (m : typed.Module) (b : Base m) (j l : Kind) (form : form_of (of_kind l
     abbrev place : ℕ → ℕ
     place s = number_place m.adts (types_of m ready.stands.is.function) s
 
-    convert_goes : (o : Op) → number_row o ≡ Some (Converts j l) → (y : NumberIs m k i x None p.frame q.frame ready.stands.is j a)
+    convert_goes : (o : Op) → number_row o ≡ Some (Converts j l) → (y : NumberIs m k i x [] p.frame q.frame ready.stands.is j a)
         (few : into < length p.frame.slots) (clean : IsClean (held.slot ready.stands.is.known into))
         (size : size_at m ready.stands.is.function.of.answer (of_function m ready.stands.is.function) p.frame.pc (Some instr) ≡ 1)
         (is : begins m b k i w x p q ready hold worlds instr here (inst o (own (place a)) middle.None (own (place into))))
@@ -80,8 +80,8 @@ bytes_go m b into a k i x p q ready here =
     let row = code_here m now i v p q r it here in
     let found = finds m is.function p.frame.pc is.known it r.stands.goes row in
     let these = subst (AreThese is.known (a ∷ [])) found.2.0.0 found.1 in
-    let named = uses m now i v None p.frame q.frame is p.frame.pc it row in
-    let y = number_is m now i v None p.frame q.frame is Byte a refl named.1.0 (λ e. absurd cc) these.0 in
+    let named = uses m now i v [] p.frame q.frame is p.frame.pc it row in
+    let y = number_is m now i v [] p.frame q.frame is Byte a refl named.1.0 (λ e. e) these.0 in
     convert_goes m b Byte Int refl into a now i w v p q r hold worlds here op.Cvtbw refl y named.0 found.3 refl refl (omega arith)
     (ap (code.next frames_limit (program m) w p) here
     ∙ ap (λ (s : Slot). code.goes_on w p (core.put p.frame.slots into
@@ -96,8 +96,8 @@ ints_go m b into a k i x p q ready here =
     let row = code_here m now i v p q r it here in
     let found = finds m is.function p.frame.pc is.known it r.stands.goes row in
     let these = subst (AreThese is.known (a ∷ [])) found.2.0.0 found.1 in
-    let named = uses m now i v None p.frame q.frame is p.frame.pc it row in
-    let y = number_is m now i v None p.frame q.frame is Int a refl named.1.0 (λ e. absurd cc) these.0 in
+    let named = uses m now i v [] p.frame q.frame is p.frame.pc it row in
+    let y = number_is m now i v [] p.frame q.frame is Int a refl named.1.0 (λ e. e) these.0 in
     convert_goes m b Int Byte refl into a now i w v p q r hold worlds here op.Cvtwb refl y named.0 found.3 refl refl (omega arith)
     (ap (code.next frames_limit (program m) w p) here
     ∙ ap (λ (s : Slot). code.goes_on w p (core.put p.frame.slots into

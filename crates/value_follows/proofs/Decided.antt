@@ -1,5 +1,5 @@
 -- What is decided by a branch comes into a slot: 1 behind the branch, or 0 and a jump.
-use Rattle.std.proofs.Common.{◌≡◌, ℕ, ℤ, suc, pos, ◌+◌, ◌<◌, Bool, true, false, ◌&&◌, if◌then◌else◌, List, [], ◌∷◌, length, Some, None, refl, sym, ap, ◌∙◌, subst, arith}
+use Rattle.std.proofs.Common.{◌≡◌, ℕ, ℤ, suc, pos, ◌+◌, ◌<◌, Bool, true, false, ◌&&◌, if◌then◌else◌, List, [], ◌∷◌, length, Some, refl, sym, ap, ◌∙◌, subst, arith}
 use Rattle.std.specs.Prelude.{slice_get, slice_index_or, nat_eq}
 use Rattle.std.proofs.lemmas.Int.{ints}
 use Rattle.process_model.specs.Process.{Went}
@@ -98,7 +98,7 @@ module _ (m : typed.Module) (b : Base m) (instr : Instr) (into : ℕ) (o : Op) (
     in_code = code_here m k i x p q ready instr here
 
     slot_there : into < length p.frame.slots
-    slot_there = row.uses (length p.frame.slots) (uses m k i x None p.frame q.frame ready.stands.is p.frame.pc instr in_code)
+    slot_there = row.uses (length p.frame.slots) (uses m k i x [] p.frame q.frame ready.stands.is p.frame.pc instr in_code)
 
     clean : IsClean (held.slot known into)
     clean = row.clean (scope m function) function.of.answer known (finds m function p.frame.pc known instr ready.stands.goes in_code)

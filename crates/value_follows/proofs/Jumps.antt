@@ -1,5 +1,5 @@
 -- Jumps: one instruction each, which goes where the other goes.
-use Rattle.std.proofs.Common.{◌≡◌, ℕ, ℤ, suc, pos, ◌+◌, ◌-◌, ◌<◌, Bool, true, false, if◌then◌else◌, [], ◌∷◌, Option, Some, None, length, refl, sym, ap, ◌∙◌, subst, arith}
+use Rattle.std.proofs.Common.{◌≡◌, ℕ, ℤ, suc, pos, ◌+◌, ◌-◌, ◌<◌, Bool, true, false, if◌then◌else◌, [], ◌∷◌, Option, Some, length, refl, sym, ap, ◌∙◌, subst, arith}
 use Rattle.std.specs.Prelude.{slice_get, slice_index_or, All}
 use Rattle.std.specs.Ordering.{int_eq}
 use Rattle.limbo_typed.specs.Typed as typed
@@ -185,7 +185,7 @@ unless_goes m b s n k i x p q ready here =
     single m b i p q k x ready (λ now w y r hold worlds.
     let is = r.stands.is in
     let row = code_here m now i y p q r (Unless s n) here in
-    let z = number_is m now i y None p.frame q.frame is Int s refl (uses m now i y None p.frame q.frame is p.frame.pc (Unless s n) row) (λ e. absurd cc)
+    let z = number_is m now i y [] p.frame q.frame is Int s refl (uses m now i y [] p.frame q.frame is p.frame.pc (Unless s n) row) (λ e. e)
     (finds m is.function p.frame.pc is.known (Unless s n) r.stands.goes row) in
     branch_goes m b now i w y p q r hold worlds (Unless s n) here s n op.Beqw Equal refl z.number z.found refl refl refl
     (int_eq z.number (pos 0)) refl
@@ -223,8 +223,8 @@ mirrors_go m b d n k i x p q ready here =
     let is = r.stands.is in
     let row = code_here m now i y p q r (Mirror d n) here in
     let known = finds m is.function p.frame.pc is.known (Mirror d n) r.stands.goes row in
-    let z = decision_is m now i y None p.frame q.frame is known.0 d (uses m now i y None p.frame q.frame is p.frame.pc (Mirror d n) row)
-    (λ e. absurd cc) known.1 in
+    let z = decision_is m now i y [] p.frame q.frame is known.0 d (uses m now i y [] p.frame q.frame is p.frame.pc (Mirror d n) row)
+    (λ e. e) known.1 in
     branch_goes m b now i w y p q r hold worlds (Mirror d n) here d n op.Bnew Unequal refl (truth known.0) z.found refl refl refl
     known.0 (truth_holds known.0)
     (mirror_goes m is.function p.frame.pc d n is.known known.0 r.stands.goes row known.1)

@@ -31,21 +31,21 @@ module _ (m : typed.Module) where
   stands_kept : StandsKept m
   stands_kept = record {
     frame_owned = λ k i x busy g f is b h. own.frame_owned m k i x is b h;
-    waiting_owned = λ k i x t callee gs fs ws b h. own.waiting_owned m k i x ws b h;
-    owned_reached = λ k i x busy p q s b h. ways.owned_reached m k i x b s h;
+    waiting_owned = λ k i x a t callee gs fs ws b h. own.waiting_owned m k i x ws b h;
+    owned_reached = λ k i x busy a p q s b h. ways.owned_reached m k i x b s h;
     asking_reached = λ k i x p q a b h. ways.asking_reached m k i x b a h;
-    owned_held = λ k k' i x x' busy p q s left names held live b h gone. ways.owned_held m k i x b k' x' left names held live s h gone;
+    owned_held = λ k k' i x x' busy a p q s left names held live b h gone. ways.owned_held m k i x b k' x' left names held live s h gone;
     asking_held = λ k k' i x x' p q a left names held live b h gone. ways.asking_held m k i x b k' x' left names held live a h gone;
-    owned_there = λ k k' i x x' busy p q s left closed all b h gone. ways.owned_there m k i x b k' x' left closed all s h gone;
+    owned_there = λ k k' i x x' busy a p q s left closed all b h gone. ways.owned_there m k i x b k' x' left closed all s h gone;
     asking_there = λ k k' i x x' p q a left closed all b h gone. ways.asking_there m k i x b k' x' left closed all a h gone;
-    later = λ k k' i x x' busy p q s left frames there.
+    later = λ k k' i x x' busy a p q s left frames there.
         stands_later m k k' i x x' left.grows frames s (λ b h. own.stands_kept m k i x k' x' left s b h (there b h));
     ready_later = λ k k' i x x' p q r left frames there.
         ready_later m k k' i x x' left.grows frames r (λ b h. own.stands_kept m k i x k' x' left r.stands b h (there b h));
     asking_later = λ k k' i x x' p q a left frames there.
         asking_later m k k' i x x' left.grows frames a (λ b h. own.asking_kept m k i x k' x' left a b h (there b h));
     frame_later = λ k k' i x x' busy g f is grows frames kept. frame_later m k k' i x x' grows frames is kept;
-    waits_later = λ k k' i x x' t callee changed gs fs ws grows frames kept serial word.
+    waits_later = λ k k' i x x' a t callee changed gs fs ws grows frames kept serial word.
         all_later m k k' i x x' grows frames changed (serial, word) ws kept;
     changes_same = λ these k x x' same frames. (changes_nothing these k x.heap x'.heap same, frames);
     leaves_same = λ i k x. (growing.leaves_same i k x.heap, omega arith);

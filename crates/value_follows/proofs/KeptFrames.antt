@@ -17,7 +17,8 @@ use Rattle.value_frames.specs.Standing.{IsIdle, nothing_there, text_left, carrie
 use Rattle.value_frames.specs.Slots.{IsKept}
 use Rattle.value_frames.specs.Later.{AreMadeBy}
 use Rattle.value_frames.proofs.Later.{frames_later}
-use Rattle.value_follows.specs.Stands.{types_of, FrameIs, AnswerGoes, Waits, AllWait, none_waits, waits_below, Stands, Ready, Asking}
+use Rattle.value_follows.specs.Stands.{types_of, Answer, Awaited, Referred, Filled, FrameIs, RefersSo, AnswerGoes, Waits}
+use Rattle.value_follows.specs.Stands.{AllWait, none_waits, waits_below, Stands, Ready, Asking}
 use Rattle.value_follows.specs.Kept.{SameOwn, FrameOwns, IsAnswerBox, WaitingOwn, OwnedIn, OwnedAsking}
 use Rattle.value_follows.specs.Kept.{SameFrame, StandsStill, ReadyStill, AskingStill}
 
@@ -37,14 +38,14 @@ module _ (m : typed.Module) (k k' : Facts) (i : ℕ) (x x' : World) (grows : Gro
 
   -- ---- one frame
 
-  abbrev kept_words : {busy : Option ℕ} {g : code.Frame} {f : Frame} (is : FrameIs m k i x busy g f) → AreKept (FrameOwns m k i x is)
+  abbrev kept_words : {busy : List ℕ} {g : code.Frame} {f : Frame} (is : FrameIs m k i x busy g f) → AreKept (FrameOwns m k i x is)
       → (after : WordsAre m.adts k' x'.heap f.serial busy (types_of m is.function) is.known g.variables g.slots f.words)
       × (after.own ≡ is.words.own)
   kept_words {busy = busy} {g = g} {f = f} is kept =
       (frames_later m.adts k x.heap f.serial busy (types_of m is.function) is.known g.variables g.slots f.words is.words).later
       k' x'.heap grows (λ s b h. kept b (s, h))
 
-  abbrev kept_frame : {busy : Option ℕ} {g : code.Frame} {f : Frame} (is : FrameIs m k i x busy g f) → AreKept (FrameOwns m k i x is)
+  abbrev kept_frame : {busy : List ℕ} {g : code.Frame} {f : Frame} (is : FrameIs m k i x busy g f) → AreKept (FrameOwns m k i x is)
       → FrameIs m k' i x' busy g f
   kept_frame {g = g} {f = f} is kept = let fresh = is.fresh in record {
     number = is.number;
@@ -61,15 +62,15 @@ module _ (m : typed.Module) (k k' : Facts) (i : ℕ) (x x' : World) (grows : Gro
     fresh = omega (arith, frames, fresh);
   }
 
-  frame_same : {busy : Option ℕ} {g : code.Frame} {f : Frame} (is : FrameIs m k i x busy g f) (kept : AreKept (FrameOwns m k i x is))
+  frame_same : {busy : List ℕ} {g : code.Frame} {f : Frame} (is : FrameIs m k i x busy g f) (kept : AreKept (FrameOwns m k i x is))
       → SameFrame m k k' i x x' is (kept_frame is kept)
   frame_same is kept = record { number = refl; function = refl; known = refl; own = (kept_words is kept).1 }
 
-  pub frame_later : {busy : Option ℕ} {g : code.Frame} {f : Frame} (is : FrameIs m k i x busy g f) → AreKept (FrameOwns m k i x is)
+  pub frame_later : {busy : List ℕ} {g : code.Frame} {f : Frame} (is : FrameIs m k i x busy g f) → AreKept (FrameOwns m k i x is)
       → (after : FrameIs m k' i x' busy g f) × SameFrame m k k' i x x' is after
   frame_later is kept = (kept_frame is kept, frame_same is kept)
 
-  frame_owns : {busy : Option ℕ} {g : code.Frame} {f : Frame} (is : FrameIs m k i x busy g f) (kept : AreKept (FrameOwns m k i x is))
+  frame_owns : {busy : List ℕ} {g : code.Frame} {f : Frame} (is : FrameIs m k i x busy g f) (kept : AreKept (FrameOwns m k i x is))
       → SameOwn (FrameOwns m k i x is) (FrameOwns m k' i x' (kept_frame is kept))
   frame_owns is kept =
       let same = (kept_words is kept).1 in
@@ -80,22 +81,27 @@ module _ (m : typed.Module) (k k' : Facts) (i : ℕ) (x x' : World) (grows : Gro
 
   -- ---- where an answer goes
 
+  so_later : (a : Answer) (words : List Word) (p : ℕ) → RefersSo m k i x a words p → RefersSo m k' i x' a words p
+  so_later Awaited words p h = idly_later words p h
+  so_later (Referred r) words p h = h
+  so_later (Filled inner) words p h = idly_later words p h
+
   -- the one that was called is the same as far as those that wait for it see
   abbrev AsCalled : (callee changed : Frame) → Type 0
   AsCalled callee changed =
       (changed.serial ≡ callee.serial) × (word_at changed.words (pos answer_place) ≡ word_at callee.words (pos answer_place))
 
-  answer_later : (form : Form) (t : Ty) (f : Frame) (types : List Ty) (into : ℕ) (callee changed : Frame) (own after : ℕ → List ℕ)
-      → AsCalled callee changed → after ≡ own → (goes : AnswerGoes m k i x form t f types into callee own)
-      → AreKept (IsAnswerBox m k i x form t f types into callee own goes)
-      → (g : AnswerGoes m k' i x' form t f types into changed after)
-      × SameOwn (IsAnswerBox m k i x form t f types into callee own goes) (IsAnswerBox m k' i x' form t f types into changed after g)
-  answer_later Nowhere t f types into callee changed own after seen same goes kept = (idly_later f.words _ goes, λ b. (λ h. h, λ h. h))
-  answer_later AsNumber t f types into callee changed own after seen same goes kept =
+  answer_later : (a : Answer) (form : Form) (t : Ty) (f : Frame) (types : List Ty) (into : ℕ) (callee changed : Frame)
+      (own after : ℕ → List ℕ) → AsCalled callee changed → after ≡ own → (goes : AnswerGoes m k i x a form t f types into callee own)
+      → AreKept (IsAnswerBox m k i x a form t f types into callee own goes)
+      → (g : AnswerGoes m k' i x' a form t f types into changed after)
+      × SameOwn (IsAnswerBox m k i x a form t f types into callee own goes) (IsAnswerBox m k' i x' a form t f types into changed after g)
+  answer_later a Nowhere t f types into callee changed own after seen same goes kept = (idly_later f.words _ goes, λ b. (λ h. h, λ h. h))
+  answer_later a AsNumber t f types into callee changed own after seen same goes kept =
       ((idly_later f.words _ goes.0, seen.1 ∙ goes.1), λ b. (λ h. h, λ h. h))
-  answer_later AsReference t f types into callee changed own after seen same goes kept =
-      ((idly_later f.words _ goes.0, seen.1 ∙ goes.1), λ b. (λ h. h, λ h. h))
-  answer_later Boxed t f types into callee changed own after seen same (b, inner, is, word, made, apart) kept = (
+  answer_later a AsReference t f types into callee changed own after seen same goes kept =
+      ((so_later a f.words _ goes.0, seen.1 ∙ goes.1), λ b. (λ h. h, λ h. h))
+  answer_later a Boxed t f types into callee changed own after seen same (b, inner, is, word, made, apart, fills) kept = (
     (
       b,
       inner,
@@ -103,6 +109,7 @@ module _ (m : typed.Module) (k k' : Facts) (i : ℕ) (x x' : World) (grows : Gro
       seen.1 ∙ word,
       grows.makers b i made,
       λ s h. apart s (subst (λ (o : ℕ → List ℕ). Has (o s) b) same h),
+      fills,
     ),
     λ q. (λ h. h, λ h. h),
   )
@@ -119,18 +126,19 @@ module _ (m : typed.Module) (k k' : Facts) (i : ℕ) (x x' : World) (grows : Gro
 
   -- ---- frames that wait
 
-  record WaitsLater {g : code.Frame} {f : Frame} {t : Ty} {callee : Frame} (changed : Frame) (w : Waits m k i x g f t callee) : Type 0 where
-    after : Waits m k' i x' g f t changed
+  record WaitsLater {a : Answer} {g : code.Frame} {f : Frame} {t : Ty} {callee : Frame} (changed : Frame)
+      (w : Waits m k i x a g f t callee) : Type 0 where
+    after : Waits m k' i x' a g f t changed
     own : SameOwn (FrameOwns m k i x w.is) (FrameOwns m k' i x' after.is)
-    box : SameOwn (IsAnswerBox m k i x (form_of t) t f (types_of m w.is.function) g.into callee w.is.words.own w.answer)
-        (IsAnswerBox m k' i x' (form_of t) t f (types_of m after.is.function) g.into changed after.is.words.own after.answer)
+    box : SameOwn (IsAnswerBox m k i x a (form_of t) t f (types_of m w.is.function) g.into callee w.is.words.own w.answer)
+        (IsAnswerBox m k' i x' a (form_of t) t f (types_of m after.is.function) g.into changed after.is.words.own after.answer)
 
-  one_later : {g : code.Frame} {f : Frame} {t : Ty} {callee : Frame} (changed : Frame) → AsCalled callee changed
-      → (w : Waits m k i x g f t callee) → AreKept (FrameOwns m k i x w.is)
-      → AreKept (IsAnswerBox m k i x (form_of t) t f (types_of m w.is.function) g.into callee w.is.words.own w.answer)
+  one_later : {a : Answer} {g : code.Frame} {f : Frame} {t : Ty} {callee : Frame} (changed : Frame) → AsCalled callee changed
+      → (w : Waits m k i x a g f t callee) → AreKept (FrameOwns m k i x w.is)
+      → AreKept (IsAnswerBox m k i x a (form_of t) t f (types_of m w.is.function) g.into callee w.is.words.own w.answer)
       → WaitsLater changed w
-  one_later {g = g} {f = f} {t = t} {callee = callee} changed seen w kept box =
-      let a = answer_later (form_of t) t f (types_of m w.is.function) g.into callee changed w.is.words.own (kept_words w.is kept).0.own
+  one_later {a = a} {g = g} {f = f} {t = t} {callee = callee} changed seen w kept box =
+      let goes = answer_later a (form_of t) t f (types_of m w.is.function) g.into callee changed w.is.words.own (kept_words w.is kept).0.own
       seen (kept_words w.is kept).1 w.answer box in
       let older = w.older in
       let serial = seen.0 in
@@ -140,22 +148,22 @@ module _ (m : typed.Module) (k k' : Facts) (i : ℕ) (x x' : World) (grows : Gro
           goes = w.goes;
           pc = w.pc;
           spare = w.spare;
-          answer = a.0;
+          answer = goes.0;
           older = omega (arith, older, serial);
           unnamed = w.unnamed;
         };
         own = frame_owns w.is kept;
-        box = a.1;
+        box = goes.1;
       }
 
-  pub all_later : {t : Ty} {callee : Frame} {gs : List code.Frame} {fs : List Frame} (changed : Frame) → AsCalled callee changed
-      → (ws : AllWait m k i x t callee gs fs) → AreKept (WaitingOwn m k i x ws)
-      → (after : AllWait m k' i x' t changed gs fs) × SameOwn (WaitingOwn m k i x ws) (WaitingOwn m k' i x' after)
-  all_later changed seen (none_waits callee) kept = (none_waits changed, λ b. (λ h. h, λ h. h))
-  all_later changed seen (waits_below t callee g f gs fs w ws) kept =
+  pub all_later : {a : Answer} {t : Ty} {callee : Frame} {gs : List code.Frame} {fs : List Frame} (changed : Frame)
+      → AsCalled callee changed → (ws : AllWait m k i x a t callee gs fs) → AreKept (WaitingOwn m k i x ws)
+      → (after : AllWait m k' i x' a t changed gs fs) × SameOwn (WaitingOwn m k i x ws) (WaitingOwn m k' i x' after)
+  all_later changed seen (none_waits a callee) kept = (none_waits a changed, λ b. (λ h. h, λ h. h))
+  all_later changed seen (waits_below a t callee g f gs fs w ws) kept =
       let one = one_later changed seen w (λ b h. kept b (inl h)) (λ b h. kept b (inr (inl h))) in
       let others = all_later f (refl, refl) ws (λ b h. kept b (inr (inr h))) in (
-        waits_below t changed g f gs fs one.after others.0,
+        waits_below a t changed g f gs fs one.after others.0,
         λ b. (
           λ h. elim h [
             | inl u ↦ inl ((one.own b).0 u)
@@ -179,8 +187,8 @@ module _ (m : typed.Module) (k k' : Facts) (i : ℕ) (x x' : World) (grows : Gro
     λ h. elim h [ inl u ↦ inl ((s b).1 u) | inr u ↦ inr ((t b).1 u) ],
   )
 
-  pub stands_later : {busy : Option ℕ} {p : code.Process} {q : Process} (s : Stands m k i x busy p q) → AreKept (OwnedIn m k i x s)
-      → StandsStill m k k' i x x' s
+  pub stands_later : {busy : List ℕ} {a : Answer} {p : code.Process} {q : Process} (s : Stands m k i x busy a p q)
+      → AreKept (OwnedIn m k i x s) → StandsStill m k k' i x x' s
   stands_later s kept =
       let mine : AreKept (FrameOwns m k i x s.is) = λ b h. kept b (inl h) in
       let below = all_later _ (refl, refl) s.waits (λ b h. kept b (inr h)) in

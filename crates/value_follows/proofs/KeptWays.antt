@@ -33,7 +33,7 @@ use Rattle.value_frames.specs.Standing.{IsOwn, WordsAre}
 use Rattle.value_frames.specs.Standing.{SlotStands, a_value, a_decision, a_loop, ChainStands, no_chain, a_chain}
 use Rattle.value_frames.specs.Standing.{TailStands, no_more, one_more, RegionStands, no_slot, more_slots}
 use Rattle.value_frames.proofs.Beginning.{is_inside}
-use Rattle.value_follows.specs.Stands.{types_of, FrameIs, AnswerGoes, AllWait, none_waits, waits_below, Stands, Asking}
+use Rattle.value_follows.specs.Stands.{types_of, Answer, FrameIs, AnswerGoes, AllWait, none_waits, waits_below, Stands, Asking}
 use Rattle.value_follows.specs.Kept.{FrameOwns, IsAnswerBox, WaitingOwn, OwnedIn, OwnedAsking}
 
 -- a word that is read is one of them
@@ -144,13 +144,13 @@ module _ (k : Facts) (i : ℕ) (x : Heap Block) where
             | inr j ↦ region_way words (p + 8) hs g more (λ n u. made n (has_right own more n u)) j others
           ]
 
-    words_way : (busy : Option ℕ) (types : List Ty) (known : held.Slots) (variables : List Value) (slots : core.Slots) (words : List Word)
+    words_way : (busy : List ℕ) (types : List Ty) (known : held.Slots) (variables : List Value) (slots : core.Slots) (words : List Word)
         (are : WordsAre defs k x frame busy types known variables slots words) (s : ℕ) → AreMade (are.own s) → Has (are.own s) b
         → OwnWay words b
     words_way busy types known variables slots words are s made i = go (slice_get slots s) refl (slice_get known s) refl
       where
         -- a busy slot has none
-        free : busy ≡ Some s → ⊥
+        free : Has busy s → ⊥
         free e = subst (λ (own : List ℕ). Has own b) (are.busy_bare s e) i
 
         go : (l : Option core.Slot) → slice_get slots s ≡ l → (h : Option Held) → slice_get known s ≡ h → OwnWay words b
@@ -196,28 +196,29 @@ module _ (m : typed.Module) (k : Facts) (i : ℕ) (x : World) (b : ℕ) where
   abbrev FromOne : List Frame → Type 0
   FromOne fs = (f : Frame) × Has fs f × Way f.words
 
-  frame_way : {busy : Option ℕ} {g : code.Frame} {f : Frame} (is : FrameIs m k i x busy g f) → FrameOwns m k i x is b → Way f.words
+  frame_way : {busy : List ℕ} {g : code.Frame} {f : Frame} (is : FrameIs m k i x busy g f) → FrameOwns m k i x is b → Way f.words
   frame_way {busy = busy} {g = g} {f = f} is (s, h) =
       words_way k i x.heap m.adts f.serial b busy (types_of m is.function) is.known g.variables g.slots f.words is.words s
       (λ q u. is.mine s q u) h
 
-  box_way : (form : Form) (t : Ty) (f : Frame) (types : List Ty) (into : ℕ) (callee : Frame) (own : ℕ → List ℕ)
-      (goes : AnswerGoes m k i x form t f types into callee own) → IsAnswerBox m k i x form t f types into callee own goes b → Way f.words
-  box_way Nowhere t f types into callee own goes h = absurd h
-  box_way AsNumber t f types into callee own goes h = absurd h
-  box_way AsReference t f types into callee own goes h = absurd h
-  box_way Boxed t f types into callee own (q, inner, is, word, made, apart) h =
+  box_way : (a : Answer) (form : Form) (t : Ty) (f : Frame) (types : List Ty) (into : ℕ) (callee : Frame) (own : ℕ → List ℕ)
+      (goes : AnswerGoes m k i x a form t f types into callee own) → IsAnswerBox m k i x a form t f types into callee own goes b
+      → Way f.words
+  box_way a Nowhere t f types into callee own goes h = absurd h
+  box_way a AsNumber t f types into callee own goes h = absurd h
+  box_way a AsReference t f types into callee own goes h = absurd h
+  box_way a Boxed t f types into callee own (q, inner, is, word, made, apart, fills) h =
       own_last k i x.heap m.adts f.serial b f.words (reference_place m.adts types into) _ _ q inner is h
 
-  waiting_way : {t : Ty} {callee : Frame} {gs : List code.Frame} {fs : List Frame} (ws : AllWait m k i x t callee gs fs)
+  waiting_way : {a : Answer} {t : Ty} {callee : Frame} {gs : List code.Frame} {fs : List Frame} (ws : AllWait m k i x a t callee gs fs)
       → WaitingOwn m k i x ws b → FromOne fs
-  waiting_way (none_waits callee) h = absurd h
-  waiting_way (waits_below t callee g f gs fs w ws) (inl h) = (f, inl refl, frame_way w.is h)
-  waiting_way (waits_below t callee g f gs fs w ws) (inr (inl h)) =
-      (f, inl refl, box_way (form_of t) t f (types_of m w.is.function) g.into callee w.is.words.own w.answer h)
-  waiting_way (waits_below t callee g f gs fs w ws) (inr (inr h)) = let o = waiting_way ws h in (o.0, inr o.1, o.2)
+  waiting_way (none_waits a callee) h = absurd h
+  waiting_way (waits_below a t callee g f gs fs w ws) (inl h) = (f, inl refl, frame_way w.is h)
+  waiting_way (waits_below a t callee g f gs fs w ws) (inr (inl h)) =
+      (f, inl refl, box_way a (form_of t) t f (types_of m w.is.function) g.into callee w.is.words.own w.answer h)
+  waiting_way (waits_below a t callee g f gs fs w ws) (inr (inr h)) = let o = waiting_way ws h in (o.0, inr o.1, o.2)
 
-  stands_way : {busy : Option ℕ} {p : code.Process} {q : Process} (s : Stands m k i x busy p q) → OwnedIn m k i x s b
+  stands_way : {busy : List ℕ} {a : Answer} {p : code.Process} {q : Process} (s : Stands m k i x busy a p q) → OwnedIn m k i x s b
       → FromOne (q.frame ∷ q.below)
   stands_way {q = q} s (inl h) = (q.frame, inl refl, frame_way s.is h)
   stands_way s (inr h) = let o = waiting_way s.waits h in (o.0, inr o.1, o.2)
@@ -250,7 +251,7 @@ module _ (m : typed.Module) (k : Facts) (i : ℕ) (x : World) (b : ℕ) where
   one_held k' x' left q names h live o gone =
       one_kept k' x' left q (λ n. 0 < h.same.own n) live (λ n c u inner v. h.same.within n c u inner v) (λ n u. h.same.roots n u) o gone
 
-  pub owned_reached : {busy : Option ℕ} {p : code.Process} {q : Process} (s : Stands m k i x busy p q) → OwnedIn m k i x s b
+  pub owned_reached : {busy : List ℕ} {a : Answer} {p : code.Process} {q : Process} (s : Stands m k i x busy a p q) → OwnedIn m k i x s b
       → InnerOf k x.heap (process_words q) b
   owned_reached {q = q} s h = one_inner q (stands_way s h)
 
@@ -260,7 +261,7 @@ module _ (m : typed.Module) (k : Facts) (i : ℕ) (x : World) (b : ℕ) where
 
   module _ (k' : Facts) (x' : World) (left : Leaves i k k' x.heap x'.heap) {p : code.Process} {q : Process} where
     pub owned_there : IsClosed (graph inside x'.heap) → ((n : ℕ) → 0 < machine.names q n → there (at x'.heap n) ≡ true)
-        → {busy : Option ℕ} (s : Stands m k i x busy p q) → OwnedIn m k i x s b → at x'.heap b ≡ None → ⊥
+        → {busy : List ℕ} {a : Answer} (s : Stands m k i x busy a p q) → OwnedIn m k i x s b → at x'.heap b ≡ None → ⊥
     owned_there closed all s h gone = one_there k' x' left closed q all (stands_way s h) gone
 
     pub asking_there : IsClosed (graph inside x'.heap) → ((n : ℕ) → 0 < machine.names q n → there (at x'.heap n) ≡ true)
@@ -269,7 +270,7 @@ module _ (m : typed.Module) (k : Facts) (i : ℕ) (x : World) (b : ℕ) where
 
     module _ (names : ℕ → ℕ) (held : Holds k' (λ j. j ≡ i) (graph inside x'.heap) names (machine.names q))
         (live : (n : ℕ) → 0 < held.same.own n → there (at x'.heap n) ≡ true) where
-      pub owned_held : {busy : Option ℕ} (s : Stands m k i x busy p q) → OwnedIn m k i x s b → at x'.heap b ≡ None → ⊥
+      pub owned_held : {busy : List ℕ} {a : Answer} (s : Stands m k i x busy a p q) → OwnedIn m k i x s b → at x'.heap b ≡ None → ⊥
       owned_held s h gone = one_held k' x' left q names held live (stands_way s h) gone
 
       pub asking_held : (a : Asking m k i x p q) → OwnedAsking m k i x a b → at x'.heap b ≡ None → ⊥

@@ -6,7 +6,6 @@ pub mod RootedValues
 pub mod RootedSlots
 pub mod RootedFrames
 pub mod RootedProcesses
-pub mod RootedBare
 pub mod RootedExamples
 pub mod Standing
 pub mod Single

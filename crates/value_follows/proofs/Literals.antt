@@ -1,5 +1,5 @@
 -- Constants that are bytes or ints.
-use Rattle.std.proofs.Common.{◌≡◌, ℕ, ℤ, suc, pos, negsuc, Bool, true, List, [], Some, None, refl, ap, ◌∙◌, arith, inl}
+use Rattle.std.proofs.Common.{◌≡◌, ℕ, ℤ, suc, pos, negsuc, Bool, true, List, [], Some, refl, ap, ◌∙◌, arith, inl}
 use Rattle.std.proofs.lemmas.Int.{ints}
 use Rattle.std.proofs.lemmas.Bool.{le-leb}
 use Rattle.limbo_types.specs.Types as ty
@@ -37,7 +37,7 @@ use Rattle.value_follows.proofs.Slots.{uses}
 use Rattle.value_follows.proofs.Single.{single}
 use Rattle.value_follows.proofs.Jumps.{row, behind_it}
 use Rattle.value_follows.proofs.Putting.{old_word}
-use Rattle.value_follows.proofs.Numbers.{seen, leads, int_read, int_moved, number_stored}
+use Rattle.value_follows.proofs.Numbers.{leads, int_read, int_moved, number_stored}
 
 ints_go : (m : typed.Module) (b : Base m) (z : ℤ) (into : ℕ) (from : List ℕ) → InstrGoes m (Give ty.Int (Literal (constant.Number z)) into from)
 ints_go m b z into from k i x p q ready here =
@@ -47,8 +47,8 @@ ints_go m b z into from k i x p q ready here =
     let found = finds m is.function p.frame.pc is.known instr r.stands.goes (code_here m now i y p q r instr here) in
     let at = row m b now i w y p q r hold worlds instr here in
     int_moved m b now i w y p q r hold worlds instr here into
-    (uses m now i y None p.frame q.frame is p.frame.pc instr (code_here m now i y p q r instr here)).0 found.3
-    refl (number_source (seen m b now i w y p q r hold worlds instr here) (fits_source z) z at.at) refl z
+    (uses m now i y [] p.frame q.frame is p.frame.pc instr (code_here m now i y p q r instr here)).0 found.3
+    refl (number_source (fits_source z) z at.at) refl z
     (int_read m b now i w y p q r hold worlds instr here (fits_source z) z at.at refl (at.stand (placed m at.at ty.Int (Num z)) (inl refl)))
     []
     (behind_it m b now i w y p q r hold worlds instr here 0 (suc p.frame.pc) (held.put is.known into (Of ty.Int [])) (omega arith) refl)
@@ -70,13 +70,13 @@ bytes_go m b z into from k i x p q ready here =
     let found = finds m is.function p.frame.pc is.known instr r.stands.goes (code_here m now i y p q r instr here) in
     let range : InRange Byte z = found.2.0 in
     let at = row m b now i w y p q r hold worlds instr here in
-    let uses = uses m now i y None p.frame q.frame is p.frame.pc instr (code_here m now i y p q r instr here) in
+    let uses = uses m now i y [] p.frame q.frame is p.frame.pc instr (code_here m now i y p q r instr here) in
     let to = number_place m.adts (types_of m is.function) into in
     let move = inst op.Movb (operand.Imm z) middle.None (own to) in
     let old = (old_word m now i y p q r into uses.0 found.3).number Byte refl in
     number_stored m b now i w y p q r hold worlds instr here into uses.0 found.3
     refl move
-    (ap (λ (fits : Bool). Some (inst op.Movb (number_source (seen m b now i w y p q r hold worlds instr here) fits z at.at) middle.None (own to))) (byte_fits z range))
+    (ap (λ (fits : Bool). Some (inst op.Movb (number_source fits z at.at) middle.None (own to))) (byte_fits z range))
     Byte refl z range []
     (behind_it m b now i w y p q r hold worlds instr here 0 (suc p.frame.pc) (held.put is.known into (Of ty.Byte [])) (omega arith) refl)
     (ap (code.next frames_limit (program m) w p) here

@@ -1,5 +1,5 @@
 -- Numbers that are given to slots by one instruction.
-use Rattle.std.proofs.Common.{◌≡◌, ℕ, ℤ, suc, pos, negsuc, ◌&&◌, ◌<◌, ◌≤◌, Bool, true, false, List, [], ◌∷◌, length, Some, None, refl, sym, ap, ◌∙◌, subst, arith, inl}
+use Rattle.std.proofs.Common.{◌≡◌, ℕ, ℤ, suc, pos, negsuc, ◌&&◌, ◌<◌, ◌≤◌, Bool, true, false, List, [], ◌∷◌, length, Some, refl, sym, ap, ◌∙◌, subst, arith, inl}
 use Rattle.std.specs.Prelude.{slice_get, nat_le}
 use Rattle.std.proofs.lemmas.Int.{ints}
 use Rattle.std.proofs.lemmas.Bool.{leb-true}
@@ -93,11 +93,11 @@ module _ (m : typed.Module) (b : Base m) (k : Facts) (i : ℕ) (w : Shared) (x :
     pub number : number_in word ≡ Found z
     pub range : InRange Int z
 
-  pub int_read : (fits : Bool) (z : ℤ) (to : ℕ) → fits_source z ≡ fits → Has (constants m) (placed m to ty.Int (Num z)) → IntRead (number_source seen fits z to) z
+  pub int_read : (fits : Bool) (z : ℤ) (to : ℕ) → fits_source z ≡ fits → Has (constants m) (placed m to ty.Int (Num z)) → IntRead (number_source fits z to) z
   int_read true z to e h =
       record { word = Plain z; plainly = operands_are_read.source_plain_given x q z; number = refl; range = fits_range z e }
   int_read false z to e h =
-      let instance = instance_here m b k i w x p q None ready.stands.is hold worlds.0 in
+      let instance = instance_here m b k i w x p q [] ready.stands.is hold worlds.0 in
       let constant = instance.2 (placed m to ty.Int (Num z)) h in
       let n = number_there m.adts k instance.0 to ty.Int (Num z) Int refl constant.stands in
       let same : n.number ≡ z = same_value n.number z (sym n.is) in
@@ -160,8 +160,8 @@ numbers_go m b z into k i x p q ready here =
     let found = finds m is.function p.frame.pc is.known instr r.stands.goes (code_here m now i y p q r instr here) in
     let at = row m b now i w y p q r hold worlds instr here in
     int_moved m b now i w y p q r hold worlds instr here into
-    (uses m now i y None p.frame q.frame is p.frame.pc instr (code_here m now i y p q r instr here)) found.1
-    refl (number_source (seen m b now i w y p q r hold worlds instr here) (fits_source z) z at.at) refl z
+    (uses m now i y [] p.frame q.frame is p.frame.pc instr (code_here m now i y p q r instr here)) found.2
+    refl (number_source (fits_source z) z at.at) refl z
     (int_read m b now i w y p q r hold worlds instr here (fits_source z) z at.at refl (at.stand (placed m at.at ty.Int (Num z)) (inl refl)))
     []
     (behind_it m b now i w y p q r hold worlds instr here 0 (suc p.frame.pc) (held.put is.known into (Of ty.Int [])) (omega arith) refl)

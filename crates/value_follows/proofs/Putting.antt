@@ -1,5 +1,5 @@
 -- A number that comes into a slot which names nothing, and two processes that stand for one another then.
-use Rattle.std.proofs.Common.{◌≡◌, ◌⊎◌, ℕ, ℤ, Bool, true, false, suc, pos, ◌+◌, ◌*◌, ◌/◌, ◌%◌, ◌==◌, ◌<◌, ◌≤◌, List, [], ◌∷◌, length, map, Option, Some, None, refl, sym, ap, ◌∙◌, subst, arith, inl, inr}
+use Rattle.std.proofs.Common.{◌≡◌, ◌⊎◌, ℕ, ℤ, Bool, true, false, suc, pos, ◌+◌, ◌*◌, ◌/◌, ◌%◌, ◌==◌, ◌<◌, ◌≤◌, List, [], ◌∷◌, length, map, Option, Some, refl, sym, ap, ◌∙◌, subst, arith, inl, inr}
 use Rattle.std.proofs.Common.{if◌then◌else◌}
 use Rattle.std.specs.Prelude.{slice_get, slice_index}
 use Rattle.std.specs.List.{range_with_len}
@@ -175,7 +175,7 @@ module _ (m : typed.Module) (k : Facts) (i : ℕ) (x : World) (p : code.Process)
   at_rest =
       rests m.adts k x q.frame.serial q.frame.words n_at (reference_place m.adts types s) (held.slot r.stands.is.known s)
       (core.slot p.frame.slots s) (r.stands.is.words.own s) clean
-      (slot_is m k i x None p.frame q.frame r.stands.is s l (λ e. absurd cc))
+      (slot_is m k i x [] p.frame q.frame r.stands.is s l (λ e. e))
 
   pub old_word : NumberWord m.adts types (length p.frame.slots) q.frame.words r.stands.is.words.laid r.stands.is.words.kind s l
   old_word = number_word m.adts types (length p.frame.slots) q.frame.words r.stands.is.words.laid r.stands.is.words.kind s l
@@ -219,9 +219,9 @@ module _ (m : typed.Module) (k : Facts) (i : ℕ) (x : World) (p : code.Process)
           → Ready m k i x (at_slots m k i x p q r (suc p.frame.pc) (core.put p.frame.slots s (Holds (Num z)))) (at_words m k i x p q r to others)
       ready_put to there goes =
           let are = r.stands.is.words in
-          let owned = (frames_later m.adts k x.heap q.frame.serial None types r.stands.is.known p.frame.variables p.frame.slots q.frame.words are).owned in
-          let after = slots_change.slot m.adts k k x.heap x.heap q.frame.serial None types r.stands.is.known p.frame.variables p.frame.slots
-          q.frame.words others s (Of (of_kind j) live) (Holds (Num z)) [] are (inl refl)
+          let owned = (frames_later m.adts k x.heap q.frame.serial [] types r.stands.is.known p.frame.variables p.frame.slots q.frame.words are).owned in
+          let after = slots_change.slot m.adts k k x.heap x.heap q.frame.serial [] types r.stands.is.known p.frame.variables p.frame.slots
+          q.frame.words others s (Of (of_kind j) live) (Holds (Num z)) [] are
           (record { facts = λ n f e. e; makers = λ n j e. e; forms = λ n o e. e }) l else_as_was kind_stays slot_stands tt
           (λ u b ne h. (λ e. e, ((owned u b h).0, refl))) in
           ready_on m k i x p q r (suc p.frame.pc) to (held.put r.stands.is.known s (Of (of_kind j) live)) (core.put p.frame.slots s (Holds (Num z))) others

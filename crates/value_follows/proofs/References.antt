@@ -16,7 +16,7 @@ use Rattle.core_code.specs.Slots as core
 use Rattle.core_code.specs.Slots.{Holds}
 use Rattle.core_typing.specs.Held as held
 use Rattle.core_typing.specs.Held.{Of}
-use Rattle.core_typing.specs.Needs.{IsClean, NamesNothing}
+use Rattle.core_typing.specs.Needs.{IsKnown, IsClean, NamesNothing}
 use Rattle.core_typing.specs.Written.{type_known}
 use Rattle.dis_isa.specs.declared.inst.Operand as isa
 use Rattle.dis_isa.specs.declared.inst.Middle.TheVariants as middle
@@ -96,9 +96,9 @@ module _ (m : typed.Module) (k : Facts) (i : ℕ) (x : World) (p : code.Process)
         → Ready m k i x (at_slots m k i x p q r (suc p.frame.pc) (core.put p.frame.slots s (Holds v))) (at_words m k i x p q r place others)
     ready_referring t live v stands place there goes =
         let are = r.stands.is.words in
-        let owned = (frames_later m.adts k x.heap q.frame.serial None types r.stands.is.known p.frame.variables p.frame.slots q.frame.words are).owned in
-        let after = slots_change.slot m.adts k k x.heap x.heap q.frame.serial None types r.stands.is.known p.frame.variables p.frame.slots
-        q.frame.words others s (Of t live) (Holds v) [] are (inl refl)
+        let owned = (frames_later m.adts k x.heap q.frame.serial [] types r.stands.is.known p.frame.variables p.frame.slots q.frame.words are).owned in
+        let after = slots_change.slot m.adts k k x.heap x.heap q.frame.serial [] types r.stands.is.known p.frame.variables p.frame.slots
+        q.frame.words others s (Of t live) (Holds v) [] are
         (record { facts = λ n f e. e; makers = λ n j e. e; forms = λ n o e. e }) l else_as_was kind_stays stands tt
         (λ u b ne h. (λ e. e, ((owned u b h).0, refl))) in
         ready_on m k i x p q r (suc p.frame.pc) place (held.put r.stands.is.known s (Of t live)) (core.put p.frame.slots s (Holds v)) others
@@ -140,7 +140,7 @@ module _ (defs : List Def) (k : Facts) (words : List Word) where
 module _ (m : typed.Module) (b : Base m) (k : Facts) (i : ℕ) (w : Shared) (x : World) (p : code.Process) (q : Process) (ready : Ready m k i x p q) (hold : HoldTheSame m k i x p q) (worlds : (sides m).worlds k w x) (instr : Instr) (here : slice_get p.frame.code p.frame.pc ≡ Some instr) where
   pub nil_read : source_reference x q nil_word ≡ Found None
   nil_read =
-      let instance = instance_here m b k i w x p q None ready.stands.is hold worlds.0 in
+      let instance = instance_here m b k i w x p q [] ready.stands.is hold worlds.0 in
       let constant = instance.2 (placed m 4 ty.Nil (Ref None)) (inr (inl refl)) in
       operands_are_read.source_referring x q nil_word instance.0 4 (spots_lead.of_module x q 0 instance.0 4 instance.1).0
       ∙ ap (λ a. a >>= reference) (nil_there m.adts k instance.0 4 ty.Nil (Ref None) refl refl constant.stands)
@@ -193,18 +193,16 @@ nil_only None none = refl
 nil_only (Some n) none = absurd (names_none (Ref (Some n)) none 0 n refl)
 
 -- what such a value stands for where the slot refers to nothing
-known_stands : (defs : List Def) (k : Facts) (x : World) (frame : ℕ) (words : List Word) (n r : ℕ) (v : Value) → ((z : ℤ) → v ≡ Num z → ⊥) → NamesNothing v
+known_stands : (defs : List Def) (k : Facts) (x : World) (frame : ℕ) (words : List Word) (n r : ℕ) (v : Value) → ((z : ℤ) → v ≡ Num z → ⊥) → IsKnown v → NamesNothing v
     → word_at words (pos r) ≡ Found (Refer None) → SlotStands defs k x.heap frame words n r (Of (type_known v) []) (Holds v) []
-known_stands defs k x frame words n r (Num z) other none e = absurd (other z refl)
-known_stands defs k x frame words n r (Ref o) other none e =
+known_stands defs k x frame words n r (Num z) other given none e = absurd (other z refl)
+known_stands defs k x frame words n r (Ref o) other given none e =
     a_value words n r ty.Nil [] (Ref o)
     (subst (λ (o : Option ℕ). Stands defs k words r ty.Nil (Ref o)) (sym (nil_only o none)) (a_name r ty.Nil None None tt e tt)) (names_none (Ref o) none)
-known_stands defs k x frame words n r (Chars s) other none e =
-    a_value words n r ty.Nothing [] (Chars s) (None, e, nothing_there) (names_none (Chars s) none)
-known_stands defs k x frame words n r (Array a) other none e =
-    a_value words n r ty.Nothing [] (Array a) (None, e, nothing_there) (names_none (Array a) none)
-known_stands defs k x frame words n r (Parts vs) other none e =
-    a_value words n r ty.Nothing [] (Parts vs) (None, e, nothing_there) (names_none (Parts vs) none)
+known_stands defs k x frame words n r (Chars s) other given none e = absurd cc
+known_stands defs k x frame words n r (Array a) other given none e = absurd cc
+known_stands defs k x frame words n r (Parts vs) other given none e =
+    a_value words n r ty.Nothing [] (Parts vs) (given, (None, e, nothing_there)) (names_none (Parts vs) none)
 
 module _ (m : typed.Module) (b : Base m) (v : Value) (into : ℕ) (other : (z : ℤ) → v ≡ Num z → ⊥)
     (row : (c : Site) → code_of c (Known v into) ≡ let_go c.scene into ∷ []) where
@@ -214,15 +212,16 @@ module _ (m : typed.Module) (b : Base m) (v : Value) (into : ℕ) (other : (z : 
       let is = r.stands.is in
       let instr = Known v into in
       let found = finds m is.function p.frame.pc is.known instr r.stands.goes (code_here m now i y p q r instr here) in
-      let there = uses m now i y None p.frame q.frame is p.frame.pc instr (code_here m now i y p q r instr here) in
-      reference_goes m b now i w y p q r hold worlds instr here into there found.1
+      let there = uses m now i y [] p.frame q.frame is p.frame.pc instr (code_here m now i y p q r instr here) in
+      reference_goes m b now i w y p q r hold worlds instr here into there found.2
       nil_word None (nil_read m b now i w y p q r hold worlds instr here)
       (ap (λ (l : Code). length l) (row (blank_site m is.function.of.answer (of_function m is.function) p.frame.pc)))
       (ap (λ (l : Code). slice_get l 0)
       (row (site_of m is.number is.function p.frame.pc (row_at m b now i w y p q r hold worlds instr here).at)))
       (type_known v) [] v
       (λ words e. known_stands m.adts now y q.frame.serial words (number_place m.adts (types_of m is.function) into)
-      (reference_place m.adts (types_of m is.function) into) v other found.0 e)
+      (reference_place m.adts (types_of m is.function) into) v other
+      found.0 found.1 e)
       (behind_it m b now i w y p q r hold worlds instr here 0 (suc p.frame.pc) (held.put is.known into (Of (type_known v) [])) (omega arith) refl)
       (ap (code.next frames_limit (program m) w p) here))
 

@@ -1,6 +1,5 @@
--- Why two things are asked for: of a slot whose value stands nowhere that its value names nothing, and of a box that is to get an answer
--- that its words are accounted for.
-use Rattle.std.proofs.Common.{◌≡◌, ℕ, ℤ, zero, suc, ◌*◌, ◌/◌, ◌<◌, pos, List, [], ◌∷◌, Option, Some, None, refl, subst, inl, inr, arith}
+-- Why it is asked for that the words of a box that gets an answer are accounted for.
+use Rattle.std.proofs.Common.{◌≡◌, ℕ, ℤ, zero, suc, ◌*◌, ◌/◌, ◌<◌, List, [], ◌∷◌, Option, Some, None, refl, subst, inl, inr, arith}
 use Rattle.std.specs.Prelude.{slice_get}
 use Rattle.heap_model.specs.Heap.{Heap}
 use Rattle.heap_model.specs.Facts.{Fact, Named, refers, chars}
@@ -10,16 +9,13 @@ use Rattle.limbo_layout.specs.Adts.{Has}
 use Rattle.heap_model.proofs.Alike.{covers_not_inner}
 use Rattle.limbo_values.specs.declared.number.Kind.TheVariants as kind
 use Rattle.limbo_values.specs.Numbers.{InRange}
-use Rattle.limbo_meaning.specs.Values.{Ref}
-use Rattle.core_code.specs.Slots.{Holds, slot_names}
-use Rattle.core_typing.specs.Held as held
 use Rattle.dis_meaning.specs.Words.{Word, Refer, Plain}
 use Rattle.dis_memory.specs.Blocks.{Block, Record, words_in}
 use Rattle.value_words.specs.Forms.{Form, Cells, OwnedBy}
 use Rattle.value_words.specs.Facts.{Facts}
-use Rattle.value_frames.specs.Standing.{nothing_there, IsOwn, SlotStands, a_value}
+use Rattle.value_frames.specs.Standing.{IsOwn}
 use Rattle.value_frames.specs.Frames.{box_bytes, room_for}
-use Rattle.value_roots.specs.Accounts.{Accounted, to_value, to_inner, AllAccounted, none, more, LeadTo, it, through}
+use Rattle.value_roots.specs.Accounts.{Accounted, to_value, to_inner, AllAccounted, none, more}
 
 -- ---- block 0 is a record of frame 9, made by process 4; block 1 is a cell of a list and stands for value 5
 
@@ -52,31 +48,6 @@ inner = Refer (Some 1) ∷ []
 
 abbrev heap : Heap Block
 heap = Some (Record inner) ∷ Some (Record []) ∷ []
-
--- ---- a slot of the type of no value, of which it isn't known that it names nothing, may have a value that names something; to this no
--- word leads
-
-abbrev words : List Word
-words = Plain (pos 0) ∷ Refer None ∷ []
-
-first_only : (k n : ℕ) → slice_get (Some 5 ∷ []) k ≡ Some (Some n) → held.Has (0 ∷ []) k
-first_only zero n e = inl refl
-first_only (suc k) n e = absurd cc
-
-stands_nowhere : SlotStands [] known heap 9 words 0 4 (held.Of ty.Nothing (0 ∷ [])) (Holds (Ref (Some 5))) []
-stands_nowhere = a_value words 0 4 ty.Nothing (0 ∷ []) (Ref (Some 5)) (None, refl, nothing_there) first_only
-
-named : slot_names (Holds (Ref (Some 5))) 5 ≡ 1
-named = refl
-
-no_reference : (b : ℕ) → Has words (Refer (Some b)) → ⊥
-no_reference b (inl e) = absurd cc
-no_reference b (inr (inl e)) = absurd (let z : ◌≡◌ {A = Option ℕ} None (Some b) = cc in cc)
-no_reference b (inr (inr h)) = h
-
-leads_nowhere : (ws : List Word) → ws ≡ words → LeadTo known heap 5 ws → ⊥
-leads_nowhere _ same (it ws b h r) = no_reference b (subst (λ (us : List Word). Has us (Refer (Some b))) same h)
-leads_nowhere _ same (through ws b block h i e l) = no_reference b (subst (λ (us : List Word). Has us (Refer (Some b))) same h)
 
 -- ---- a box that is to get an answer, a tuple with a list, and that refers to a cell which isn't named
 

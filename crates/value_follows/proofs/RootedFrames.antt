@@ -1,5 +1,5 @@
 -- What the words of a frame refer to is accounted for where its variables and slots are named, and they lead to all that these name.
-use Rattle.std.proofs.Common.{◌≡◌, ℕ, zero, suc, ◌+◌, ◌<◌, ◌≤◌, ◌⊎◌, pos, List, [], ◌∷◌, length, map, Option, Some, None, inl, inr}
+use Rattle.std.proofs.Common.{◌≡◌, ℕ, zero, suc, ◌+◌, ◌<◌, ◌≤◌, ◌⊎◌, pos, List, [], ◌∷◌, length, map, Some, inl, inr}
 use Rattle.std.proofs.Common.{refl, sym, ap, subst, arith, ◌∙◌}
 use Rattle.std.specs.Prelude.{slice_get}
 use Rattle.std.specs.List.{range_with_len}
@@ -29,7 +29,7 @@ use Rattle.value_roots.specs.Accounts.{Accounted, to_value, AllAccounted, more, 
 use Rattle.value_roots.proofs.Words.{either}
 use Rattle.value_roots.proofs.Later.{second_leads}
 use Rattle.value_follows.specs.Stands.{types_of, spare_of, FrameIs}
-use Rattle.value_follows.specs.Rooted.{AreBare, PlaceAccounted}
+use Rattle.value_follows.specs.Rooted.{PlaceAccounted}
 use Rattle.value_follows.proofs.RootedValues.{kind_accounted, one_is, one_names, covers_those, row_referred}
 use Rattle.value_follows.proofs.RootedSlots.{in_range, IsWhole, AllThere, slot_accounted, slot_leads}
 
@@ -60,11 +60,11 @@ slot_is [] s l e = absurd cc
 slot_is (t ∷ slots) zero l e = cc
 slot_is (t ∷ slots) (suc s) l e = slot_is slots s l e
 
-busy_or_not : (busy : Option ℕ) (s : ℕ) → (busy ≡ Some s) ⊎ (busy ≡ Some s → ⊥)
-busy_or_not None s = inr (λ e. absurd cc)
-busy_or_not (Some b) s = elim (eqb_tells b s) [
-  | inl y ↦ inl (ap Some y.1)
-  | inr y ↦ inr (λ e. y.1 (let z : Some b ≡ Some s = e in cc))
+busy_or_not : (busy : List ℕ) (s : ℕ) → Has busy s ⊎ (Has busy s → ⊥)
+busy_or_not [] s = inr (λ h. h)
+busy_or_not (b ∷ bs) s = elim (eqb_tells b s) [
+  | inl y ↦ inl (inl y.1)
+  | inr y ↦ elim (busy_or_not bs s) [ inl z ↦ inl (inr z) | inr z ↦ inr (λ h. elim h [ inl e ↦ y.1 e | inr e ↦ z e ]) ]
 ]
 
 within_slots : {A : Type 0} (xs : List A) (s : ℕ) (a : A) → slice_get xs s ≡ Some a → s < length xs
@@ -78,7 +78,7 @@ module _ (m : typed.Module) (k : Facts) (i : ℕ) (x : World) (whole : IsWhole k
   abbrev pub Live : List Word → Type 0
   Live words = AllThere m.adts k x.heap whole words
 
-  module _ (busy : Option ℕ) (g : code.Frame) (f : Frame) (is : FrameIs m k i x busy g f) where
+  module _ (busy : List ℕ) (g : code.Frame) (f : Frame) (is : FrameIs m k i x busy g f) where
     -- A slot that isn't busy has what is known of it.
     record IsStanding (s : ℕ) (l : core.Slot) : Type 0 where
       known : Held
@@ -104,7 +104,7 @@ module _ (m : typed.Module) (k : Facts) (i : ℕ) (x : World) (whole : IsWhole k
           (all_covered m.adts k f.words linkage_bytes nothing (types_of m is.function) rooms g.variables o b is.words.laid is.words.values
           h e)))
 
-      standing_accounted : (s b : ℕ) → s < length g.slots → (busy ≡ Some s → ⊥)
+      standing_accounted : (s b : ℕ) → s < length g.slots → (Has busy s → ⊥)
           → word_at f.words (pos (reference_place m.adts (types_of m is.function) s)) ≡ Found (Refer (Some b)) → Account b
       standing_accounted s b l free e =
           let here = is_there g.slots s l in
@@ -115,7 +115,7 @@ module _ (m : typed.Module) (k : Facts) (i : ℕ) (x : World) (whole : IsWhole k
           (λ c j. is.mine s c j) (is.words.each s h.known here.0 free h.of here.1) b e
 
       pub frame_accounted : PlaceAccounted m k i x names f (spare_of m k i x is.function)
-          → ((s : ℕ) → busy ≡ Some s → PlaceAccounted m k i x names f (reference_place m.adts (types_of m is.function) s))
+          → ((s : ℕ) → Has busy s → PlaceAccounted m k i x names f (reference_place m.adts (types_of m is.function) s))
           → AllAccounted k i x.heap names (frame_words f)
       frame_accounted spare slot =
           more (Refer (Some f.instance)) f.words
@@ -150,35 +150,41 @@ module _ (m : typed.Module) (k : Facts) (i : ℕ) (x : World) (whole : IsWhole k
             ]
           ]
 
-    pub frame_leads : (n : ℕ) → Live f.words → AreBare is.known → ((b : ℕ) → busy ≡ Some b → slot_names (slot g.slots b) n ≡ 0)
-        → 0 < frame_names g n → LeadTo k x.heap n (frame_words f)
-    frame_leads n live bare unnamed h =
+    -- a busy slot names something
+    abbrev pub BusyNames : ℕ → Type 0
+    BusyNames n = (s : ℕ) × Has busy s × (0 < slot_names (slot g.slots s) n)
+
+    pub frame_leads : (n : ℕ) → Live f.words → 0 < frame_names g n → LeadTo k x.heap n (frame_words f) ⊎ BusyNames n
+    frame_leads n live h =
         elim (either (one n (Some g.instance)) (among n (references_in g.variables) + slots_name g.slots n) h) [
           | inl y ↦
-              it (frame_words f) f.instance (inl refl)
-              (subst (λ (j : ℕ). Refers k j f.instance) (sym (one_is n g.instance y)) (itself is.instance))
-          | inr y ↦
-              second_leads k x.heap n (Refer (Some f.instance) ∷ []) f.words
-              (elim (either (among n (references_in g.variables)) (slots_name g.slots n) y) [
-                | inl z ↦ by_variable z
-                | inr z ↦ by_slot (named_in g.slots n z)
-              ])
+              inl
+              (it (frame_words f) f.instance (inl refl)
+              (subst (λ (j : ℕ). Refers k j f.instance) (sym (one_is n g.instance y)) (itself is.instance)))
+          | inr y ↦ elim (either (among n (references_in g.variables)) (slots_name g.slots n) y) [
+            | inl z ↦ inl (by_words (by_variable z))
+            | inr z ↦ by_slot (named_in g.slots n z)
+          ]
         ]
       where
+        by_words : LeadTo k x.heap n f.words → LeadTo k x.heap n (frame_words f)
+        by_words l = second_leads k x.heap n (Refer (Some f.instance) ∷ []) f.words l
+
         by_variable : 0 < among n (references_in g.variables) → LeadTo k x.heap n f.words
         by_variable z =
             let rooms = rooms_of (rooms_in m.adts) (types_of m is.function) in
             let q = row_referred m.adts k f.words linkage_bytes nothing (types_of m is.function) rooms g.variables n is.words.values z in
             it f.words q.block q.has q.is
 
-        by_slot : IsNamedIn g.slots n → LeadTo k x.heap n f.words
+        by_slot : IsNamedIn g.slots n → LeadTo k x.heap n (frame_words f) ⊎ BusyNames n
         by_slot r =
             let h = known_of r.number r.held r.there in
-            let free : busy ≡ Some r.number → ⊥ =
-            (λ e. let none = unnamed r.number e in
-            let same = ap (λ (l : core.Slot). slot_names l n) (slot_is g.slots r.number r.held r.there) in
-            let some = r.names in
-            absurd (omega (arith, none, same, some))) in
-            slot_leads m.adts k x.heap whole n f.serial f.words (number_place m.adts (types_of m is.function) r.number)
-            (reference_place m.adts (types_of m is.function) r.number) h.known r.held (is.words.own r.number) live
-            (bare r.number h.known h.of) (is.words.each r.number h.known r.held free h.of r.there) r.names
+            let same = slot_is g.slots r.number r.held r.there in
+            elim (busy_or_not busy r.number) [
+              | inl z ↦ inr (r.number, z, subst (λ (l : core.Slot). 0 < slot_names l n) (sym same) r.names)
+              | inr z ↦
+                  inl (by_words
+                  (slot_leads m.adts k x.heap whole n f.serial f.words (number_place m.adts (types_of m is.function) r.number)
+                  (reference_place m.adts (types_of m is.function) r.number) h.known r.held (is.words.own r.number) live
+                  (is.words.each r.number h.known r.held z h.of r.there) r.names))
+            ]

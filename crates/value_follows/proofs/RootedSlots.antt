@@ -12,7 +12,7 @@ use Rattle.limbo_types.specs.Types.{Ty}
 use Rattle.limbo_layout.specs.Adts.{Def, Has}
 use Rattle.limbo_layout.specs.Layout.{alone, is_alone, reference}
 use Rattle.limbo_layout.proofs.Rooms.{has_left, has_right}
-use Rattle.limbo_meaning.specs.Values.{Value, references, among}
+use Rattle.limbo_meaning.specs.Values.{Value, references, among, nothing as no_value}
 use Rattle.core_code.specs.Slots as core
 use Rattle.core_code.specs.Slots.{slot_names, region_names, regions_name}
 use Rattle.core_typing.specs.Held as held
@@ -26,13 +26,12 @@ use Rattle.value_words.proofs.Blank.{mapped}
 use Rattle.value_words.proofs.Covered.{covered}
 use Rattle.value_frames.specs.Frames.{Form, Nowhere, AsNumber, AsReference, Boxed, form_of, room_for}
 use Rattle.value_frames.specs.Frames.{turn_bytes, turn_references, box_bytes}
-use Rattle.value_frames.specs.Standing.{NamesOnly, IsBox, IsIdle, nothing_there, text_left, carrier_left, RefersIdly, ValueStands, IsOwn}
+use Rattle.value_frames.specs.Standing.{IsBox, IsIdle, nothing_there, text_left, carrier_left, RefersIdly, ValueStands, IsOwn}
 use Rattle.value_frames.specs.Standing.{slots_in, last_of, SlotStands, a_value, a_decision, a_loop, ChainStands, no_chain, a_chain}
 use Rattle.value_frames.specs.Standing.{TailStands, no_more, one_more, RegionStands, no_slot, more_slots}
 use Rattle.value_roots.specs.Accounts.{Accounted, to_value, to_inner, AllAccounted, LeadTo, it, through}
 use Rattle.value_roots.proofs.Words.{either, has_counts}
-use Rattle.value_follows.specs.Rooted.{IsBare, RegionIsBare, RegionsAreBare}
-use Rattle.value_follows.proofs.RootedValues.{has_at, word_has, each_accounted, kind_accounted, name_there, covers_those, stands_laid}
+use Rattle.value_follows.proofs.RootedValues.{has_at, word_has, each_accounted, kind_accounted, covers_those, stands_laid}
 use Rattle.value_follows.proofs.RootedValues.{value_referred}
 
 -- a type whose values stand as references has the room of one
@@ -144,7 +143,7 @@ module _ (defs : List Def) (k : Facts) (x : Heap Block) (whole : IsWhole k x) wh
     value_accounted : (words : List Word) (n r b : ℕ) (f : Form) (t : Ty) (v : Value) → form_of t ≡ f → AllThere words
         → Named (λ j. among j (references v)) → ValueStands defs k words n r f t v → word_at words (pos r) ≡ Found (Refer (Some b))
         → Account b
-    value_accounted words n r b Nowhere t v form live named s e = idly_accounted words r b live s e
+    value_accounted words n r b Nowhere t v form live named s e = idly_accounted words r b live s.1 e
     value_accounted words n r b AsNumber t v form live named s e = idly_accounted words r b live s.1 e
     value_accounted words n r b AsReference t v form live named s e = reference_accounted words r b t v form named s e
     value_accounted words n r b Boxed t v form live named s e = box_accounted words r b s.0 s.1 t v live named s.2 s.3 s.4 e
@@ -250,11 +249,9 @@ module _ (defs : List Def) (k : Facts) (x : Heap Block) (whole : IsWhole k x) wh
     abbrev Leads : List Word → Type 0
     Leads words = LeadTo k x n words
 
-    nowhere_leads : (words : List Word) (t : Ty) (live : List ℕ) (v : Value) → form_of t ≡ Nowhere → IsBare (held.Of t live)
-        → NamesOnly live v → 0 < among n (references v) → Leads words
-    nowhere_leads words t live v form bare only h =
-        let j = name_there n (references v) h in
-        absurd (subst (λ (ns : List ℕ). held.Has ns j.0) (bare form) (only j.0 n j.1))
+    -- a value without parts names nothing
+    nothing_named : (v : Value) → v ≡ no_value → 0 < among n (references v) → ⊥
+    nothing_named v e h = let none = ap (λ (u : Value). among n (references u)) e in absurd (omega (arith, h, none))
 
     box_leads : (words : List Word) (p c : ℕ) (inner : List Word) (t : Ty) (v : Value) → AllThere words
         → word_at words (pos p) ≡ Found (Refer (Some c)) → IsBox defs k t c inner → Stands defs k inner 0 t v
@@ -265,14 +262,14 @@ module _ (defs : List Def) (k : Facts) (x : Heap Block) (whole : IsWhole k x) wh
         through words c (Record inner) has (inner_carrier c (Record inner) box.carries) (carried c (Record inner) box.carries (live c has))
         (it inner q.block q.has q.is)
 
-    value_leads : (words : List Word) (m r : ℕ) (f : Form) (t : Ty) (live : List ℕ) (v : Value) → form_of t ≡ f → AllThere words
-        → IsBare (held.Of t live) → NamesOnly live v → ValueStands defs k words m r f t v → 0 < among n (references v) → Leads words
-    value_leads words m r Nowhere t only v form live bare names s h = nowhere_leads words t only v form bare names h
-    value_leads words m r AsNumber t only v form live bare names s h =
+    value_leads : (words : List Word) (m r : ℕ) (f : Form) (t : Ty) (v : Value) → AllThere words → ValueStands defs k words m r f t v
+        → 0 < among n (references v) → Leads words
+    value_leads words m r Nowhere t v live s h = absurd (nothing_named v s.0 h)
+    value_leads words m r AsNumber t v live s h =
         let q = value_referred defs k words m t v n s.0 h in it words q.block q.has q.is
-    value_leads words m r AsReference t only v form live bare names s h =
+    value_leads words m r AsReference t v live s h =
         let q = value_referred defs k words r t v n s h in it words q.block q.has q.is
-    value_leads words m r Boxed t only v form live bare names s h = box_leads words r s.0 s.1 t v live s.2 s.3 s.4 h
+    value_leads words m r Boxed t v live s h = box_leads words r s.0 s.1 t v live s.2 s.3 s.4 h
 
     module _ (frame : ℕ) where
       own_leads : (words : List Word) (p c size : ℕ) (offsets : List ℕ) (inner : List Word)
@@ -281,38 +278,37 @@ module _ (defs : List Def) (k : Facts) (x : Heap Block) (whole : IsWhole k x) wh
           through words c (Record inner) (word_has words p (Refer (Some c)) own.word) (is_inner (k.fact c) own.free) own.there l
 
       mutual
-        pub slot_leads : (words : List Word) (m r : ℕ) (h : Held) (l : core.Slot) (own : List ℕ) → AllThere words → IsBare h
+        pub slot_leads : (words : List Word) (m r : ℕ) (h : Held) (l : core.Slot) (own : List ℕ) → AllThere words
             → SlotStands defs k x frame words m r h l own → 0 < slot_names l n → Leads words
-        slot_leads _ _ _ _ _ _ live bare (a_value words m r t only v s names) h =
-            value_leads words m r (form_of t) t only v refl live bare names s h
-        slot_leads _ _ _ _ _ _ live bare (a_decision words m r d f idly) h = absurd (omega (arith, h))
-        slot_leads _ _ _ _ _ _ live bare (a_loop words m r next gs rs own f c) h = chain_leads words r gs rs own live bare c h
+        slot_leads _ _ _ _ _ _ live (a_value words m r t only v s names) h = value_leads words m r (form_of t) t v live s h
+        slot_leads _ _ _ _ _ _ live (a_decision words m r d f idly) h = absurd (omega (arith, h))
+        slot_leads _ _ _ _ _ _ live (a_loop words m r next gs rs own f c) h = chain_leads words r gs rs own live c h
 
         chain_leads : (words : List Word) (p : ℕ) (hs : held.Regions) (gs : core.Regions) (own : List ℕ) → AllThere words
-            → RegionsAreBare hs → ChainStands defs k x frame words p hs gs own → 0 < regions_name gs n → Leads words
-        chain_leads _ _ _ _ _ live bare (no_chain words p f) j = absurd (omega (arith, j))
-        chain_leads _ _ _ _ _ live bare (a_chain words inner p c last h hs g gs own more o f first rest) j =
+            → ChainStands defs k x frame words p hs gs own → 0 < regions_name gs n → Leads words
+        chain_leads _ _ _ _ _ live (no_chain words p f) j = absurd (omega (arith, j))
+        chain_leads _ _ _ _ _ live (a_chain words inner p c last h hs g gs own more o f first rest) j =
             let behind = record_there c inner o.there in
             own_leads words p c _ _ inner o (elim (either (region_names g n) (regions_name gs n) j) [
-              | inl y ↦ region_leads inner 8 h g own behind bare.0 first y
-              | inr y ↦ tail_leads inner 0 last hs gs more behind bare.1 rest y
+              | inl y ↦ region_leads inner 8 h g own behind first y
+              | inr y ↦ tail_leads inner 0 last hs gs more behind rest y
             ])
 
         tail_leads : (words : List Word) (p : ℕ) (last : Option ℕ) (hs : held.Regions) (gs : core.Regions) (own : List ℕ) → AllThere words
-            → RegionsAreBare hs → TailStands defs k x frame words p last hs gs own → 0 < regions_name gs n → Leads words
-        tail_leads _ _ _ _ _ _ live bare (no_more words p f) j = absurd (omega (arith, j))
-        tail_leads _ _ _ _ _ _ live bare (one_more words inner p c last h hs g gs own more o f first rest) j =
+            → TailStands defs k x frame words p last hs gs own → 0 < regions_name gs n → Leads words
+        tail_leads _ _ _ _ _ _ live (no_more words p f) j = absurd (omega (arith, j))
+        tail_leads _ _ _ _ _ _ live (one_more words inner p c last h hs g gs own more o f first rest) j =
             let behind = record_there c inner o.there in
             own_leads words p c _ _ inner o (elim (either (region_names g n) (regions_name gs n) j) [
-              | inl y ↦ region_leads inner 8 h g own behind bare.0 first y
-              | inr y ↦ tail_leads inner 0 last hs gs more behind bare.1 rest y
+              | inl y ↦ region_leads inner 8 h g own behind first y
+              | inr y ↦ tail_leads inner 0 last hs gs more behind rest y
             ])
 
-        region_leads : (words : List Word) (p : ℕ) (h : held.Region) (g : core.Region) (own : List ℕ) → AllThere words → RegionIsBare h
+        region_leads : (words : List Word) (p : ℕ) (h : held.Region) (g : core.Region) (own : List ℕ) → AllThere words
             → RegionStands defs k x frame words p h g own → 0 < region_names g n → Leads words
-        region_leads _ _ _ _ _ live bare (no_slot words p) j = absurd (omega (arith, j))
-        region_leads _ _ _ _ _ live bare (more_slots words p h hs s g own more one others) j =
+        region_leads _ _ _ _ _ live (no_slot words p) j = absurd (omega (arith, j))
+        region_leads _ _ _ _ _ live (more_slots words p h hs s g own more one others) j =
             elim (either (slot_names s n) (region_names g n) j) [
-              | inl y ↦ slot_leads words p (p + 4) h s own live bare.0 one y
-              | inr y ↦ region_leads words (p + 8) hs g more live bare.1 others y
+              | inl y ↦ slot_leads words p (p + 4) h s own live one y
+              | inr y ↦ region_leads words (p + 8) hs g more live others y
             ]

@@ -79,17 +79,6 @@ one_is n m h = elim (eqb_tells n m) [
 pub one_names : (n : ℕ) → 0 < value.one n (Some n)
 one_names n = let h = names_it n in omega (arith, h)
 
-pub name_there : (n : ℕ) (ns : List (Option ℕ)) → Name ns n → (j : ℕ) × (slice_get ns j ≡ Some (Some n))
-name_there n [] h = absurd (omega (arith, h))
-name_there n (None ∷ ns) h = let i = name_there n ns (omega (arith, h)) in (suc i.0, i.1)
-name_there n (Some m ∷ ns) h = elim (eqb_tells n m) [
-  | inl y ↦ (0, ap (λ j. Some (Some j)) (sym y.1))
-  | inr y ↦
-      let e : value.one n (Some m) ≡ 0 = ap (λ (b : Bool). if b then 1 else 0) y.0 in
-      let i = name_there n ns (omega (arith, h, e)) in
-      (suc i.0, i.1)
-]
-
 -- ---- values
 
 module _ (defs : List Def) (k : Facts) where

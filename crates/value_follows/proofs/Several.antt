@@ -1,6 +1,6 @@
 -- Rows of several instructions, of which all but the last change nothing that refers: as long as they last, the machine's process is that
 -- of two that are ready, at another place and with other numbers.
-use Rattle.std.proofs.Common.{◌≡◌, ℕ, zero, suc, ◌+◌, ◌<◌, List, [], ◌∷◌, Option, Some, None, refl, sym, ap, ◌∙◌, subst, arith}
+use Rattle.std.proofs.Common.{◌≡◌, ℕ, zero, suc, ◌+◌, ◌<◌, List, [], ◌∷◌, Option, Some, refl, sym, ap, ◌∙◌, subst, arith}
 use Rattle.std.specs.Prelude.{slice_get, slice_set}
 use Rattle.process_model.specs.Process.{Went}
 use Rattle.process_model.proofs.Totals.{fun_ext}
@@ -99,7 +99,7 @@ module _ (m : typed.Module) (b : Base m) (k : Facts) (i : ℕ) (w : Shared) (x :
   pub reaches_at : (j : ℕ) (words : List Word) (inst : Inst) → slice_get (code_of (site_of m number function p.frame.pc row_now.at) instr) j ≡ Some inst
       → Reaches (object_of m ∷ []) x (moved_to q (q.frame.pc + j) words) (object_of m) inst
   reaches_at j words inst e =
-      let is = instance_here m b k i w x p q None ready.stands.is hold worlds.0 in
+      let is = instance_here m b k i w x p q [] ready.stands.is hold worlds.0 in
       record {
         object = 0;
         words = is.0;

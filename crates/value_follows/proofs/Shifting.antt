@@ -1,5 +1,5 @@
 -- Bytes and ints that are shifted.
-use Rattle.std.proofs.Common.{◌≡◌, ℕ, ℤ, suc, pos, ◌<◌, ◌≤◌, List, [], ◌∷◌, length, Some, None, refl, ap, ◌∙◌, subst, arith}
+use Rattle.std.proofs.Common.{◌≡◌, ℕ, ℤ, suc, pos, ◌<◌, ◌≤◌, List, [], ◌∷◌, length, Some, refl, ap, ◌∙◌, subst, arith}
 use Rattle.std.specs.Prelude.{slice_get}
 use Rattle.limbo_types.specs.Types.{Ty}
 use Rattle.limbo_values.specs.declared.number.Kind.{Kind}
@@ -62,7 +62,7 @@ module _ (m : typed.Module) (b : Base m) (h : Shift) (j : Kind) (form : form_of 
     abbrev place : ℕ → ℕ
     place s = number_place m.adts (types_of m ready.stands.is.function) s
 
-    shift_goes : (ya : NumberIs m k i x None p.frame q.frame ready.stands.is j a) (yc : NumberIs m k i x None p.frame q.frame ready.stands.is Int c)
+    shift_goes : (ya : NumberIs m k i x [] p.frame q.frame ready.stands.is j a) (yc : NumberIs m k i x [] p.frame q.frame ready.stands.is Int c)
         (l : into < length p.frame.slots) (clean : IsClean (held.slot ready.stands.is.known into))
         (size : size_at m ready.stands.is.function.of.answer (of_function m ready.stands.is.function) p.frame.pc (Some instr) ≡ 1)
         (is : begins m b k i w x p q ready hold worlds instr here (inst (shift_op h j) (own (place c)) (of_own (place a)) (own (place into))))
@@ -91,9 +91,9 @@ bytes_go m b h into a c k i x p q ready here =
     let row = code_here m now i y p q r it here in
     let found = finds m is.function p.frame.pc is.known it r.stands.goes row in
     let these = subst (AreThese is.known (a ∷ c ∷ [])) found.2.0.0 found.1 in
-    let named = uses m now i y None p.frame q.frame is p.frame.pc it row in
-    let ya = number_is m now i y None p.frame q.frame is Byte a refl named.1.0 (λ e. absurd cc) these.0 in
-    let yc = number_is m now i y None p.frame q.frame is Int c refl named.1.1.0 (λ e. absurd cc) these.1.0 in
+    let named = uses m now i y [] p.frame q.frame is p.frame.pc it row in
+    let ya = number_is m now i y [] p.frame q.frame is Byte a refl named.1.0 (λ e. e) these.0 in
+    let yc = number_is m now i y [] p.frame q.frame is Int c refl named.1.1.0 (λ e. e) these.1.0 in
     shift_goes m b h Byte refl into a c now i w y p q r hold worlds here ya yc named.0 found.3 refl refl (omega arith)
     (ap (code.next frames_limit (program m) w p) here
     ∙ ap (λ (v : Slot). code.goes_on w p (core.put p.frame.slots into
@@ -111,9 +111,9 @@ ints_go m b h into a c k i x p q ready here =
     let row = code_here m now i y p q r it here in
     let found = finds m is.function p.frame.pc is.known it r.stands.goes row in
     let these = subst (AreThese is.known (a ∷ c ∷ [])) found.2.0.0 found.1 in
-    let named = uses m now i y None p.frame q.frame is p.frame.pc it row in
-    let ya = number_is m now i y None p.frame q.frame is Int a refl named.1.0 (λ e. absurd cc) these.0 in
-    let yc = number_is m now i y None p.frame q.frame is Int c refl named.1.1.0 (λ e. absurd cc) these.1.0 in
+    let named = uses m now i y [] p.frame q.frame is p.frame.pc it row in
+    let ya = number_is m now i y [] p.frame q.frame is Int a refl named.1.0 (λ e. e) these.0 in
+    let yc = number_is m now i y [] p.frame q.frame is Int c refl named.1.1.0 (λ e. e) these.1.0 in
     shift_goes m b h Int refl into a c now i w y p q r hold worlds here ya yc named.0 found.3 refl refl (omega arith)
     (ap (code.next frames_limit (program m) w p) here
     ∙ ap (λ (v : Slot). code.goes_on w p (core.put p.frame.slots into

@@ -1,9 +1,9 @@
 -- What slots have that an instruction reads: numbers, and decisions.
-use Rattle.std.proofs.Common.{◌≡◌, ℕ, ℤ, Bool, zero, suc, pos, ◌<◌, List, [], ◌∷◌, length, Option, Some, refl, sym, ap, ◌∙◌, subst, arith, inl, inr}
+use Rattle.std.proofs.Common.{◌≡◌, ℕ, ℤ, Bool, zero, suc, pos, ◌<◌, List, [], ◌∷◌, length, Some, refl, sym, ap, ◌∙◌, subst, arith, inl, inr}
 use Rattle.std.specs.Prelude.{slice_get, slice_index_or}
 use Rattle.limbo_types.specs.Types as ty
 use Rattle.limbo_types.specs.Types.{Ty}
-use Rattle.limbo_layout.specs.Adts.{Def}
+use Rattle.limbo_layout.specs.Adts.{Def, Has}
 use Rattle.limbo_values.specs.declared.number.Kind.{Kind}
 use Rattle.limbo_values.specs.declared.number.Kind.TheVariants as kind
 use Rattle.limbo_values.specs.Numbers.{InRange}
@@ -53,7 +53,7 @@ no_nil u kind.Byte (inr n) = absurd n.1
 no_nil u kind.Int (inr n) = absurd n.1
 no_nil u kind.Big (inr n) = absurd n.1
 
-of_type : (h : Held) (u : Ty) → type_held h ≡ Some u → (live : List ℕ) × (h ≡ Of u live)
+pub of_type : (h : Held) (u : Ty) → type_held h ≡ Some u → (live : List ℕ) × (h ≡ Of u live)
 of_type (Of t ns) u e = (ns, ap (λ v. Of v ns) (same_some t u e))
 of_type (Decided b) u e = absurd cc
 of_type (Turns rs) u e = absurd cc
@@ -104,7 +104,7 @@ held_number l v z e f = e ∙ ap Holds f
 
 -- ---- slots of a frame
 
-module _ (m : typed.Module) (k : Facts) (i : ℕ) (x : World) (busy : Option ℕ) (g : code.Frame) (f : Frame) (is : FrameIs m k i x busy g f) where
+module _ (m : typed.Module) (k : Facts) (i : ℕ) (x : World) (busy : List ℕ) (g : code.Frame) (f : Frame) (is : FrameIs m k i x busy g f) where
   abbrev pub types : List Ty
   types = types_of m is.function
 
@@ -112,7 +112,7 @@ module _ (m : typed.Module) (k : Facts) (i : ℕ) (x : World) (busy : Option ℕ
   pub uses : (pc : ℕ) (instr : Instr) → slice_get (of_function m is.function).code pc ≡ Some instr → Uses (length g.slots) instr
   uses pc instr e = subst (λ n. Uses n instr) (sym is.many) (slots_are_there m.adts (routine_of is.function) pc instr e)
 
-  pub slot_is : (s : ℕ) → s < length g.slots → (busy ≡ Some s → ⊥)
+  pub slot_is : (s : ℕ) → s < length g.slots → (Has busy s → ⊥)
       → SlotStands m.adts k x.heap f.serial f.words (number_place m.adts types s) (reference_place m.adts types s)
       (held.slot is.known s) (core.slot g.slots s) (is.words.own s)
   slot_is s l free =
@@ -127,7 +127,7 @@ module _ (m : typed.Module) (k : Facts) (i : ℕ) (x : World) (busy : Option ℕ
     pub found : number_at j f.words (pos (number_place m.adts types s)) ≡ Found number
     pub range : InRange j number
 
-  pub number_is : (j : Kind) (s : ℕ) → form_of (of_kind j) ≡ AsNumber → s < length g.slots → (busy ≡ Some s → ⊥) → IsA is.known s (of_kind j)
+  pub number_is : (j : Kind) (s : ℕ) → form_of (of_kind j) ≡ AsNumber → s < length g.slots → (Has busy s → ⊥) → IsA is.known s (of_kind j)
       → NumberIs j s
   number_is j s form l free a =
       let u : a.0 ≡ of_kind j = no_nil a.0 j a.2 in
@@ -153,7 +153,7 @@ module _ (m : typed.Module) (k : Facts) (i : ℕ) (x : World) (busy : Option ℕ
     pub holds : core.slot g.slots s ≡ Holds (Num (truth b))
     pub found : number_at kind.Int f.words (pos (number_place m.adts types s)) ≡ Found (truth b)
 
-  pub decision_is : (b : Bool) (s : ℕ) → s < length g.slots → (busy ≡ Some s → ⊥) → held.slot is.known s ≡ Decided b → DecisionIs b s
+  pub decision_is : (b : Bool) (s : ℕ) → s < length g.slots → (Has busy s → ⊥) → held.slot is.known s ≡ Decided b → DecisionIs b s
   decision_is b s l free e =
       let n = number_place m.adts types s in
       let r = reference_place m.adts types s in

@@ -10,6 +10,7 @@ use Rattle.limbo_layout.specs.Adts.{Has}
 use Rattle.limbo_typed.specs.Typed as typed
 use Rattle.limbo_meaning.specs.Memory.{HeapValue}
 use Rattle.limbo_meaning.specs.Process.{Shared}
+use Rattle.limbo_meaning.specs.Values.{Value}
 use Rattle.core_code.specs.Code.{Instr}
 use Rattle.core_code.specs.Machine as code
 use Rattle.core_code.specs.Slots as core
@@ -29,7 +30,8 @@ use Rattle.value_frames.specs.Later.{AreMadeBy}
 use Rattle.value_heaps.proofs.Words.{refers_it}
 use Rattle.value_heaps.specs.Blocks.{Constant, IsBlock, elements, cell, record_of, channel, instance_of, HasConstant}
 use Rattle.value_code.specs.Objects.{of_function, object_of, constants, globals}
-use Rattle.value_follows.specs.Stands.{scope, types_of, GoesOn, place_of, FrameIs, spare_of, AnswerGoes, AllWait, none_waits, waits_below, Ready}
+use Rattle.value_follows.specs.Stands.{scope, types_of, GoesOn, place_of, Answer, Awaited, FrameIs, spare_of, AnswerGoes, AllWait, none_waits, waits_below}
+use Rattle.value_follows.specs.Stands.{Stands, Ready}
 use Rattle.value_code.specs.Code.{code_of}
 use Rattle.value_follows.specs.Rows.{RowStands, Base, site_of}
 use Rattle.value_follows.specs.Sides.{contents, HoldTheSame, IsOfFirst}
@@ -62,25 +64,25 @@ module _ (m : typed.Module) (f : typed.Function) (pc : ℕ) (known : held.Slots)
 -- ---- frames that wait do so for a callee with other words, where its address for the answer is as it was
 
 module _ (m : typed.Module) (k : Facts) (i : ℕ) (x : World) where
-  answer_goes : (form : Form) (t : Ty) (f : Frame) (types : List Ty) (into : ℕ) (callee other : Frame) (own : ℕ → List ℕ)
+  answer_goes : (a : Answer) (form : Form) (t : Ty) (f : Frame) (types : List Ty) (into : ℕ) (callee other : Frame) (own : ℕ → List ℕ)
       → word_at other.words (pos answer_place) ≡ word_at callee.words (pos answer_place)
-      → AnswerGoes m k i x form t f types into callee own → AnswerGoes m k i x form t f types into other own
-  answer_goes Nowhere t f types into callee other own e a = a
-  answer_goes AsNumber t f types into callee other own e a = (a.0, e ∙ a.1)
-  answer_goes AsReference t f types into callee other own e a = (a.0, e ∙ a.1)
-  answer_goes Boxed t f types into callee other own e a = (a.0, a.1, a.2, e ∙ a.3, a.4, a.5)
+      → AnswerGoes m k i x a form t f types into callee own → AnswerGoes m k i x a form t f types into other own
+  answer_goes a Nowhere t f types into callee other own e goes = goes
+  answer_goes a AsNumber t f types into callee other own e goes = (goes.0, e ∙ goes.1)
+  answer_goes a AsReference t f types into callee other own e goes = (goes.0, e ∙ goes.1)
+  answer_goes a Boxed t f types into callee other own e goes = (goes.0, goes.1, goes.2, e ∙ goes.3, goes.4, goes.5, goes.6)
 
-  pub all_wait : (t : Ty) (callee other : Frame) (gs : List code.Frame) (fs : List Frame) → other.serial ≡ callee.serial
+  pub all_wait : (a : Answer) (t : Ty) (callee other : Frame) (gs : List code.Frame) (fs : List Frame) → other.serial ≡ callee.serial
       → word_at other.words (pos answer_place) ≡ word_at callee.words (pos answer_place)
-      → AllWait m k i x t callee gs fs → AllWait m k i x t other gs fs
-  all_wait _ callee other _ _ same e (none_waits c) = none_waits other
-  all_wait _ callee other _ _ same e (waits_below t c g f gs fs w rest) =
-      waits_below t other g f gs fs (record {
+      → AllWait m k i x a t callee gs fs → AllWait m k i x a t other gs fs
+  all_wait _ _ callee other _ _ same e (none_waits a c) = none_waits a other
+  all_wait _ _ callee other _ _ same e (waits_below a t c g f gs fs w rest) =
+      waits_below a t other g f gs fs (record {
         is = w.is;
         goes = w.goes;
         pc = w.pc;
         spare = w.spare;
-        answer = answer_goes (form_of t) t f (types_of m w.is.function) g.into callee other w.is.words.own e w.answer;
+        answer = answer_goes a (form_of t) t f (types_of m w.is.function) g.into callee other w.is.words.own e w.answer;
         older = subst (λ s. f.serial < s) (sym same) w.older;
         unnamed = w.unnamed;
       }) rest
@@ -127,7 +129,7 @@ module _ (m : typed.Module) (k : Facts) where
         (j.words, also x.heap s t.1 (Instance 0 j.words) there j.is, j.constant)
 
 -- an instruction of a row is what the process does next
-module _ (m : typed.Module) (b : Base m) (k : Facts) (i : ℕ) (w : Shared) (x : World) (p : code.Process) (q : Process) (busy : Option ℕ) (is : FrameIs m k i x busy p.frame q.frame) (hold : HoldTheSame m k i x p q) (alike : WorldsAlike (contents m) k w.heap x.heap) where
+module _ (m : typed.Module) (b : Base m) (k : Facts) (i : ℕ) (w : Shared) (x : World) (p : code.Process) (q : Process) (busy : List ℕ) (is : FrameIs m k i x busy p.frame q.frame) (hold : HoldTheSame m k i x p q) (alike : WorldsAlike (contents m) k w.heap x.heap) where
   pub instance_here : (words : List Word) × (at x.heap q.frame.instance ≡ Some (Instance 0 words)) × ((c : Constant) → Has (constants m) c → HasConstant m.adts k words c)
   instance_here = instance_there m k w x alike p.frame.instance q.frame.instance is.instance is.formed (hold.same.live q.frame.instance (hold.same.roots q.frame.instance (names_instance q)))
 
@@ -148,6 +150,56 @@ module _ (m : typed.Module) (b : Base m) (k : Facts) (i : ℕ) (w : Shared) (x :
   row_here instr here =
       b.row_stands is.number is.function p.frame.pc instr is.there (subst (λ c. slice_get c p.frame.pc ≡ Some instr) is.code here)
 
+-- ---- two that stand for one another do so at another place, with other slots and words, where the answer's word is as it was
+
+module _ (m : typed.Module) (k : Facts) (i : ℕ) (x : World) (busy : List ℕ) (a : Answer) (p : code.Process) (q : Process) (s : Stands m k i x busy a p q) where
+  -- the process of the machine, at another place, with other words, and with these frames that are made
+  abbrev pub moved_on : (to : ℕ) → List Word → (made : List Frame) → Process
+  moved_on to words made = with_frames q (at_pc (with_words q.frame words) to) q.below made
+
+  abbrev pub on_slots : (pc : ℕ) → List Value → core.Slots → code.Process
+  on_slots pc vs slots = code.with_frames p (code.at p.frame pc vs slots) p.below
+
+  -- The running frame then is of the same function, of whose slots this is known, and which have these blocks as their own.
+  pub record StandsOn (now : Facts) (y : World) (busy' : List ℕ) (known' : held.Slots) (own' : ℕ → List ℕ) (r : code.Process) (t : Process) : Type 0 where
+    pub stands : Stands m now i y busy' a r t
+    pub number : stands.is.number ≡ s.is.number
+    pub function : stands.is.function ≡ s.is.function
+    pub known : stands.is.known ≡ known'
+    pub own : stands.is.words.own ≡ own'
+
+  pub stands_on : (busy' : List ℕ) (pc to : ℕ) (known : held.Slots) (vs : List Value) (slots : core.Slots) (words : List Word) (made : List Frame)
+      → length slots ≡ length p.frame.slots
+      → (are : WordsAre m.adts k x.heap q.frame.serial busy' (types_of m s.is.function) known vs slots words)
+      → AreMadeBy k i are.own → GoesOn m s.is.function pc known
+      → word_at words (pos answer_place) ≡ word_at q.frame.words (pos answer_place)
+      → StandsOn k x busy' known are.own (on_slots pc vs slots) (moved_on to words made)
+  stands_on busy' pc to known vs slots words made long are mine goes answer = record {
+    stands = record {
+      number = s.number;
+      is = record {
+        number = s.is.number;
+        function = s.is.function;
+        there = s.is.there;
+        code = s.is.code;
+        answer = s.is.answer;
+        many = long ∙ s.is.many;
+        instance = s.is.instance;
+        formed = s.is.formed;
+        known = known;
+        words = are;
+        mine = mine;
+        fresh = s.is.fresh;
+      };
+      goes = goes;
+      waits = all_wait m k i x a p.frame.answer q.frame (moved_on to words made).frame p.below q.below refl answer s.waits;
+    };
+    number = refl;
+    function = refl;
+    known = refl;
+    own = refl;
+  }
+
 -- ---- two that are ready are so at another place, with other slots and words, where what lies in front of the slots is as it was
 
 module _ (m : typed.Module) (k : Facts) (i : ℕ) (x : World) (p : code.Process) (q : Process) (r : Ready m k i x p q) where
@@ -165,7 +217,7 @@ module _ (m : typed.Module) (k : Facts) (i : ℕ) (x : World) (p : code.Process)
   code_here instr e = subst (λ c. slice_get c p.frame.pc ≡ Some instr) r.stands.is.code e
 
   pub ready_on : (pc at : ℕ) (known : held.Slots) (slots : core.Slots) (words : List Word) → length slots ≡ length p.frame.slots
-      → (are : WordsAre m.adts k x.heap q.frame.serial None (types_of m function) known p.frame.variables slots words)
+      → (are : WordsAre m.adts k x.heap q.frame.serial [] (types_of m function) known p.frame.variables slots words)
       → AreMadeBy k i are.own → GoesOn m function pc known → at ≡ place_of m r.stands.is.number function pc
       → word_at words (pos answer_place) ≡ word_at q.frame.words (pos answer_place)
       → word_at words (pos (spare_of m k i x function)) ≡ word_at q.frame.words (pos (spare_of m k i x function))
@@ -188,7 +240,7 @@ module _ (m : typed.Module) (k : Facts) (i : ℕ) (x : World) (p : code.Process)
         fresh = r.stands.is.fresh;
       };
       goes = goes;
-      waits = all_wait m k i x p.frame.answer q.frame (at_words at words).frame p.below q.below refl answer r.stands.waits;
+      waits = all_wait m k i x Awaited p.frame.answer q.frame (at_words at words).frame p.below q.below refl answer r.stands.waits;
     };
     pc = there;
     spare = spare ∙ r.spare;

@@ -1,5 +1,5 @@
 -- Constants that are texts: the slot refers to the text in the module's data.
-use Rattle.std.proofs.Common.{◌≡◌, ℕ, suc, pos, List, [], Option, Some, None, refl, ap, ◌∙◌, subst, arith, inl}
+use Rattle.std.proofs.Common.{◌≡◌, ℕ, suc, pos, List, [], Option, Some, refl, ap, ◌∙◌, subst, arith, inl}
 use Rattle.limbo_types.specs.Types as ty
 use Rattle.limbo_types.specs.Types.{Ty}
 use Rattle.limbo_layout.specs.Adts.{Def}
@@ -52,11 +52,11 @@ chars_go m b cs into from k i x p q ready here =
     let instr = Give ty.Chars (Literal (constant.Chars cs)) into from in
     let found = finds m is.function p.frame.pc is.known instr r.stands.goes (code_here m now i y p q r instr here) in
     let at = row m b now i w y p q r hold worlds instr here in
-    let instance = instance_here m b now i w y p q None is hold worlds.0 in
+    let instance = instance_here m b now i w y p q [] is hold worlds.0 in
     let constant = instance.2 (placed m at.at ty.Chars (value.Chars cs)) (at.stand (placed m at.at ty.Chars (value.Chars cs)) (inl refl)) in
     let text = text_there m.adts now instance.0 cs at.at ty.Chars (value.Chars cs) refl refl constant.stands in
     reference_goes m b now i w y p q r hold worlds instr here into
-    (uses m now i y None p.frame q.frame is p.frame.pc instr (code_here m now i y p q r instr here)).0 found.3
+    (uses m now i y [] p.frame q.frame is p.frame.pc instr (code_here m now i y p q r instr here)).0 found.3
     (operand.Mp (pos at.at)) text.0
     (operands_are_read.source_referring y q (operand.Mp (pos at.at)) instance.0 at.at (spots_lead.of_module y q 0 instance.0 at.at instance.1).0
     ∙ ap (λ a. a >>= reference) text.1)

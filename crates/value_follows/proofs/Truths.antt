@@ -1,5 +1,5 @@
 -- The truth of an int, its denial, and how two numbers compare: what a branch decides.
-use Rattle.std.proofs.Common.{◌≡◌, ℕ, ℤ, pos, true, false, if◌then◌else◌, None, refl, sym, ap, ◌∙◌}
+use Rattle.std.proofs.Common.{◌≡◌, ℕ, ℤ, pos, true, false, if◌then◌else◌, [], refl, sym, ap, ◌∙◌}
 use Rattle.std.specs.declared.cmp.Ordering.{Ordering}
 use Rattle.std.specs.declared.cmp.Ordering.TheVariants as ordering
 use Rattle.std.specs.Ordering.{int_cmp, is_eq, is_ne}
@@ -68,9 +68,9 @@ truths_go m b into from k i x p q ready here =
     ap (code.next frames_limit (program m) w p) here
     ∙ ap (λ (l : Slot). code.goes_on w p (core.put p.frame.slots into (Holds (truth_of (core.value_of l))))) z.holds)
   where
-    number_at_first : (k : Facts) (x : World) (r : Ready m k i x p q) → NumberIs m k i x None p.frame q.frame r.stands.is Int from
+    number_at_first : (k : Facts) (x : World) (r : Ready m k i x p q) → NumberIs m k i x [] p.frame q.frame r.stands.is Int from
     number_at_first k x r =
         let is = r.stands.is in
         let row = code_here m k i x p q r (Truth into from) here in
-        number_is m k i x None p.frame q.frame is Int from refl (uses m k i x None p.frame q.frame is p.frame.pc (Truth into from) row).1 (λ e. absurd cc)
+        number_is m k i x [] p.frame q.frame is Int from refl (uses m k i x [] p.frame q.frame is p.frame.pc (Truth into from) row).1 (λ e. e)
         (finds m is.function p.frame.pc is.known (Truth into from) r.stands.goes row).0

@@ -1,5 +1,5 @@
 -- Frames that wait do so while the heap changes elsewhere: where no block changes that they have as their own.
-use Rattle.std.proofs.Common.{◌≡◌, ℕ, pos, ◌<◌, ◌≤◌, List, length, Option, Some, None, refl, ◌∙◌, subst, arith}
+use Rattle.std.proofs.Common.{◌≡◌, ℕ, pos, ◌<◌, ◌≤◌, List, [], ◌∷◌, length, Option, Some, refl, ◌∙◌, subst, arith}
 use Rattle.heap_model.specs.Facts.{Free}
 use Rattle.limbo_types.specs.Types.{Ty}
 use Rattle.limbo_layout.specs.Adts.{Def, Has}
@@ -19,8 +19,9 @@ use Rattle.value_frames.specs.Standing.{IsIdle, nothing_there, text_left, carrie
 use Rattle.value_frames.specs.Slots.{IsKept}
 use Rattle.value_frames.specs.Later.{FrameLater, AreMadeBy}
 use Rattle.value_frames.proofs.Later.{frames_later}
-use Rattle.value_follows.specs.Stands.{types_of, place_of, spare_of, GoesOn, FrameIs, AnswerGoes, AllWait, none_waits, waits_below, Ready}
-use Rattle.value_follows.proofs.Standing.{all_wait, at_words}
+use Rattle.value_follows.specs.Stands.{types_of, place_of, spare_of, GoesOn, Answer, Awaited, Referred, Filled, FrameIs, RefersSo, AnswerGoes, AllWait}
+use Rattle.value_follows.specs.Stands.{none_waits, waits_below, Stands, Ready}
+use Rattle.value_follows.proofs.Standing.{all_wait, at_words, moved_on, on_slots, StandsOn}
 
 module _ (defs : List Def) (k k' : Facts) (grows : Grows k k') where
   idle_later : (r : Option ℕ) → IsIdle defs k r → IsIdle defs k' r
@@ -37,7 +38,7 @@ other_owner f a c l e g = let same : a ≡ c = cc in absurd (omega (arith, l, sa
 -- All free blocks that this process made are as they were, but for those of the frame of one serial.
 module _ (m : typed.Module) (k k' : Facts) (i : ℕ) (x x' : World) (changed : ℕ) (grows : Grows k k') (more : x.outside.frames ≤ x'.outside.frames)
     (keeps : (b : ℕ) → Free k b → k.maker b ≡ Some i → (k.form b ≡ Some (OwnedBy changed) → ⊥) → IsKept k' x.heap x'.heap b) where
-  module _ (busy : Option ℕ) (g : code.Frame) (f : Frame) (older : f.serial < changed) (is : FrameIs m k i x busy g f) where
+  module _ (busy : List ℕ) (g : code.Frame) (f : Frame) (older : f.serial < changed) (is : FrameIs m k i x busy g f) where
     later : FrameLater m.adts k x.heap f.serial busy (types_of m is.function) is.known g.variables g.slots f.words is.words
     later = frames_later m.adts k x.heap f.serial busy (types_of m is.function) is.known g.variables g.slots f.words is.words
 
@@ -62,62 +63,67 @@ module _ (m : typed.Module) (k k' : Facts) (i : ℕ) (x x' : World) (changed : �
       fresh = let l = is.fresh in omega (arith, l, more);
     }
 
-  answer_later : (form : frames.Form) (t : Ty) (f : Frame) (types : List Ty) (into : ℕ) (callee : Frame) (own after : ℕ → List ℕ) → f.serial < changed
-      → after ≡ own → AnswerGoes m k i x form t f types into callee own → AnswerGoes m k' i x' form t f types into callee after
-  answer_later Nowhere t f types into callee own after l e a = idly_later m.adts k k' grows f.words (reference_place m.adts types into) a
-  answer_later AsNumber t f types into callee own after l e a =
-      (idly_later m.adts k k' grows f.words (reference_place m.adts types into) a.0, a.1)
-  answer_later AsReference t f types into callee own after l e a =
-      (idly_later m.adts k k' grows f.words (reference_place m.adts types into) a.0, a.1)
-  answer_later Boxed t f types into callee own after l e a =
-      let kept = keeps a.0 a.2.free a.4 (other_owner (k.form a.0) f.serial changed l a.2.formed) in (
-        a.0,
-        a.1,
-        record { word = a.2.word; there = kept.1 ∙ a.2.there; free = kept.0; formed = grows.forms a.0 _ a.2.formed; kind = a.2.kind },
-        a.3,
-        grows.makers a.0 i a.4,
-        λ s h. a.5 s (subst (λ (o : ℕ → List ℕ). Has (o s) a.0) e h),
+  refers_later : (a : Answer) (words : List Word) (place : ℕ) → RefersSo m k i x a words place → RefersSo m k' i x' a words place
+  refers_later Awaited words place h = idly_later m.adts k k' grows words place h
+  refers_later (Referred r) words place h = h
+  refers_later (Filled inner) words place h = idly_later m.adts k k' grows words place h
+
+  answer_later : (a : Answer) (form : frames.Form) (t : Ty) (f : Frame) (types : List Ty) (into : ℕ) (callee : Frame) (own after : ℕ → List ℕ)
+      → f.serial < changed → after ≡ own → AnswerGoes m k i x a form t f types into callee own
+      → AnswerGoes m k' i x' a form t f types into callee after
+  answer_later a Nowhere t f types into callee own after l e goes = idly_later m.adts k k' grows f.words (reference_place m.adts types into) goes
+  answer_later a AsNumber t f types into callee own after l e goes =
+      (idly_later m.adts k k' grows f.words (reference_place m.adts types into) goes.0, goes.1)
+  answer_later a AsReference t f types into callee own after l e goes =
+      (refers_later a f.words (reference_place m.adts types into) goes.0, goes.1)
+  answer_later a Boxed t f types into callee own after l e goes =
+      let box = goes.2 in
+      let kept = keeps goes.0 box.free goes.4 (other_owner (k.form goes.0) f.serial changed l box.formed) in (
+        goes.0,
+        goes.1,
+        record { word = box.word; there = kept.1 ∙ box.there; free = kept.0; formed = grows.forms goes.0 _ box.formed; kind = box.kind },
+        goes.3,
+        grows.makers goes.0 i goes.4,
+        λ s h. goes.5 s (subst (λ (o : ℕ → List ℕ). Has (o s) goes.0) e h),
+        goes.6,
       )
 
-  pub all_wait_later : (t : Ty) (callee : Frame) (gs : List code.Frame) (fs : List Frame) → callee.serial ≤ changed → AllWait m k i x t callee gs fs
-      → AllWait m k' i x' t callee gs fs
-  all_wait_later _ _ _ _ l (none_waits callee) = none_waits callee
-  all_wait_later _ _ _ _ l (waits_below t callee g f gs fs w rest) =
+  pub all_wait_later : (a : Answer) (t : Ty) (callee : Frame) (gs : List code.Frame) (fs : List Frame) → callee.serial ≤ changed
+      → AllWait m k i x a t callee gs fs → AllWait m k' i x' a t callee gs fs
+  all_wait_later _ _ _ _ _ l (none_waits a callee) = none_waits a callee
+  all_wait_later _ _ _ _ _ l (waits_below a t callee g f gs fs w rest) =
       let less : f.serial < changed = let o = w.older in omega (arith, l, o) in
-      waits_below t callee g f gs fs (record {
-        is = frame_after (Some g.into) g f less w.is;
+      waits_below a t callee g f gs fs (record {
+        is = frame_after (g.into ∷ []) g f less w.is;
         goes = w.goes;
         pc = w.pc;
         spare = w.spare;
-        answer = answer_later (form_of t) t f (types_of m w.is.function) g.into callee w.is.words.own _ less
-            (words_after (Some g.into) g f less w.is).1 w.answer;
+        answer = answer_later a (form_of t) t f (types_of m w.is.function) g.into callee w.is.words.own _ less
+            (words_after (g.into ∷ []) g f less w.is).1 w.answer;
         older = w.older;
         unnamed = w.unnamed;
-      }) (all_wait_later g.answer f gs fs (omega (arith, less)) rest)
+      }) (all_wait_later Awaited g.answer f gs fs (omega (arith, less)) rest)
 
--- ---- two that are ready are so where the heap has changed, with other variables, slots and words
+-- ---- two that stand for one another do so where the heap has changed, with other variables, slots and words
 
-module _ (m : typed.Module) (k k' : Facts) (i : ℕ) (x x' : World) (p : code.Process) (q : Process) (r : Ready m k i x p q) (grows : Grows k k')
-    (more : x.outside.frames ≤ x'.outside.frames)
+module _ (m : typed.Module) (k k' : Facts) (i : ℕ) (x x' : World) (busy : List ℕ) (a : Answer) (p : code.Process) (q : Process) (s : Stands m k i x busy a p q)
+    (grows : Grows k k') (more : x.outside.frames ≤ x'.outside.frames)
     (keeps : (b : ℕ) → Free k b → k.maker b ≡ Some i → (k.form b ≡ Some (OwnedBy q.frame.serial) → ⊥) → IsKept k' x.heap x'.heap b) where
-  abbrev function : typed.Function
-  function = r.stands.is.function
-
-  pub ready_anew : (pc to : ℕ) (known : held.Slots) (vs : List Value) (slots : core.Slots) (words : List Word) → length slots ≡ length p.frame.slots
-      → (are : WordsAre m.adts k' x'.heap q.frame.serial None (types_of m function) known vs slots words)
-      → AreMadeBy k' i are.own → GoesOn m function pc known → to ≡ place_of m r.stands.is.number function pc
+  pub stands_anew : (busy' : List ℕ) (pc to : ℕ) (known : held.Slots) (vs : List Value) (slots : core.Slots) (words : List Word) (made : List Frame)
+      → length slots ≡ length p.frame.slots
+      → (are : WordsAre m.adts k' x'.heap q.frame.serial busy' (types_of m s.is.function) known vs slots words)
+      → AreMadeBy k' i are.own → GoesOn m s.is.function pc known
       → word_at words (pos answer_place) ≡ word_at q.frame.words (pos answer_place)
-      → word_at words (pos (spare_of m k i x function)) ≡ word_at q.frame.words (pos (spare_of m k i x function))
-      → Ready m k' i x' (code.with_frames p (code.at p.frame pc vs slots) p.below) (at_words m k i x p q r to words)
-  ready_anew pc to known vs slots words long are mine goes there answer spare =
-      let is = r.stands.is in
-      let callee = (at_words m k i x p q r to words).frame in
+      → StandsOn m k i x busy a p q s k' x' busy' known are.own (on_slots m k i x busy a p q s pc vs slots) (moved_on m k i x busy a p q s to words made)
+  stands_anew busy' pc to known vs slots words made long are mine goes answer =
+      let is = s.is in
+      let callee = (moved_on m k i x busy a p q s to words made).frame in
       record {
         stands = record {
-          number = r.stands.number;
+          number = s.number;
           is = record {
             number = is.number;
-            function = function;
+            function = is.function;
             there = is.there;
             code = is.code;
             answer = is.answer;
@@ -130,10 +136,30 @@ module _ (m : typed.Module) (k k' : Facts) (i : ℕ) (x x' : World) (p : code.Pr
             fresh = let l = is.fresh in omega (arith, l, more);
           };
           goes = goes;
-          waits = all_wait m k' i x' p.frame.answer q.frame callee p.below q.below refl answer
-              (all_wait_later m k k' i x x' q.frame.serial grows more keeps p.frame.answer q.frame p.below q.below (omega arith) r.stands.waits);
+          waits = all_wait m k' i x' a p.frame.answer q.frame callee p.below q.below refl answer
+              (all_wait_later m k k' i x x' q.frame.serial grows more keeps a p.frame.answer q.frame p.below q.below (omega arith) s.waits);
         };
-        pc = there;
-        spare = spare ∙ r.spare;
-        none_made = r.none_made;
+        number = refl;
+        function = refl;
+        known = refl;
+        own = refl;
       }
+
+-- ---- two that are ready are so where the heap has changed, with other variables, slots and words
+
+module _ (m : typed.Module) (k k' : Facts) (i : ℕ) (x x' : World) (p : code.Process) (q : Process) (r : Ready m k i x p q) (grows : Grows k k')
+    (more : x.outside.frames ≤ x'.outside.frames)
+    (keeps : (b : ℕ) → Free k b → k.maker b ≡ Some i → (k.form b ≡ Some (OwnedBy q.frame.serial) → ⊥) → IsKept k' x.heap x'.heap b) where
+  abbrev function : typed.Function
+  function = r.stands.is.function
+
+  pub ready_anew : (pc to : ℕ) (known : held.Slots) (vs : List Value) (slots : core.Slots) (words : List Word) → length slots ≡ length p.frame.slots
+      → (are : WordsAre m.adts k' x'.heap q.frame.serial [] (types_of m function) known vs slots words)
+      → AreMadeBy k' i are.own → GoesOn m function pc known → to ≡ place_of m r.stands.is.number function pc
+      → word_at words (pos answer_place) ≡ word_at q.frame.words (pos answer_place)
+      → word_at words (pos (spare_of m k i x function)) ≡ word_at q.frame.words (pos (spare_of m k i x function))
+      → Ready m k' i x' (code.with_frames p (code.at p.frame pc vs slots) p.below) (at_words m k i x p q r to words)
+  unfolding stands_anew
+  ready_anew pc to known vs slots words long are mine goes there answer spare =
+      let anew = stands_anew m k k' i x x' [] Awaited p q r.stands grows more keeps [] pc to known vs slots words q.made long are mine goes answer in
+      record { stands = anew.stands; pc = there; spare = spare ∙ r.spare; none_made = r.none_made }

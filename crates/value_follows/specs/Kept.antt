@@ -1,6 +1,6 @@
 -- Processes that stand for one another do so while others step, with the same blocks as their own, and these blocks are reached from the
 -- words of the process. And what many processes ask of the two sides that doesn't depend on the code.
-use Rattle.std.specs.Prelude.{ℕ, pos, ◌≡◌, ◌≤◌, ◌<◌, ◌⊎◌, true, List, Option, None, Some, slice_get}
+use Rattle.std.specs.Prelude.{ℕ, pos, ◌≡◌, ◌≤◌, ◌<◌, ◌⊎◌, true, List, None, Some, slice_get}
 use Rattle.process_model.specs.Process.{Branch, both_wake, fits}
 use Rattle.process_model.specs.Renaming.{SameTable}
 use Rattle.process_model.specs.Follows.{Who, Heaps, Losing, GoneOn}
@@ -27,7 +27,7 @@ use Rattle.value_words.specs.Facts.{Facts, Grows}
 use Rattle.value_roots.specs.Accounts.{InnerOf, process_words}
 use Rattle.value_frames.specs.Frames.{Form, Nowhere, AsNumber, AsReference, Boxed, form_of, answer_place}
 use Rattle.value_frames.specs.Slots.{IsKept}
-use Rattle.value_follows.specs.Stands.{types_of, FrameIs, AnswerGoes, AllWait, none_waits, waits_below, Stands, Ready, Asking}
+use Rattle.value_follows.specs.Stands.{types_of, Answer, FrameIs, AnswerGoes, AllWait, none_waits, waits_below, Stands, Ready, Asking}
 use Rattle.value_follows.specs.Sides.{sides}
 
 -- The same blocks are owned before and after.
@@ -38,26 +38,27 @@ module _ (m : typed.Module) where
   -- ---- what is a process's own
 
   module _ (k : Facts) (i : ℕ) (x : World) where
-    abbrev pub FrameOwns : {busy : Option ℕ} {g : code.Frame} {f : Frame} → FrameIs m k i x busy g f → ℕ → Type 0
+    abbrev pub FrameOwns : {busy : List ℕ} {g : code.Frame} {f : Frame} → FrameIs m k i x busy g f → ℕ → Type 0
     FrameOwns is b = (s : ℕ) × Has (is.words.own s) b
 
     -- The record that is to be the box of an answer.
-    abbrev pub IsAnswerBox : (form : Form) (t : Ty) (f : Frame) (types : List Ty) (into : ℕ) (callee : Frame) (own : ℕ → List ℕ)
-        → AnswerGoes m k i x form t f types into callee own → ℕ → Type 0
-    IsAnswerBox Nowhere t f types into callee own goes b = ⊥
-    IsAnswerBox AsNumber t f types into callee own goes b = ⊥
-    IsAnswerBox AsReference t f types into callee own goes b = ⊥
-    IsAnswerBox Boxed t f types into callee own goes b = goes.0 ≡ b
+    abbrev pub IsAnswerBox : (a : Answer) (form : Form) (t : Ty) (f : Frame) (types : List Ty) (into : ℕ) (callee : Frame)
+        (own : ℕ → List ℕ) → AnswerGoes m k i x a form t f types into callee own → ℕ → Type 0
+    IsAnswerBox a Nowhere t f types into callee own goes b = ⊥
+    IsAnswerBox a AsNumber t f types into callee own goes b = ⊥
+    IsAnswerBox a AsReference t f types into callee own goes b = ⊥
+    IsAnswerBox a Boxed t f types into callee own goes b = goes.0 ≡ b
 
     -- What the frames that wait have: each what its slots have, and the record for its answer.
-    abbrev pub WaitingOwn : {t : Ty} {callee : Frame} {gs : List code.Frame} {fs : List Frame} → AllWait m k i x t callee gs fs → ℕ → Type 0
-    WaitingOwn (none_waits callee) b = ⊥
-    WaitingOwn (waits_below t callee g f gs fs w ws) b =
+    abbrev pub WaitingOwn : {a : Answer} {t : Ty} {callee : Frame} {gs : List code.Frame} {fs : List Frame}
+        → AllWait m k i x a t callee gs fs → ℕ → Type 0
+    WaitingOwn (none_waits a callee) b = ⊥
+    WaitingOwn (waits_below a t callee g f gs fs w ws) b =
         FrameOwns w.is b
-        ⊎ IsAnswerBox (form_of t) t f (types_of m w.is.function) g.into callee w.is.words.own w.answer b
+        ⊎ IsAnswerBox a (form_of t) t f (types_of m w.is.function) g.into callee w.is.words.own w.answer b
         ⊎ WaitingOwn ws b
 
-    abbrev pub OwnedIn : {busy : Option ℕ} {p : code.Process} {q : Process} → Stands m k i x busy p q → ℕ → Type 0
+    abbrev pub OwnedIn : {busy : List ℕ} {a : Answer} {p : code.Process} {q : Process} → Stands m k i x busy a p q → ℕ → Type 0
     OwnedIn s b = FrameOwns s.is b ⊎ WaitingOwn s.waits b
 
     abbrev pub OwnedAsking : {p : code.Process} {q : Process} → Asking m k i x p q → ℕ → Type 0
@@ -74,15 +75,15 @@ module _ (m : typed.Module) where
 
   module _ (k k' : Facts) (i : ℕ) (x x' : World) where
     -- A frame is of the same function, of whose slots the same is known, and each slot has the same blocks.
-    pub record SameFrame {busy : Option ℕ} {g : code.Frame} {f : Frame} (before : FrameIs m k i x busy g f)
+    pub record SameFrame {busy : List ℕ} {g : code.Frame} {f : Frame} (before : FrameIs m k i x busy g f)
         (after : FrameIs m k' i x' busy g f) : Type 0 where
       pub number : after.number ≡ before.number
       pub function : after.function ≡ before.function
       pub known : after.known ≡ before.known
       pub own : after.words.own ≡ before.words.own
 
-    pub record StandsStill {busy : Option ℕ} {p : code.Process} {q : Process} (s : Stands m k i x busy p q) : Type 0 where
-      pub after : Stands m k' i x' busy p q
+    pub record StandsStill {busy : List ℕ} {a : Answer} {p : code.Process} {q : Process} (s : Stands m k i x busy a p q) : Type 0 where
+      pub after : Stands m k' i x' busy a p q
       pub frame : SameFrame s.is after.is
       pub own : SameOwn (OwnedIn k i x s) (OwnedIn k' i x' after)
 
@@ -99,19 +100,19 @@ module _ (m : typed.Module) where
   pub record StandsKept : Type 0 where
     -- ---- the blocks that a process has as its own
     -- they are records, made for the frame or for an older one
-    pub frame_owned : (k : Facts) (i : ℕ) (x : World) (busy : Option ℕ) (g : code.Frame) (f : Frame) (is : FrameIs m k i x busy g f)
+    pub frame_owned : (k : Facts) (i : ℕ) (x : World) (busy : List ℕ) (g : code.Frame) (f : Frame) (is : FrameIs m k i x busy g f)
         (b : ℕ) → FrameOwns k i x is b → IsMine k i x f.serial b
-    pub waiting_owned : (k : Facts) (i : ℕ) (x : World) (t : Ty) (callee : Frame) (gs : List code.Frame) (fs : List Frame)
-        (ws : AllWait m k i x t callee gs fs) (b : ℕ) → WaitingOwn k i x ws b →
+    pub waiting_owned : (k : Facts) (i : ℕ) (x : World) (a : Answer) (t : Ty) (callee : Frame) (gs : List code.Frame)
+        (fs : List Frame) (ws : AllWait m k i x a t callee gs fs) (b : ℕ) → WaitingOwn k i x ws b →
         (serial : ℕ) × (serial < callee.serial) × IsMine k i x serial b
     -- they are reached from the words of the process
-    pub owned_reached : (k : Facts) (i : ℕ) (x : World) (busy : Option ℕ) (p : code.Process) (q : Process)
-        (s : Stands m k i x busy p q) (b : ℕ) → OwnedIn k i x s b → InnerOf k x.heap (process_words q) b
+    pub owned_reached : (k : Facts) (i : ℕ) (x : World) (busy : List ℕ) (a : Answer) (p : code.Process) (q : Process)
+        (s : Stands m k i x busy a p q) (b : ℕ) → OwnedIn k i x s b → InnerOf k x.heap (process_words q) b
     pub asking_reached : (k : Facts) (i : ℕ) (x : World) (p : code.Process) (q : Process)
         (a : Asking m k i x p q) (b : ℕ) → OwnedAsking k i x a b → InnerOf k x.heap (process_words q) b
     -- where process i is left what is its own, they are among what it holds then; so they are there where all that it holds is
-    pub owned_held : (k k' : Facts) (i : ℕ) (x x' : World) (busy : Option ℕ) (p : code.Process) (q : Process)
-        (s : Stands m k i x busy p q) → Leaves i k k' x.heap x'.heap → (names : ℕ → ℕ)
+    pub owned_held : (k k' : Facts) (i : ℕ) (x x' : World) (busy : List ℕ) (a : Answer) (p : code.Process) (q : Process)
+        (s : Stands m k i x busy a p q) → Leaves i k k' x.heap x'.heap → (names : ℕ → ℕ)
         (h : Holds k' (λ j. j ≡ i) (graph inside x'.heap) names (machine.names q)) →
         ((b : ℕ) → 0 < h.same.own b → there (at x'.heap b) ≡ true) → (b : ℕ) → OwnedIn k i x s b → at x'.heap b ≡ None → ⊥
     pub asking_held : (k k' : Facts) (i : ℕ) (x x' : World) (p : code.Process) (q : Process)
@@ -119,15 +120,15 @@ module _ (m : typed.Module) where
         (h : Holds k' (λ j. j ≡ i) (graph inside x'.heap) names (machine.names q)) →
         ((b : ℕ) → 0 < h.same.own b → there (at x'.heap b) ≡ true) → (b : ℕ) → OwnedAsking k i x a b → at x'.heap b ≡ None → ⊥
     -- and where all that its words refer to is there, and no reference in the heap names what isn't there
-    pub owned_there : (k k' : Facts) (i : ℕ) (x x' : World) (busy : Option ℕ) (p : code.Process) (q : Process)
-        (s : Stands m k i x busy p q) → Leaves i k k' x.heap x'.heap → IsClosed (graph inside x'.heap) →
+    pub owned_there : (k k' : Facts) (i : ℕ) (x x' : World) (busy : List ℕ) (a : Answer) (p : code.Process) (q : Process)
+        (s : Stands m k i x busy a p q) → Leaves i k k' x.heap x'.heap → IsClosed (graph inside x'.heap) →
         ((b : ℕ) → 0 < machine.names q b → there (at x'.heap b) ≡ true) → (b : ℕ) → OwnedIn k i x s b → at x'.heap b ≡ None → ⊥
     pub asking_there : (k k' : Facts) (i : ℕ) (x x' : World) (p : code.Process) (q : Process)
         (a : Asking m k i x p q) → Leaves i k k' x.heap x'.heap → IsClosed (graph inside x'.heap) →
         ((b : ℕ) → 0 < machine.names q b → there (at x'.heap b) ≡ true) → (b : ℕ) → OwnedAsking k i x a b → at x'.heap b ≡ None → ⊥
     -- ---- two processes stand for one another while others step
-    pub later : (k k' : Facts) (i : ℕ) (x x' : World) (busy : Option ℕ) (p : code.Process) (q : Process)
-        (s : Stands m k i x busy p q) → Leaves i k k' x.heap x'.heap → x.outside.frames ≤ x'.outside.frames →
+    pub later : (k k' : Facts) (i : ℕ) (x x' : World) (busy : List ℕ) (a : Answer) (p : code.Process) (q : Process)
+        (s : Stands m k i x busy a p q) → Leaves i k k' x.heap x'.heap → x.outside.frames ≤ x'.outside.frames →
         ((b : ℕ) → OwnedIn k i x s b → at x'.heap b ≡ None → ⊥) → StandsStill k k' i x x' s
     pub ready_later : (k k' : Facts) (i : ℕ) (x x' : World) (p : code.Process) (q : Process)
         (r : Ready m k i x p q) → Leaves i k k' x.heap x'.heap → x.outside.frames ≤ x'.outside.frames →
@@ -136,16 +137,17 @@ module _ (m : typed.Module) where
         (a : Asking m k i x p q) → Leaves i k k' x.heap x'.heap → x.outside.frames ≤ x'.outside.frames →
         ((b : ℕ) → OwnedAsking k i x a b → at x'.heap b ≡ None → ⊥) → AskingStill k k' i x x' a
     -- ---- frames stand for the same while more is known and each block of their own is as it was, whoever steps
-    pub frame_later : (k k' : Facts) (i : ℕ) (x x' : World) (busy : Option ℕ) (g : code.Frame) (f : Frame)
+    pub frame_later : (k k' : Facts) (i : ℕ) (x x' : World) (busy : List ℕ) (g : code.Frame) (f : Frame)
         (is : FrameIs m k i x busy g f) → Grows k k' → x.outside.frames ≤ x'.outside.frames →
         ((b : ℕ) → FrameOwns k i x is b → IsKept k' x.heap x'.heap b) →
         (after : FrameIs m k' i x' busy g f) × SameFrame k k' i x x' is after
     -- so do frames that wait; the one that they called may have changed too, but not its serial, nor where its answer goes
-    pub waits_later : (k k' : Facts) (i : ℕ) (x x' : World) (t : Ty) (callee changed : Frame) (gs : List code.Frame) (fs : List Frame)
-        (ws : AllWait m k i x t callee gs fs) → Grows k k' → x.outside.frames ≤ x'.outside.frames →
+    pub waits_later : (k k' : Facts) (i : ℕ) (x x' : World) (a : Answer) (t : Ty) (callee changed : Frame)
+        (gs : List code.Frame) (fs : List Frame) (ws : AllWait m k i x a t callee gs fs) → Grows k k' →
+        x.outside.frames ≤ x'.outside.frames →
         ((b : ℕ) → WaitingOwn k i x ws b → IsKept k' x.heap x'.heap b) → changed.serial ≡ callee.serial →
         word_at changed.words (pos answer_place) ≡ word_at callee.words (pos answer_place) →
-        (after : AllWait m k' i x' t changed gs fs) × SameOwn (WaitingOwn k i x ws) (WaitingOwn k' i x' after)
+        (after : AllWait m k' i x' a t changed gs fs) × SameOwn (WaitingOwn k i x ws) (WaitingOwn k' i x' after)
     -- ---- what many processes ask of the two sides
     -- a step that leaves the heap and what is known as they are changes nothing of others
     pub changes_same : (these : Who) (k : Facts) (x x' : World) → x'.heap ≡ x.heap → x.outside.frames ≤ x'.outside.frames →

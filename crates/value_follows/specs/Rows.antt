@@ -5,6 +5,7 @@ use Rattle.std.specs.Prelude.{Some, slice_get, nat_lt, nat_le, nat_eq, if◌then
 use Rattle.process_model.specs.Process.{Went}
 use Rattle.process_ways.specs.Ways as ways
 use Rattle.heap_model.specs.Heap.{at, there}
+use Rattle.heap_model.specs.Facts.{Free}
 use Rattle.heap_model.specs.Kept.{IsClosed}
 use Rattle.heap_model.specs.Worlds.{blocks}
 use Rattle.limbo_layout.specs.Adts.{Has}
@@ -29,11 +30,14 @@ use Rattle.dis_meaning.specs.Process.{Process}
 use Rattle.dis_memory.specs.Blocks.{World}
 use Rattle.dis_memory.specs.Naming as machine
 use Rattle.value_words.specs.Facts.{Facts}
+use Rattle.value_frames.specs.Slots.{IsKept}
 use Rattle.value_heaps.specs.Blocks.{Constant}
 use Rattle.value_code.specs.Objects.{of_function, base_of, size_at, data_at, site, type_number, frame_number, constants, constants_from}
 use Rattle.value_code.specs.Objects.{object_of, init_of, entry_size}
 use Rattle.value_code.specs.Code.{Site, code_of}
-use Rattle.value_follows.specs.Stands.{Ready, place_of}
+use Rattle.value_follows.specs.Stands.{Answer, Stands, Ready, place_of}
+use Rattle.value_follows.specs.Kept.{SameFrame}
+use Rattle.value_follows.specs.Rooted.{OnTheWay, BusyLead}
 use Rattle.value_follows.specs.Sides.{sides, contents, HoldTheSame}
 
 -- The code of an instruction, and how long it is.
@@ -128,7 +132,18 @@ module _ (m : typed.Module) where
     pub ready_later : (k now : Facts) (i : ℕ) (x y : World) (p : code.Process) (q : Process) (r : Ready m k i x p q) →
         (sides m).leaves i k now x y → HoldTheSame m now i y p q →
         (after : Ready m now i y p q) × (after.stands.is.number ≡ r.stands.is.number)
-    -- they hold the same, where what the machine's refers to is there
+    -- so do two on their way through a row; each frame is as it was
+    pub stands_later : (k now : Facts) (i : ℕ) (x y : World) (busy : List ℕ) (a : Answer) (p : code.Process) (q : Process)
+        (s : Stands m k i x busy a p q) → (sides m).leaves i k now x y → HoldTheSame m now i y p q →
+        (after : Stands m now i y busy a p q) × SameFrame m k now i x y s.is after.is
+    -- a block that stands for nothing, which the process made and refers to, is as it was
+    pub mine_later : (k now : Facts) (i : ℕ) (x y : World) (p : code.Process) (q : Process) → (sides m).leaves i k now x y →
+        HoldTheSame m now i y p q → (b : ℕ) → 0 < machine.names q b → Free k b → k.maker b ≡ Some i → IsKept now x.heap y.heap b
+    -- two on their way hold the same, where what the machine's refers to is there
+    pub holds_on_way : (k : Facts) (i : ℕ) (w : Shared) (x : World) (busy : List ℕ) (a : Answer) (p : code.Process) (q : Process)
+        (s : Stands m k i x busy a p q) → (sides m).worlds k w x → AreThere x q →
+        OnTheWay m k i x (code.process_names p) busy a q s.is.function → BusyLead m k i x busy p q → HoldTheSame m k i x p q
+    -- so do two that are ready
     pub holds_again : (k : Facts) (i : ℕ) (w : Shared) (x : World) (p : code.Process) (q : Process) → Ready m k i x p q →
         (sides m).worlds k w x → AreThere x q → HoldTheSame m k i x p q
     -- and it is so behind a step if it was so in front of it

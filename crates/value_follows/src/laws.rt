@@ -1,7 +1,7 @@
 //! What holds of processes of the machine that stand for those of three-address code over values.
 
 ghost use Rattle.value_follows.specs.Kept.{StandsKeep};
-ghost use Rattle.value_follows.specs.Rooted.{StandsAreRooted, StaysBare};
+ghost use Rattle.value_follows.specs.Rooted.{StandsAreRooted};
 ghost use Rattle.value_follows.specs.Rows.{JumpsGo, BacksGo, UnlessGoes, MirrorsGo, KnownGoes, LiteralsGo, TextsGo};
 ghost use Rattle.value_follows.specs.Rows.{ArithmeticGoes, ShiftsGo, ConvertsGo, TruthsGo, DenialsGo, ComparesGo, PlacesAre};
 
@@ -15,11 +15,6 @@ pub fn stands_kept()
 /// So they hold it.
 pub fn stands_rooted()
     ensures { StandsAreRooted }
-{}
-
-/// Of slots to which nothing was given it is known that a value which stands nowhere names nothing, and so it stays wherever code goes.
-pub fn known_stays_bare()
-    ensures { StaysBare }
 {}
 
 /// A jump goes where the other goes.

@@ -10,6 +10,6 @@ mod laws;
 
 pub use laws::{
     arithmetic_goes, backs_go, compares_go, converts_go, denials_go, jumps_go, known_goes,
-    known_stays_bare, literals_go, mirrors_go, places_are, shifts_go, stands_kept, stands_rooted,
-    texts_go, truths_go, unless_goes,
+    literals_go, mirrors_go, places_are, shifts_go, stands_kept, stands_rooted, texts_go,
+    truths_go, unless_goes,
 };

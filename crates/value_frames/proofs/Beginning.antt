@@ -230,9 +230,9 @@ module _ (defs : List Def) (types : List Ty) (n : ℕ) (laid : AllLaid defs type
         (subst (λ (i : core.Slot).
         SlotStands defs k x frame words (number_place defs types s) (reference_place defs types s) held.empty i []) b.1
         (a_value words (number_place defs types s) (reference_place defs types s) ty.Nothing [] value.nothing
-        (None, slot_there s a.0, nothing_there) (λ m q g. absurd cc)))
+        (refl, (None, slot_there s a.0, nothing_there)) (λ m q g. absurd cc)))
 
-    begun : (are : WordsAre defs k x frame None types (replicate n held.empty) (map (zero_of defs) types) (replicate n core.empty) words)
+    begun : (are : WordsAre defs k x frame [] types (replicate n held.empty) (map (zero_of defs) types) (replicate n core.empty) words)
         × ((s : ℕ) → are.own s ≡ [])
     begun = (
       record {

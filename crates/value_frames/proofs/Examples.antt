@@ -1,4 +1,4 @@
--- A frame in words, worked out by hand, also with a busy slot; chains of one record and of two; a big in its box; blocks that are idle, and
+-- A frame in words, worked out by hand, also with busy slots; chains of one record and of two; a big in its box; blocks that are idle, and
 -- references and blocks that aren't.
 use Rattle.std.proofs.Common.{◌≡◌, ℕ, zero, suc, ◌+◌, ◌*◌, ◌/◌, ◌<◌, pos, List, [], ◌∷◌, length, Option, Some, None, refl, inl, inr}
 use Rattle.std.proofs.Common.{arith, sym, subst, ◌∙◌, ap, Bool, if◌then◌else◌}
@@ -24,7 +24,7 @@ use Rattle.dis_memory.specs.Blocks.{Block, Record}
 use Rattle.dis_memory.specs.Naming.{inside}
 use Rattle.value_words.specs.Contents.{AreInRange}
 use Rattle.value_words.specs.Forms.{Form, Cells, OwnedBy}
-use Rattle.value_words.specs.Facts.{Facts}
+use Rattle.value_words.specs.Facts.{Facts, Grows}
 use Rattle.value_words.specs.Stands.{a_number, a_name, none_stand, more_stand}
 use Rattle.value_heaps.specs.Blocks.{IsWithin}
 use Rattle.value_frames.specs.Frames.{frame_bytes, frame_references, number_place, reference_place, turn_bytes, turn_references}
@@ -198,7 +198,7 @@ module _ (x : Heap Block) where
       (a_name 52 ints_list (Some 3) (Some 9) tt refl (record { fact = refl; formed = refl })) first_name))
   each_slot (suc (suc s)) h l e f = absurd cc
 
-  frame_stands : WordsAre [] known x 20 None (ty.Int ∷ []) held_slots (Num (pos 5) ∷ []) slots words
+  frame_stands : WordsAre [] known x 20 [] (ty.Int ∷ []) held_slots (Num (pos 5) ∷ []) slots words
   frame_stands = record {
     laid = more_laid ty.Int [] (number 4) [] (is_alone ty.Int (number 4) refl) none_laid;
     kind = kind_by words 56 (36 ∷ 44 ∷ 52 ∷ []) refl refl (in_range words words_small);
@@ -213,7 +213,7 @@ module _ (x : Heap Block) where
     apart = λ s r b i j. absurd i;
   }
 
--- ---- while the second slot is busy, nothing is said of its words: it waits for the name of a list
+-- ---- while a slot is busy, nothing is said of its words: the second waits for the name of a list
 
 abbrev busy_words : List Word
 busy_words =
@@ -231,12 +231,34 @@ same_elsewhere (suc (suc (suc (suc (suc (suc (suc (suc (suc (suc (suc (suc zero)
 same_elsewhere (suc (suc (suc (suc (suc (suc (suc (suc (suc (suc (suc (suc (suc zero))))))))))))) n = absurd (n (omega arith, omega arith))
 same_elsewhere w n = refl
 
-busy_stands : (x : Heap Block) → WordsAre [] known x 20 (Some 1) (ty.Int ∷ []) held_slots (Num (pos 5) ∷ []) slots busy_words
+same_known : Grows known known
+same_known = record { facts = λ b f e. e; makers = λ b i e. e; forms = λ b o e. e }
+
+abbrev Stand : (x : Heap Block) → (busy : List ℕ) → (words : List Word) → Type 0
+Stand x busy words = WordsAre [] known x 20 busy (ty.Int ∷ []) held_slots (Num (pos 5) ∷ []) slots words
+
+busy_stands : (x : Heap Block) → (after : Stand x (1 ∷ []) busy_words) × (after.own ≡ (λ s. []))
 unfolding frame_stands
 busy_stands x =
-    (slots_change.leaves [] known known x x 20 (ty.Int ∷ []) held_slots (Num (pos 5) ∷ []) slots words busy_words 1 (frame_stands x)
-    (record { facts = λ b f e. e; makers = λ b i e. e; forms = λ b o e. e }) refl (record { each = same_elsewhere })
-    (kind_by busy_words 56 (36 ∷ 44 ∷ 52 ∷ []) refl refl (in_range busy_words busy_small)) (λ r b i. absurd i)).0
+    slots_change.leaves [] known known x x 20 [] (ty.Int ∷ []) held_slots (Num (pos 5) ∷ []) slots words busy_words 1 (frame_stands x)
+    same_known refl (record { each = same_elsewhere })
+    (kind_by busy_words 56 (36 ∷ 44 ∷ 52 ∷ []) refl refl (in_range busy_words busy_small)) (λ r b i. absurd i)
+
+-- the first comes to be busy too, and no word changes
+both_busy : (x : Heap Block) → Stand x (0 ∷ 1 ∷ []) busy_words
+both_busy x =
+    let (before, bare) = busy_stands x in
+    (slots_change.leaves [] known known x x 20 (1 ∷ []) (ty.Int ∷ []) held_slots (Num (pos 5) ∷ []) slots busy_words busy_words 0 before
+    same_known (ap (λ (own : ℕ → List ℕ). own 0) bare) (record { each = λ w n. refl }) before.kind
+    (λ r b i. absurd (subst (λ (own : ℕ → List ℕ). Has (own r) b) bare i))).0
+
+-- and both stand at once for what they stood for, in the words of before
+both_stand : (x : Heap Block) → Stand x [] words
+both_stand x =
+    (slots_change.several [] known known x x 20 (0 ∷ 1 ∷ []) [] (ty.Int ∷ []) held_slots held_slots (Num (pos 5) ∷ []) slots slots
+    busy_words words (λ s. []) (both_busy x) same_known refl refl
+    (record { each = λ w n. sym (same_elsewhere w (λ i. let a = i.0 in let b = i.1 in n (omega (arith, a), omega (arith, b)))) })
+    (frame_stands x).kind (λ s l. refl) (λ s i. refl) (λ s h l free e f. inr (each_slot x s h l e f)) (λ s. tt) (λ s r b i j. absurd i)).0
 
 -- ---- loops of which each turn left 7 in its one slot
 

@@ -44,7 +44,7 @@ module _ (defs : List Def) (k k' : Facts) (grows : Grows k k') where
 
   value_later : (words : List Word) (n r : ℕ) (f : Form) (t : Ty) (v : Value) → ValueStands defs k words n r f t v
       → ValueStands defs k' words n r f t v
-  value_later words n r Nowhere t v h = idly_later words r h
+  value_later words n r Nowhere t v h = (h.0, idly_later words r h.1)
   value_later words n r AsNumber t v h = (stands_later defs k k' words grows n t v h.0, idly_later words r h.1)
   value_later words n r AsReference t v h = stands_later defs k k' words grows r t v h
   value_later words n r Boxed t v h =
@@ -97,12 +97,12 @@ module _ (defs : List Def) (k k' : Facts) (grows : Grows k k') where
           (slot_later words p (p + 4) h s own (λ q i. kept q (has_left own more q i)) one)
           (region_later words (p + 8) hs g more (λ q i. kept q (has_right own more q i)) others)
 
-    abbrev IsSame : (busy : Option ℕ) (types : List Ty) (known : held.Slots) (variables : List Value) (slots : core.Slots)
+    abbrev IsSame : (busy : List ℕ) (types : List Ty) (known : held.Slots) (variables : List Value) (slots : core.Slots)
         (words : List Word) (are : WordsAre defs k x frame busy types known variables slots words) → Type 0
     IsSame busy types known variables slots words are =
         (after : WordsAre defs k' x' frame busy types known variables slots words) × (after.own ≡ are.own)
 
-    words_later : (busy : Option ℕ) (types : List Ty) (known : held.Slots) (variables : List Value) (slots : core.Slots)
+    words_later : (busy : List ℕ) (types : List Ty) (known : held.Slots) (variables : List Value) (slots : core.Slots)
         (words : List Word) (are : WordsAre defs k x frame busy types known variables slots words) → ((s : ℕ) → AreKept (are.own s))
         → IsSame busy types known variables slots words are
     words_later busy types known variables slots words are kept = (
@@ -179,14 +179,14 @@ module _ (defs : List Def) (k : Facts) (x : Heap Block) (frame b : ℕ) where
           | inr j ↦ region_frames words (p + 8) hs g more j others
         ]
 
-module _ (defs : List Def) (k : Facts) (x : Heap Block) (frame : ℕ) (busy : Option ℕ) (types : List Ty) (known : held.Slots)
+module _ (defs : List Def) (k : Facts) (x : Heap Block) (frame : ℕ) (busy : List ℕ) (types : List Ty) (known : held.Slots)
     (variables : List Value) (slots : core.Slots) (words : List Word)
     (are : WordsAre defs k x frame busy types known variables slots words) where
   all_frames : (s b : ℕ) → Has (are.own s) b → IsFrames defs k x frame b
   all_frames s b i = go (slice_get slots s) refl (slice_get known s) refl
     where
       -- a busy slot has none
-      free : busy ≡ Some s → ⊥
+      free : Has busy s → ⊥
       free e = subst (λ (own : List ℕ). Has own b) (are.busy_bare s e) i
 
       go : (l : Option core.Slot) → slice_get slots s ≡ l → (h : Option Held) → slice_get known s ≡ h → IsFrames defs k x frame b

@@ -187,7 +187,7 @@ module _ (defs : List Def) (k : Facts) where
   idle_value words n r t v own reads laid = go (form_of t) refl
     where
       go : (f : Form) → form_of t ≡ f → RefersIdly defs k words r
-      go Nowhere e = reads.nowhere e
+      go Nowhere e = (reads.nowhere e).1
       go AsNumber e = reads.beside e
       go AsReference e = idle_reference words r t v e reads.names (reads.reference e)
       go Boxed e =

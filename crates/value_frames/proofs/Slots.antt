@@ -1,5 +1,5 @@
--- What a frame stands for where some of its words change, or blocks of one slot: what lies elsewhere stands as it stood.
-use Rattle.std.proofs.Common.{◌≡◌, ℕ, zero, suc, ◌+◌, ◌/◌, ◌%◌, ◌<◌, ◌≤◌, pos, Bool, true, false, List, [], ◌∷◌, length, Option, Some}
+-- What a frame stands for where some of its words change, or blocks of slots: what lies elsewhere stands as it stood.
+use Rattle.std.proofs.Common.{◌≡◌, ℕ, zero, suc, ◌+◌, ◌*◌, ◌/◌, ◌%◌, ◌<◌, ◌≤◌, pos, Bool, true, false, List, [], ◌∷◌, length, Some}
 use Rattle.std.proofs.Common.{None, refl, sym, ap, ◌∙◌, ◌==◌, ◌⊎◌, subst, arith, inl, inr}
 use Rattle.std.specs.Prelude.{slice_get, slice_set}
 use Rattle.std.specs.Int.{next_multiple_of}
@@ -16,6 +16,7 @@ use Rattle.limbo_meaning.specs.Values.{Value}
 use Rattle.core_code.specs.Rooms.{rooms_in}
 use Rattle.core_code.specs.Slots as core
 use Rattle.core_typing.specs.Held as held
+use Rattle.core_typing.proofs.Cleaning.{has_without, has_others}
 use Rattle.dis_meaning.specs.Words.{Word, Refer, Found, word_at}
 use Rattle.dis_memory.specs.Blocks.{Block}
 use Rattle.value_words.specs.Facts.{Facts, Grows}
@@ -27,12 +28,12 @@ use Rattle.value_words.proofs.Kept.{Stay, stay_within, kept}
 use Rattle.value_words.proofs.Later.{all_later}
 use Rattle.value_words.proofs.Rows.{set_other}
 use Rattle.value_heaps.specs.Blocks.{IsWithin}
-use Rattle.value_frames.specs.Frames.{linkage_bytes, row_of, spare_place, number_place, reference_place, form_of, frame_bytes}
+use Rattle.value_frames.specs.Frames.{linkage_bytes, row_of, slots_place, spare_place, number_place, reference_place, form_of, frame_bytes}
 use Rattle.value_frames.specs.Frames.{frame_references}
 use Rattle.value_frames.specs.Types.{AreOf}
 use Rattle.value_frames.specs.Standing.{Single, RefersIdly, ValueStands, IsOwn, SlotStands, a_value, a_decision, a_loop}
 use Rattle.value_frames.specs.Standing.{ChainStands, no_chain, a_chain, WordsAre}
-use Rattle.value_frames.specs.Slots.{ElseAsWas, IsKept, OneSlotChanged, SlotsChange}
+use Rattle.value_frames.specs.Slots.{ElseAsWas, IsKept, OneSlotChanged, StaysSo, SlotsChange}
 use Rattle.value_frames.proofs.Later.{slot_later}
 
 -- ---- one of a list replaced
@@ -47,6 +48,24 @@ put_long [] zero y = refl
 put_long [] (suc s) y = refl
 put_long (x ∷ xs) zero y = refl
 put_long (x ∷ xs) (suc s) y = ap suc (put_long xs s y)
+
+-- ---- one of a list taken
+
+to_held : (ns : List ℕ) (u : ℕ) → Has ns u → held.Has ns u
+to_held [] u i = i
+to_held (n ∷ ns) u (inl e) = inl e
+to_held (n ∷ ns) u (inr i) = inr (to_held ns u i)
+
+of_held : (ns : List ℕ) (u : ℕ) → held.Has ns u → Has ns u
+of_held [] u i = i
+of_held (n ∷ ns) u (inl e) = inl e
+of_held (n ∷ ns) u (inr i) = inr (of_held ns u i)
+
+pub was_among : (s u : ℕ) (ns : List ℕ) → Has (held.without s ns) u → Has ns u × (u ≡ s → ⊥)
+was_among s u ns h = let i = has_without s ns u (to_held (held.without s ns) u h) in (of_held ns u i.0, i.1)
+
+pub still_among : (s u : ℕ) (ns : List ℕ) → Has ns u → (u ≡ s → ⊥) → Has (held.without s ns) u
+still_among s u ns h ne = of_held (held.without s ns) u (has_others s ns u (to_held ns u h) ne)
 
 -- ---- what lies in words that stay
 
@@ -110,7 +129,7 @@ module _ (defs : List Def) (k : Facts) where
     value_even ty.Int v h = idly_even words r h.1
     value_even ty.Big v h = (word_found words r (Refer (Some h.0)) h.2).0
     value_even ty.Chars v h = reference_even words r ty.Chars v refl h
-    value_even ty.Nothing v h = idly_even words r h
+    value_even ty.Nothing v h = idly_even words r h.1
     value_even ty.Nil v h = reference_even words r ty.Nil v refl h
     value_even (ty.ArrayOf t) v h = reference_even words r (ty.ArrayOf t) v refl h
     value_even (ty.ListOf t) v h = reference_even words r (ty.ListOf t) v refl h
@@ -137,7 +156,7 @@ module _ (defs : List Def) (k : Facts) where
       value_stays ty.Int v h = (number_stays ty.Int 4 v refl (omega arith) h.0, idly_stays words others r second h.1)
       value_stays ty.Big v h = (h.0, h.1, word_stays words others r (Refer (Some h.0)) second h.2, h.3, h.4)
       value_stays ty.Chars v h = to_stays ty.Chars v refl h
-      value_stays ty.Nothing v h = idly_stays words others r second h
+      value_stays ty.Nothing v h = (h.0, idly_stays words others r second h.1)
       value_stays ty.Nil v h = to_stays ty.Nil v refl h
       value_stays (ty.ArrayOf t) v h = to_stays (ty.ArrayOf t) v refl h
       value_stays (ty.ListOf t) v h = to_stays (ty.ListOf t) v refl h
@@ -196,7 +215,7 @@ module _ (defs : List Def) (k : Facts) where
 
     -- ---- frames, where words change
 
-    module _ (busy : Option ℕ) (types : List Ty) (known : held.Slots) (vs : List Value) (slots : core.Slots) (words others : List Word)
+    module _ (busy : List ℕ) (types : List Ty) (known : held.Slots) (vs : List Value) (slots : core.Slots) (words others : List Word)
         (are : WordsAre defs k x frame busy types known vs slots words) where
       -- words of bytes that aren't among those that changed
       stays : (at size byte : ℕ) → ElseAsWas words others at size → (IsWithin at size (byte / 4) → ⊥) → Stays words others byte
@@ -211,7 +230,7 @@ module _ (defs : List Def) (k : Facts) where
 
       -- a slot of which no word changed
       each_stays : (at size u : ℕ) → ElseAsWas words others at size → (IsWithin at size (number_place defs types u / 4) → ⊥)
-          → (IsWithin at size (reference_place defs types u / 4) → ⊥) → (h : held.Held) (l : core.Slot) → (busy ≡ Some u → ⊥)
+          → (IsWithin at size (reference_place defs types u / 4) → ⊥) → (h : held.Held) (l : core.Slot) → (Has busy u → ⊥)
           → slice_get known u ≡ Some h → slice_get slots u ≡ Some l
           → SlotStands defs k x frame others (number_place defs types u) (reference_place defs types u) h l (are.own u)
       each_stays at size u e n m h l free f g =
@@ -259,7 +278,7 @@ module _ (defs : List Def) (k : Facts) where
           (row_stays (spare_place defs types) 4 e (λ o l i. let j = i.0 in omega (arith, j, l)))
           (λ u. (λ i. let j = i.1 in omega (arith, j), λ i. let j = i.1 in omega (arith, j)))
 
--- ---- frames, where one slot changes
+-- ---- frames, where slots change
 
 abbrev choose : Bool → List ℕ → List ℕ → List ℕ
 choose true now was = now
@@ -273,126 +292,109 @@ module _ (defs : List Def) (k k' : Facts) (x x' : Heap Block) (frame : ℕ) (gro
       all_eight defs k' x' frame words others n h l own same
       (slot_later defs k k' grows x x' frame words n (n + 4) h l own keeps stands)
 
-  -- what lies in front of the slots and in another slot stands as it stood
-  module _ (busy : Option ℕ) (types : List Ty) (known : held.Slots) (vs : List Value) (slots : core.Slots) (words others : List Word)
-      (s : ℕ) (are : WordsAre defs k x frame busy types known vs slots words) (was : (busy ≡ None) ⊎ (busy ≡ Some s))
-      (e : ElseAsWas words others (number_place defs types s) 8) where
-    variables_stand : AllStand defs k' others linkage_bytes nothing types (rooms_of (rooms_in defs) types) vs
-    variables_stand =
+  module _ (busy : List ℕ) (types : List Ty) (known : held.Slots) (vs : List Value) (slots : core.Slots) (words others : List Word)
+      (are : WordsAre defs k x frame busy types known vs slots words) where
+    abbrev So : ℕ → held.Held → core.Slot → List ℕ → Type 0
+    So s = StaysSo defs k k' x x' frame busy types known vs slots words others are s
+
+    abbrev Now : ℕ → held.Held → core.Slot → List ℕ → Type 0
+    Now s = SlotStands defs k' x' frame others (number_place defs types s) (reference_place defs types s)
+
+    -- what lies in front of the slots stands as it stood
+    variables_stand : ((w : ℕ) → 4 * w < slots_place defs types → slice_get others w ≡ slice_get words w)
+        → AllStand defs k' others linkage_bytes nothing types (rooms_of (rooms_in defs) types) vs
+    variables_stand front =
         rows_stay defs k' words others linkage_bytes nothing types (rooms_of (rooms_in defs) types) vs are.laid
-        (λ o m. e.each ((linkage_bytes + o) / 4) (λ i. let j = i.0 in omega (arith, j, m)))
+        (λ o m. front ((linkage_bytes + o) / 4) (omega (arith, m)))
         (all_later defs k k' words grows linkage_bytes nothing types (rooms_of (rooms_in defs) types) vs are.values)
 
-    other_free : (u : ℕ) → (u ≡ s → ⊥) → busy ≡ Some u → ⊥
-    other_free u ne f = elim was [
-      | inl g ↦ absurd (let z : None ≡ Some u = sym g ∙ f in cc)
-      | inr g ↦ ne (let z : Some s ≡ Some u = sym g ∙ f in cc)
-    ]
+    so_now : (s : ℕ) (h : held.Held) (l : core.Slot) (own : List ℕ) → So s h l own → Now s h l own
+    so_now s h l own so =
+        slot_same words others (number_place defs types s) h l own
+        (subst (λ (os : List ℕ).
+        SlotStands defs k x frame words (number_place defs types s) (reference_place defs types s) h l os) (sym so.own_so)
+        (are.each s h l so.idle so.known_so so.holds_so)) so.words_so so.kept
 
-    other_stands : (u : ℕ) (i : held.Held) (j : core.Slot) → (u ≡ s → ⊥) → slice_get known u ≡ Some i → slice_get slots u ≡ Some j
-        → ((b : ℕ) → Has (are.own u) b → IsKept k' x x' b)
-        → SlotStands defs k' x' frame others (number_place defs types u) (reference_place defs types u) i j (are.own u)
-    other_stands u i j ne f g keeps =
-        slot_same words others (number_place defs types u) i j (are.own u) (are.each u i j (other_free u ne) f g)
-        (λ w z. e.each w (λ y. let p = y.0 in let q = y.1 in let a = z.0 in let c = z.1 in ne (omega (arith, p, q, a, c)))) keeps
-
-    -- the slot has no block, and nothing is said of it now
-    goes_on : are.own s ≡ [] → AreOfFrame defs types slots others → ((r b : ℕ) → Has (are.own r) b → IsKept k' x x' b)
-        → (after : WordsAre defs k' x' frame (Some s) types known vs slots others) × (after.own ≡ are.own)
-    goes_on bare kind keeps = (
+    several_change : (busy_then : List ℕ) (changed : held.Slots) (other : core.Slots) (own : ℕ → List ℕ) → length other ≡ length slots
+        → length changed ≡ length slots → ((w : ℕ) → 4 * w < slots_place defs types → slice_get others w ≡ slice_get words w)
+        → AreOfFrame defs types slots others → ((s : ℕ) → length slots ≤ s → own s ≡ []) → ((s : ℕ) → Has busy_then s → own s ≡ [])
+        → ((s : ℕ) (h : held.Held) (l : core.Slot) → (Has busy_then s → ⊥) → slice_get changed s ≡ Some h → slice_get other s ≡ Some l
+        → So s h l (own s) ⊎ Now s h l (own s)) → ((s : ℕ) → Single (own s))
+        → ((s r b : ℕ) → Has (own s) b → Has (own r) b → s ≡ r)
+        → (after : WordsAre defs k' x' frame busy_then types changed vs other others) × (after.own ≡ own)
+    several_change busy_then changed other own many same front kind past bare each single apart = (
       record {
         laid = are.laid;
-        kind = kind;
-        values = variables_stand;
-        as_many = are.as_many;
-        own = are.own;
-        none_past = are.none_past;
-        busy_bare = λ u y. ap are.own (let z : u ≡ s = cc in z) ∙ bare;
-        each = λ u h l free f g. other_stands u h l (λ y. free (ap Some (sym y))) f g (keeps u);
-        single = are.single;
-        apart = are.apart;
+        kind = subst (λ (m : ℕ). AreOf (frame_bytes defs types m) (frame_references defs types m) others) (sym many) kind;
+        values = variables_stand front;
+        as_many = same ∙ sym many;
+        own = own;
+        none_past = λ s l. past s (omega (arith, l, many));
+        busy_bare = bare;
+        each = λ s h l free e f. elim (each s h l free e f) [
+          | inl so ↦ so_now s h l (own s) so
+          | inr now ↦ now
+        ];
+        single = single;
+        apart = apart;
       },
       refl,
     )
 
-  module _ (busy : Option ℕ) (types : List Ty) (known : held.Slots) (vs : List Value) (slots : core.Slots) (words others : List Word)
-      (s : ℕ) (h : held.Held) (l : core.Slot) (own : List ℕ) (are : WordsAre defs k x frame busy types known vs slots words)
-      (was : (busy ≡ None) ⊎ (busy ≡ Some s)) (there : s < length slots)
-      (e : ElseAsWas words others (number_place defs types s) 8)
-      (kind : AreOfFrame defs types slots others)
-      (stand : SlotStands defs k' x' frame others (number_place defs types s) (reference_place defs types s) h l own) (single : Single own)
-      (rest : (r b : ℕ) → (r ≡ s → ⊥) → Has (are.own r) b → (Has own b → ⊥) × IsKept k' x x' b) where
-    abbrev after_own : ℕ → List ℕ
-    after_own r = choose (r == s) own (are.own r)
+    -- ---- where the words of one slot change
 
-    own_here : (r : ℕ) → r ≡ s → after_own r ≡ own
-    own_here r y = elim (eqb_tells r s) [
-      | inl z ↦ ap (λ b. choose b own (are.own r)) z.0
-      | inr z ↦ absurd (z.1 y)
-    ]
+    module _ (s : ℕ) (e : ElseAsWas words others (number_place defs types s) 8) where
+      in_front : (w : ℕ) → 4 * w < slots_place defs types → slice_get others w ≡ slice_get words w
+      in_front w l = e.each w (λ i. let j = i.0 in omega (arith, j, l))
 
-    own_elsewhere : (r : ℕ) → (r ≡ s → ⊥) → after_own r ≡ are.own r
-    own_elsewhere r ne = elim (eqb_tells r s) [
-      | inl z ↦ absurd (ne z.1)
-      | inr z ↦ ap (λ b. choose b own (are.own r)) z.0
-    ]
+      other_so : (u : ℕ) (h : held.Held) (l : core.Slot) → (Has busy u → ⊥) → (u ≡ s → ⊥) → slice_get known u ≡ Some h
+          → slice_get slots u ≡ Some l → ((b : ℕ) → Has (are.own u) b → IsKept k' x x' b) → So u h l (are.own u)
+      other_so u h l idle ne f g keeps = record {
+        idle = idle;
+        known_so = f;
+        holds_so = g;
+        words_so = λ w z.
+            e.each w (λ y. let p = y.0 in let q = y.1 in let a = z.0 in let c = z.1 in ne (omega (arith, p, q, a, c)));
+        own_so = refl;
+        kept = keeps;
+      }
 
-    -- a block is the changed slot's or another's
-    is_of : (r b : ℕ) → Has (after_own r) b → ((r ≡ s) × Has own b) ⊎ ((r ≡ s → ⊥) × Has (are.own r) b)
-    is_of r b i = elim (eqb_tells r s) [
-      | inl z ↦ inl (z.1, subst (λ (os : List ℕ). Has os b) (own_here r z.1) i)
-      | inr z ↦ inr (z.1, subst (λ (os : List ℕ). Has os b) (own_elsewhere r z.1) i)
-    ]
+      -- it is among the slots of which nothing is said now, as are those of which nothing was said
+      goes_on : (busy_then : List ℕ) → Has busy_then s → ((u : ℕ) → Has busy u → Has busy_then u)
+          → ((u : ℕ) → Has busy_then u → are.own u ≡ []) → AreOfFrame defs types slots others
+          → ((r b : ℕ) → Has (are.own r) b → IsKept k' x x' b)
+          → (after : WordsAre defs k' x' frame busy_then types known vs slots others) × (after.own ≡ are.own)
+      goes_on busy_then here more bare kind keeps =
+          several_change busy_then known slots are.own refl are.as_many in_front kind are.none_past bare
+          (λ u h l free f g.
+          inl (other_so u h l (λ i. free (more u i)) (λ y. free (subst (λ (n : ℕ). Has busy_then n) (sym y) here)) f g (keeps u)))
+          are.single are.apart
 
-    abbrev At : (u : ℕ) → held.Held → core.Slot → List ℕ → Type 0
-    At u = SlotStands defs k' x' frame others (number_place defs types u) (reference_place defs types u)
+      module _ (h : held.Held) (l : core.Slot) (own : List ℕ) (there : s < length slots) (kind : AreOfFrame defs types slots others)
+          (stand : Now s h l own) (single : Single own)
+          (rest : (r b : ℕ) → (r ≡ s → ⊥) → Has (are.own r) b → (Has own b → ⊥) × IsKept k' x x' b) where
+        abbrev after_own : ℕ → List ℕ
+        after_own r = choose (r == s) own (are.own r)
 
-    each_slot : (u : ℕ) (i : held.Held) (j : core.Slot) → slice_get (held.put known s h) u ≡ Some i
-        → slice_get (core.put slots s l) u ≡ Some j
-        → At u i j (after_own u)
-    each_slot u i j f g = elim (eqb_tells u s) [
-      | inl y ↦ this y.1
-      | inr y ↦ another y.1
-    ]
-      where
-        this : u ≡ s → At u i j (after_own u)
-        this y =
-            let many = are.as_many in
-            let a : h ≡ i = put_there known s h i (omega (arith, there, many)) (ap (slice_get (held.put known s h)) (sym y) ∙ f) in
-            let b : l ≡ j = put_there slots s l j there (ap (slice_get (core.put slots s l)) (sym y) ∙ g) in
-            subst (λ (os : List ℕ). At u i j os) (sym (own_here u y))
-            (subst (λ (n : ℕ). At n i j own) (sym y)
-            (subst (λ (z : held.Held). At s z j own) a (subst (λ (z : core.Slot). At s h z own) b stand)))
+        own_here : (r : ℕ) → r ≡ s → after_own r ≡ own
+        own_here r y = elim (eqb_tells r s) [
+          | inl z ↦ ap (λ b. choose b own (are.own r)) z.0
+          | inr z ↦ absurd (z.1 y)
+        ]
 
-        another : (u ≡ s → ⊥) → At u i j (after_own u)
-        another ne =
-            subst (λ (os : List ℕ). At u i j os) (sym (own_elsewhere u ne))
-            (other_stands busy types known vs slots words others s are was e u i j ne (sym (set_other known s u h ne) ∙ f)
-            (sym (set_other slots s u l ne) ∙ g) (λ b k. (rest u b ne k).1))
+        own_elsewhere : (r : ℕ) → (r ≡ s → ⊥) → after_own r ≡ are.own r
+        own_elsewhere r ne = elim (eqb_tells r s) [
+          | inl z ↦ absurd (ne z.1)
+          | inr z ↦ ap (λ b. choose b own (are.own r)) z.0
+        ]
 
-    slot_changes : OneSlotChanged defs k k' x x' frame busy types known vs slots words others are s h l own
-    slot_changes = record {
-      after = record {
-        laid = are.laid;
-        kind = subst (λ (m : ℕ). AreOf (frame_bytes defs types m) (frame_references defs types m) others) (sym (put_long slots s l)) kind;
-        values = variables_stand busy types known vs slots words others s are was e;
-        as_many = put_long known s h ∙ are.as_many ∙ sym (put_long slots s l);
-        own = after_own;
-        none_past = λ r m.
-            let p : length slots ≤ r = let q = put_long slots s l in omega (arith, q, m) in
-            own_elsewhere r (λ y. omega (arith, y, p, there)) ∙ are.none_past r p;
-        busy_bare = λ u y. absurd cc;
-        each = λ u i j free. each_slot u i j;
-        single = λ r. elim (eqb_tells r s) [
-          | inl z ↦ subst (λ (os : List ℕ). Single os) (sym (own_here r z.1)) single
-          | inr z ↦ subst (λ (os : List ℕ). Single os) (sym (own_elsewhere r z.1)) (are.single r)
-        ];
-        apart = λ r q b i j. alone r q b (is_of r b i) (is_of q b j);
-      };
-      here = own_here s refl;
-      elsewhere = own_elsewhere;
-    }
-      where
+        -- a block is the changed slot's or another's
+        is_of : (r b : ℕ) → Has (after_own r) b → ((r ≡ s) × Has own b) ⊎ ((r ≡ s → ⊥) × Has (are.own r) b)
+        is_of r b i = elim (eqb_tells r s) [
+          | inl z ↦ inl (z.1, subst (λ (os : List ℕ). Has os b) (own_here r z.1) i)
+          | inr z ↦ inr (z.1, subst (λ (os : List ℕ). Has os b) (own_elsewhere r z.1) i)
+        ]
+
         alone : (r q b : ℕ) → ((r ≡ s) × Has own b) ⊎ ((r ≡ s → ⊥) × Has (are.own r) b)
             → ((q ≡ s) × Has own b) ⊎ ((q ≡ s → ⊥) × Has (are.own q) b) → r ≡ q
         alone r q b (inl i) (inl j) = i.0 ∙ sym j.0
@@ -400,16 +402,62 @@ module _ (defs : List Def) (k k' : Facts) (x x' : Heap Block) (frame : ℕ) (gro
         alone r q b (inr i) (inl j) = absurd ((rest r b i.0 i.1).0 j.1)
         alone r q b (inr i) (inr j) = are.apart r q b i.1 j.1
 
+        each_slot : (u : ℕ) (i : held.Held) (j : core.Slot) → (Has (held.without s busy) u → ⊥)
+            → slice_get (held.put known s h) u ≡ Some i → slice_get (core.put slots s l) u ≡ Some j
+            → So u i j (after_own u) ⊎ Now u i j (after_own u)
+        each_slot u i j free f g = elim (eqb_tells u s) [
+          | inl y ↦ inr (this y.1)
+          | inr y ↦ inl (another y.1)
+        ]
+          where
+            this : u ≡ s → Now u i j (after_own u)
+            this y =
+                let many = are.as_many in
+                let a : h ≡ i = put_there known s h i (omega (arith, there, many)) (ap (slice_get (held.put known s h)) (sym y) ∙ f) in
+                let b : l ≡ j = put_there slots s l j there (ap (slice_get (core.put slots s l)) (sym y) ∙ g) in
+                subst (λ (os : List ℕ). Now u i j os) (sym (own_here u y))
+                (subst (λ (n : ℕ). Now n i j own) (sym y)
+                (subst (λ (z : held.Held). Now s z j own) a (subst (λ (z : core.Slot). Now s h z own) b stand)))
+
+            another : (u ≡ s → ⊥) → So u i j (after_own u)
+            another ne =
+                subst (λ (os : List ℕ). So u i j os) (sym (own_elsewhere u ne))
+                (other_so u i j (λ c. free (still_among s u busy c ne)) ne (sym (set_other known s u h ne) ∙ f)
+                (sym (set_other slots s u l ne) ∙ g) (λ b c. (rest u b ne c).1))
+
+        slot_changes : OneSlotChanged defs k k' x x' frame busy types known vs slots words others are s h l own
+        slot_changes =
+            let (after, same) = several_change (held.without s busy) (held.put known s h) (core.put slots s l) after_own
+            (put_long slots s l) (put_long known s h ∙ are.as_many) in_front kind
+            (λ r p. own_elsewhere r (λ y. omega (arith, y, p, there)) ∙ are.none_past r p)
+            (λ r i. let w = was_among s r busy i in own_elsewhere r w.1 ∙ are.busy_bare r w.0)
+            each_slot
+            (λ r. elim (eqb_tells r s) [
+              | inl z ↦ subst (λ (os : List ℕ). Single os) (sym (own_here r z.1)) single
+              | inr z ↦ subst (λ (os : List ℕ). Single os) (sym (own_elsewhere r z.1)) (are.single r)
+            ])
+            (λ r q b i j. alone r q b (is_of r b i) (is_of q b j)) in
+            record {
+              after = after;
+              here = ap (λ (f : ℕ → List ℕ). f s) same ∙ own_here s refl;
+              elsewhere = λ r ne. ap (λ (f : ℕ → List ℕ). f r) same ∙ own_elsewhere r ne;
+            }
+
 pub slots_change : SlotsChange
 slots_change = record {
   stays = λ defs k k' x x' frame words others n h l own stands grows same keeps.
       slot_same defs k k' x x' frame grows words others n h l own stands same keeps;
-  slot = λ defs k k' x x' frame busy types known vs slots words others s h l own are was grows there e kind stand single rest.
-      slot_changes defs k k' x x' frame grows busy types known vs slots words others s h l own are was there e kind stand single rest;
-  leaves = λ defs k k' x x' frame types known vs slots words others s are grows bare e kind keeps.
-      goes_on defs k k' x x' frame grows None types known vs slots words others s are (inl refl) e bare kind keeps;
-  within = λ defs k k' x x' frame types known vs slots words others s are grows e kind keeps.
-      goes_on defs k k' x x' frame grows (Some s) types known vs slots words others s are (inr refl) e (are.busy_bare s refl) kind keeps;
+  slot = λ defs k k' x x' frame busy types known vs slots words others s h l own are grows there e kind stand single rest.
+      slot_changes defs k k' x x' frame grows busy types known vs slots words others are s e h l own there kind stand single rest;
+  leaves = λ defs k k' x x' frame busy types known vs slots words others s are grows bare e kind keeps.
+      goes_on defs k k' x x' frame grows busy types known vs slots words others are s e (s ∷ busy) (inl refl) (λ u i. inr i)
+      (λ u i. elim i [ inl y ↦ ap are.own (sym y) ∙ bare | inr j ↦ are.busy_bare u j ]) kind keeps;
+  within = λ defs k k' x x' frame busy types known vs slots words others s are here grows e kind keeps.
+      goes_on defs k k' x x' frame grows busy types known vs slots words others are s e busy here (λ u i. i) are.busy_bare kind keeps;
+  several = λ defs k k' x x' frame busy busy_then types known changed vs slots other words others own are grows many same e kind past bare
+      each single apart.
+      several_change defs k k' x x' frame grows busy types known vs slots words others are busy_then changed other own many same
+      (λ w l. e.each w (λ i. let j = i.0 in omega (arith, j, l))) kind past bare each single apart;
   variables = λ defs k x frame busy types known vs us slots words others are e kind values.
       variables_change defs k x frame busy types known vs slots words others are us e kind values;
   linkage = λ defs k x frame busy types known vs slots words others are e kind.

@@ -1,5 +1,5 @@
 -- A frame as the machine makes it stands for empty slots and zero variables.
-use Rattle.std.specs.Prelude.{ℕ, ◌+◌, ◌*◌, ◌/◌, ◌%◌, ◌≡◌, ◌<◌, ◌≤◌, false, List, [], map, replicate, None}
+use Rattle.std.specs.Prelude.{ℕ, ◌+◌, ◌*◌, ◌/◌, ◌%◌, ◌≡◌, ◌<◌, ◌≤◌, false, List, [], map, replicate}
 use Rattle.heap_model.specs.Heap.{Heap}
 use Rattle.limbo_types.specs.Types.{Ty}
 use Rattle.limbo_layout.specs.Adts.{Def, Has}
@@ -27,5 +27,5 @@ pub record FramesBegin : Type 0 where
   -- a frame with so many slots, and its variables are zero
   pub begins : (defs : List Def) (k : Facts) (x : Heap Block) (frame : ℕ) (types : List Ty) (n : ℕ) →
       AllLaid defs types (rooms_of (rooms_in defs) types) →
-      (are : WordsAre defs k x frame None types (replicate n held.empty) (map (zero_of defs) types) (replicate n core.empty)
+      (are : WordsAre defs k x frame [] types (replicate n held.empty) (map (zero_of defs) types) (replicate n core.empty)
       (blank (desc (frame_bytes defs types n) (frame_references defs types n)))) × ((s : ℕ) → are.own s ≡ [])

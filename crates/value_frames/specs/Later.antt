@@ -1,5 +1,5 @@
 -- A frame of the machine stands for what it stood for while the heap changes elsewhere.
-use Rattle.std.specs.Prelude.{ℕ, ◌≡◌, List, Option, None, Some}
+use Rattle.std.specs.Prelude.{ℕ, ◌≡◌, List, None, Some}
 use Rattle.heap_model.specs.Heap.{Heap, at}
 use Rattle.heap_model.specs.Facts.{Free}
 use Rattle.heap_model.specs.Worlds.{Changes, Leaves}
@@ -20,7 +20,7 @@ use Rattle.value_frames.specs.Slots.{IsKept}
 abbrev pub AreMadeBy : (k : Facts) (j : ℕ) → (own : ℕ → List ℕ) → Type 0
 AreMadeBy k j own = (s b : ℕ) → Has (own s) b → k.maker b ≡ Some j
 
-pub record FrameLater (defs : List Def) (k : Facts) (x : Heap Block) (frame : ℕ) (busy : Option ℕ) (types : List Ty) (known : held.Slots)
+pub record FrameLater (defs : List Def) (k : Facts) (x : Heap Block) (frame : ℕ) (busy : List ℕ) (types : List Ty) (known : held.Slots)
     (variables : List Value) (slots : core.Slots) (words : List Word)
     (are : WordsAre defs k x frame busy types known variables slots words) : Type 0 where
   -- what a frame has as its own stands for nothing, is a record, and was made for the frame
@@ -39,7 +39,7 @@ pub record FrameLater (defs : List Def) (k : Facts) (x : Heap Block) (frame : �
       (after : WordsAre defs k' x' frame busy types known variables slots words) × (after.own ≡ are.own) × AreMadeBy k' j after.own
 
 abbrev pub FramesLater : Type 0
-FramesLater = (defs : List Def) (k : Facts) (x : Heap Block) (frame : ℕ) (busy : Option ℕ) (types : List Ty) (known : held.Slots)
+FramesLater = (defs : List Def) (k : Facts) (x : Heap Block) (frame : ℕ) (busy : List ℕ) (types : List Ty) (known : held.Slots)
     (variables : List Value) (slots : core.Slots) (words : List Word)
     (are : WordsAre defs k x frame busy types known variables slots words) →
     FrameLater defs k x frame busy types known variables slots words are

@@ -4,7 +4,7 @@ use Rattle.heap_model.specs.Heap.{Heap}
 use Rattle.limbo_types.specs.Types.{Ty}
 use Rattle.limbo_layout.specs.Adts.{Def}
 use Rattle.limbo_layout.specs.Layout.{Laid}
-use Rattle.limbo_meaning.specs.Values.{Value, Num}
+use Rattle.limbo_meaning.specs.Values.{Value, Num, nothing}
 use Rattle.core_code.specs.Slots as core
 use Rattle.core_code.specs.Slots.{Slot, Holds}
 use Rattle.core_typing.specs.Held as held
@@ -22,7 +22,7 @@ pub record SlotReads (defs : List Def) (k : Facts) (words : List Word) (number_a
   pub bare : own ≡ []
   pub names : NamesOnly live v
   pub stands : ValueStands defs k words number_at reference_at (form_of t) t v
-  pub nowhere : form_of t ≡ Nowhere → RefersIdly defs k words reference_at
+  pub nowhere : form_of t ≡ Nowhere → (v ≡ nothing) × RefersIdly defs k words reference_at
   pub number : form_of t ≡ AsNumber → Stands defs k words number_at t v
   pub beside : form_of t ≡ AsNumber → RefersIdly defs k words reference_at
   pub reference : form_of t ≡ AsReference → Stands defs k words reference_at t v

@@ -7,7 +7,7 @@ use Rattle.limbo_types.specs.Types.{Ty}
 use Rattle.limbo_layout.specs.Adts.{Def, Has}
 use Rattle.limbo_layout.specs.Layout.{nothing, AllLaid}
 use Rattle.limbo_layout.specs.Laying.{rooms_of}
-use Rattle.limbo_meaning.specs.Values.{Value, Num, references}
+use Rattle.limbo_meaning.specs.Values.{Value, Num, references, nothing as no_value}
 use Rattle.core_code.specs.Rooms.{rooms_in}
 use Rattle.core_code.specs.Slots as core
 use Rattle.core_code.specs.Slots.{Slot, Holds, Region, NoSlot, MoreSlots, Regions, NoRegion, MoreRegions}
@@ -66,7 +66,7 @@ module _ (defs : List Def) (k : Facts) where
 
   -- A value of a type stands in a slot, which has a number at one place and a reference at another.
   abbrev pub ValueStands : (words : List Word) → (number reference : ℕ) → Form → Ty → Value → Type 0
-  ValueStands words n r Nowhere t v = RefersIdly words r
+  ValueStands words n r Nowhere t v = (v ≡ no_value) × RefersIdly words r
   ValueStands words n r AsNumber t v = Stands defs k words n t v × RefersIdly words r
   ValueStands words n r AsReference t v = Stands defs k words r t v
   ValueStands words n r Boxed t v =
@@ -118,10 +118,10 @@ module _ (defs : List Def) (k : Facts) where
             → SlotStands words p (p + 4) h s own → RegionStands words (p + 8) hs g more
             → RegionStands words p (held.MoreSlots h hs) (MoreSlots s g) (own ++ more)
 
-    -- A frame's variables, and its slots by what is known of them. Of a busy slot nothing is said, since its value is on its way, as an
-    -- answer that is waited for and a box that is filled are; it owns nothing. No two slots have one block as their own, and no slot has
-    -- one twice; where there is no slot nothing is owned.
-    pub record WordsAre (busy : Option ℕ) (types : List Ty) (known : held.Slots) (variables : List Value)
+    -- A frame's variables, and its slots by what is known of them. Of busy slots nothing is said, since their values are on their way, as
+    -- an answer that is waited for and a box that is filled are; they own nothing. No two slots have one block as their own, and no slot
+    -- has one twice; where there is no slot nothing is owned.
+    pub record WordsAre (busy : List ℕ) (types : List Ty) (known : held.Slots) (variables : List Value)
         (slots : core.Slots) (words : List Word) : Type 0 where
       pub laid : AllLaid defs types (rooms_of (rooms_in defs) types)
       pub kind : AreOf (frame_bytes defs types (length slots)) (frame_references defs types (length slots)) words
@@ -129,8 +129,8 @@ module _ (defs : List Def) (k : Facts) where
       pub as_many : length known ≡ length slots
       pub own : (slot : ℕ) → List ℕ
       pub none_past : (s : ℕ) → length slots ≤ s → own s ≡ []
-      pub busy_bare : (s : ℕ) → busy ≡ Some s → own s ≡ []
-      pub each : (s : ℕ) (h : Held) (l : Slot) → (busy ≡ Some s → ⊥) → slice_get known s ≡ Some h → slice_get slots s ≡ Some l →
+      pub busy_bare : (s : ℕ) → Has busy s → own s ≡ []
+      pub each : (s : ℕ) (h : Held) (l : Slot) → (Has busy s → ⊥) → slice_get known s ≡ Some h → slice_get slots s ≡ Some l →
           SlotStands words (number_place defs types s) (reference_place defs types s) h l (own s)
       pub single : (s : ℕ) → Single (own s)
       pub apart : (s r b : ℕ) → Has (own s) b → Has (own r) b → s ≡ r
