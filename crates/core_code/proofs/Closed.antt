@@ -6,6 +6,7 @@ use Rattle.std.proofs.lemmas.List.{length-map}
 use Rattle.std.specs.Prelude.{reverse, slice_get, All, if◌then◌else◌}
 use Rattle.limbo_types.specs.Types as ty
 use Rattle.limbo_types.specs.Types.{Ty}
+use Rattle.limbo_types.specs.View.{tys_of}
 use Rattle.limbo_layout.specs.Adts.{Def}
 use Rattle.limbo_typed.specs.declared.operation.Operation.{Operation}
 use Rattle.limbo_typed.specs.declared.operation.Operation.TheVariants as operation
@@ -19,11 +20,12 @@ use Rattle.limbo_meaning.specs.Program.{Routine}
 use Rattle.core_code.specs.Code.{Instr, Give, Skip, Truth, Next, Other}
 use Rattle.core_code.specs.Code.{Start, Keep, Take, Drop, Mirror, Unless, Jump, Back, Return}
 use Rattle.core_code.specs.Terms.{Lowered, LoweredAll, Moved, is_moved, drop_after, drops_after, drops_after_all, drops_from, drops_if}
-use Rattle.core_code.specs.Terms.{count_of, gives, gathers, writes, cells, list_code, cell_drops, slot_at, moves_out, type_at, node, others}
+use Rattle.core_code.specs.Terms.{count_of, gives, gathers, writes, cells, list_code, cell_drops, slot_at, moves_out, node, others}
 use Rattle.core_code.specs.Terms.{lower, lower_all}
 use Rattle.core_code.specs.Terms.{lower_items}
 use Rattle.core_code.specs.Terms.{lower_rest}
-use Rattle.core_code.specs.Terms.{named, items_end, rest_end, part_types, part_numbers, moves_into}
+use Rattle.core_code.specs.Terms.{named, items_end, rest_end, part_types, part_numbers, numbers_from, moves_into, placed, variant_of}
+use Rattle.core_code.specs.Terms.{together, together_drops, value_slot, first_of, types_in}
 use Rattle.core_code.specs.Statements.{Around, further, leaves_at, turns_at, in_loop, whole, whole_if, test, loop_tested, loop_entered}
 use Rattle.core_code.specs.Statements.{stm_code, loop_code_tested, loop_code_entered, block_code, function_of}
 use Rattle.core_code.specs.Control.{leads_to, IsClosed, FunctionsAreClosed}
@@ -92,29 +94,52 @@ within_after_all (v ∷ vs) b r is h = within_after_all vs b r (drops_after v is
 
 -- ---- expressions
 
-abbrev AreFree : (code drops : List Instr) → Type 0
-AreFree code drops = Free code × Free drops
+abbrev AllFree : List (List Instr) → Type 0
+AllFree [] = Unit {0}
+AllFree (c ∷ cs) = Free c × AllFree cs
+
+record AreFree (l : LoweredAll) : Type 0 where
+  each : AllFree l.each
+  code : Free l.code
+  drops : Free l.drops
 
 module _ (defs : List Def) where
   abbrev IsFree : Lowered → Type 0
-  IsFree l = AreFree l.code l.drops
+  IsFree l = Free l.code × Free l.drops
 
   either_free : (h : Bool) (l m : Lowered) → IsFree l → IsFree m → IsFree (if h then l else m)
   either_free true l m f g = f
   either_free false l m f g = g
 
-  gives_free : (t : Ty) (o : Work) (l : LoweredAll) → AreFree l.code l.drops → IsFree (gives defs t o l)
+  gives_free : (t : Ty) (o : Work) (l : LoweredAll) → AreFree l → IsFree (gives defs t o l)
   gives_free t o l f = (
-    free_join l.code _ f.0 (λ b r h. (omega arith, tt)),
-    free_join l.drops _ f.1 (free_if (work_refers defs t o) _ (free_drops l.free 0 (count_of defs t))),
+    free_join l.code _ f.code (λ b r h. (omega arith, tt)),
+    free_join l.drops _ f.drops (free_if (work_refers defs t o) _ (free_drops l.free 0 (count_of defs t))),
   )
 
-  gathers_free : (t : Ty) (o : Operation) (l : LoweredAll) → AreFree l.code l.drops → IsFree (gathers defs t o l)
+  placed_free : (t : Ty) (v : Option ℕ) (into n : ℕ) (ks : List ℕ) (cs : List (List Instr)) (ss : List ℕ) → AllFree cs
+      → Free (placed defs t v into n ks cs ss)
+  placed_free t v into n (k ∷ ks) (c ∷ cs) (s ∷ ss) f =
+      free_join c _ f.0 (λ b r h. (omega arith, placed_free t v into (suc n) ks cs ss f.1 (suc b) r h))
+  placed_free t v into n ks cs ss f = λ b r h. tt
+
+  gathers_free : (t : Ty) (o : Operation) (l : LoweredAll) → AreFree l → IsFree (gathers defs t o l)
   gathers_free t o l f = (
-    free_join l.code _ f.0 (λ b r h. (omega arith, tt)),
+    free_join (placed defs t (variant_of defs o) l.free 0 (part_numbers defs o (length l.values)) l.each l.values) _
+        (placed_free t (variant_of defs o) l.free 0 (part_numbers defs o (length l.values)) l.each l.values f.each)
+        (λ b r h. (omega arith, tt)),
     λ b r h. within_after_all (moves_into defs (part_types defs t) l.free (part_numbers defs o (length l.values)) l.values) b r l.drops
-        (f.1 b r h),
+        (f.drops b r h),
   )
+
+  together_free : (front us : List Ty) (l : LoweredAll) → AllFree l.each → Free (together defs front us l)
+  together_free front us l f =
+      placed_free (ty.Tuple (tys_of (front ++ us))) None l.free 0 (numbers_from defs (length front) (length l.values)) l.each l.values f
+
+  together_drops_free : (front us : List Ty) (l : LoweredAll) → Free l.drops → Free (together_drops defs front us l)
+  together_drops_free front us l f b r h =
+      within_after_all (moves_into defs (front ++ us) l.free (numbers_from defs (length front) (length l.values)) l.values) b r l.drops
+      (f b r h)
 
   writes_free : (aims : List Aim) (ss : List ℕ) (v : ℕ) → Free (writes defs aims ss v)
   writes_free [] ss v b r h = tt
@@ -132,32 +157,33 @@ module _ (defs : List Def) where
   cell_drops_free zero free b r h = tt
   cell_drops_free (suc n) free b r h = (omega arith, cell_drops_free n (suc free) (suc b) r h)
 
-  node_free : (u t : Ty) (o : Work) (l : LoweredAll) → AreFree l.code l.drops → IsFree (node defs u t o l)
-  node_free u t (Operate o) l f =
+  node_free : (us : List Ty) (t : Ty) (o : Work) (l : LoweredAll) → AreFree l → IsFree (node defs us t o l)
+  node_free us t (Operate o) l f =
       either_free (passes_on o) (gathers defs t o l) (gives defs t (Operate o) l) (gathers_free t o l f) (gives_free t (Operate o) l f)
-  node_free u t (tree.Assign aims) l f = (free_join l.code _ f.0 (writes_free aims l.values _), f.1)
-  node_free u t (tree.TakePart n) l f = (
-    free_join l.code _ f.0 (λ b r h. (omega arith, tt)),
-    λ b r h. within_after (moves_out defs u n (slot_at 0 l.values) l.free) b r l.drops (f.1 b r h),
+  node_free us t (tree.Assign aims) l f = (free_join l.code _ f.code (writes_free aims l.values _), f.drops)
+  node_free us t (tree.TakePart n) l f = (
+    free_join l.code _ f.code (λ b r h. (omega arith, tt)),
+    λ b r h. within_after (moves_out defs (first_of defs us) n (slot_at 0 l.values) l.free) b r l.drops (f.drops b r h),
   )
-  node_free u t tree.Copy l f = (free_join l.code _ f.0 (λ b r h. (omega arith, tt)), f.1)
-  node_free u t tree.Link l f = (
-    free_join l.code _ f.0 (list_free (item_of t) l.values l.free),
-    free_join l.drops _ f.1 (cell_drops_free (length l.values) l.free),
+  node_free us t tree.Copy l f = (free_join l.code _ f.code (λ b r h. (omega arith, tt)), f.drops)
+  node_free us t tree.Link l f = (
+    free_join l.code _ f.code (list_free (item_of t) l.values l.free),
+    free_join l.drops _ f.drops (cell_drops_free (length l.values) l.free),
   )
-  node_free u t (tree.Call n) l f = (
-    free_join l.code _ f.0 (λ b r h. (omega arith, tt)),
-    free_join l.drops _ f.1 (free_drops l.free 0 (count_of defs t)),
+  node_free us t (tree.Call n) l f = (
+    free_join (together defs [] us l) _ (together_free [] us l f.each) (λ b r h. (omega arith, tt)),
+    free_join (together_drops defs [] us l) _ (together_drops_free [] us l f.drops) (free_drops (value_slot defs l) 0 (count_of defs t)),
   )
-  node_free u t (tree.Print ps) l f = (free_join l.code _ f.0 (λ b r h. (omega arith, tt)), f.1)
-  node_free u t tree.NewChannel l f = (
-    free_join l.code _ f.0 (λ b r h. (omega arith, tt)),
-    free_join l.drops _ f.1 (λ b r h. (omega arith, tt)),
+  node_free us t (tree.Print ps) l f =
+      (free_join (together defs (ty.Chars ∷ []) us l) _ (together_free (ty.Chars ∷ []) us l f.each) (λ b r h. (omega arith, tt)), together_drops_free (ty.Chars ∷ []) us l f.drops)
+  node_free us t tree.NewChannel l f = (
+    free_join l.code _ f.code (λ b r h. (omega arith, tt)),
+    free_join l.drops _ f.drops (λ b r h. (omega arith, tt)),
   )
-  node_free u t (tree.Literal c) l f = gives_free t (tree.Literal c) l f
-  node_free u t tree.Nil l f = gives_free t tree.Nil l f
-  node_free u t (tree.Read w) l f = gives_free t (tree.Read w) l f
-  node_free u t (tree.Sprint ps) l f = gives_free t (tree.Sprint ps) l f
+  node_free us t (tree.Literal c) l f = gives_free t (tree.Literal c) l f
+  node_free us t tree.Nil l f = gives_free t tree.Nil l f
+  node_free us t (tree.Read w) l f = gives_free t (tree.Read w) l f
+  node_free us t (tree.Sprint ps) l f = gives_free t (tree.Sprint ps) l f
 
   -- one loop of the others' element
   others_free : (h : Bool) (t : Ty) (a : ℕ) (zs : List ℤ) (from : ℕ) (e : Lowered) → IsFree e → IsFree (others defs h t a zs from e)
@@ -181,7 +207,7 @@ module _ (defs : List Def) where
   mutual
     term_free : (lo : ℕ) (t : Term) → IsFree (lower defs lo t)
     term_free lo (Evaluated v) = (λ b r h. (omega arith, tt), λ b r h. tt)
-    term_free lo (Node t o ts) = node_free (type_at defs 0 ts) t o (lower_all defs lo ts) (terms_free lo ts)
+    term_free lo (Node t o ts) = node_free (types_in defs ts) t o (lower_all defs lo ts) (terms_free lo ts)
     term_free lo (Lazy c l r) =
         let x = lower defs lo l in
         let y = lower defs (suc x.free) r in
@@ -199,9 +225,9 @@ module _ (defs : List Def) where
         let f = terms_free lo ts in
         let g = terms_free (suc x.free) us in (
           free_join (x.code ++ Give t (tree.Read way) x.free x.values ∷ y.code) _
-              (free_join x.code _ f.0 (λ b r h. (omega arith, g.0 (suc b) r h))) (λ b r h. (omega arith, (omega arith, tt))),
-          free_join x.drops _ f.1 (free_join (drops_from x.free 0 (count_of defs t)) _ (free_drops x.free 0 (count_of defs t))
-              (free_join y.drops _ g.1 (free_if (work_refers defs t (Operate o)) _ (free_drops y.free 0 (count_of defs t))))),
+              (free_join x.code _ f.code (λ b r h. (omega arith, g.code (suc b) r h))) (λ b r h. (omega arith, (omega arith, tt))),
+          free_join x.drops _ f.drops (free_join (drops_from x.free 0 (count_of defs t)) _ (free_drops x.free 0 (count_of defs t))
+              (free_join y.drops _ g.drops (free_if (work_refers defs t (Operate o)) _ (free_drops y.free 0 (count_of defs t))))),
         )
     term_free lo (Fill t l is rest) =
         let n = lower defs lo l in
@@ -218,13 +244,17 @@ module _ (defs : List Def) where
         )
     term_free lo t = (λ b r h. tt, λ b r h. tt)
 
-    terms_free : (lo : ℕ) (ts : Terms) → AreFree (lower_all defs lo ts).code (lower_all defs lo ts).drops
-    terms_free lo NoTerms = (λ b r h. tt, λ b r h. tt)
+    terms_free : (lo : ℕ) (ts : Terms) → AreFree (lower_all defs lo ts)
+    terms_free lo NoTerms = record { each = tt; code = λ b r h. tt; drops = λ b r h. tt }
     terms_free lo (MoreTerms t ts) =
         let x = lower defs lo t in
         let f = term_free lo t in
         let g = terms_free x.free ts in
-        (free_join x.code _ f.0 g.0, free_join x.drops _ f.1 g.1)
+        record {
+          each = (f.0, g.each);
+          code = free_join x.code _ f.0 g.code;
+          drops = free_join x.drops _ f.1 g.drops;
+        }
 
     items_free : (t : Ty) (a s lo : ℕ) (is : Items) → IsFree (lower_items defs t a s lo is)
     items_free t a s lo NoItems = (λ b r h. tt, λ b r h. tt)

@@ -5,6 +5,7 @@ use Rattle.std.proofs.lemmas.List.{length-map, length-reverse}
 use Rattle.std.specs.Prelude.{reverse, if◌then◌else◌}
 use Rattle.limbo_types.specs.Types as ty
 use Rattle.limbo_types.specs.Types.{Ty}
+use Rattle.limbo_types.specs.View.{tys_of}
 use Rattle.limbo_layout.specs.Adts.{Def}
 use Rattle.limbo_typed.specs.declared.operation.Operation.{Operation}
 use Rattle.limbo_typed.specs.declared.operation.Operation.TheVariants as operation
@@ -14,13 +15,16 @@ use Rattle.limbo_meaning.specs.Trees.{Items, NoItems, MoreItems}
 use Rattle.limbo_meaning.specs.Trees.{Stm, Over, Eval, If, While, Enter, Break, Continue, Loop, Looping, Block, Done, Then, Turn, Again}
 use Rattle.limbo_meaning.specs.Evaluation.{passes_on, may_hold, work_refers, operands_for}
 use Rattle.limbo_meaning.specs.Operations.{item_of}
-use Rattle.core_code.specs.Code.{Instr, Give, Gather, Pick, Call, Skip, Truth, Write, Element, Next, Other, Start, Keep, Take, Drop, Mirror}
+use Rattle.core_code.specs.Code.{Instr, Give, Place, Gather, Pick, Call, Print, Skip, Truth, Write, Element, Next, Other, Start, Keep, Take}
+use Rattle.core_code.specs.Code.{Drop, Mirror}
 use Rattle.core_code.specs.Code.{Unless, Jump, Back, Return}
 use Rattle.core_code.specs.Terms.{Lowered, LoweredAll, Moved, drop_after, drops_after, drops_after_all, drops_from, drops_if, count_of}
-use Rattle.core_code.specs.Terms.{gives, gathers, writes, cells, list_code, cell_drops, slot_at, moves_out, type_at, node, others, lower}
+use Rattle.core_code.specs.Terms.{gives, gathers, writes, cells, list_code, cell_drops, slot_at, moves_out, first_of, types_in, node}
+use Rattle.core_code.specs.Terms.{others, lower}
 use Rattle.core_code.specs.Terms.{lower_all}
 use Rattle.core_code.specs.Terms.{lower_items}
-use Rattle.core_code.specs.Terms.{lower_rest, named, items_end, rest_end, part_types, part_numbers, moves_into}
+use Rattle.core_code.specs.Terms.{lower_rest, named, items_end, rest_end, part_types, part_numbers, numbers_from, moves_into}
+use Rattle.core_code.specs.Terms.{placed, variant_of, together, together_drops, value_slot, operands_slot}
 use Rattle.core_code.specs.Statements.{Around, further, in_loop, whole, whole_if, test, loop_tested, loop_entered}
 use Rattle.core_code.specs.Statements.{stm_code, loop_code_tested, loop_code_entered, block_code}
 use Rattle.core_code.specs.Nodes.{written_in, node_of, term_nodes, terms_nodes, items_nodes, optional_nodes, stm_nodes, loop_nodes}
@@ -49,9 +53,15 @@ long_after_all (v ∷ vs) is = long_after_all vs (drops_after v is) ∙ length-m
 abbrev Small : (nodes : ℕ) → (code drops : List Instr) → Type 0
 Small n code drops = length code + length drops + 2 ≤ 4 * n
 
+-- the code of all, one behind the other
+abbrev long_each : List (List Instr) → ℕ
+long_each [] = 0
+long_each (c ∷ cs) = length c + long_each cs
+
 -- the same of several, with two to spare of each
-abbrev AreSmall : (nodes : ℕ) → LoweredAll → Type 0
-AreSmall n l = length l.code + length l.drops + 2 * length l.values ≤ 4 * n
+record AreSmall (n : ℕ) (l : LoweredAll) : Type 0 where
+  each : long_each l.each ≤ length l.code
+  all : length l.code + length l.drops + 2 * length l.values ≤ 4 * n
 
 module _ (defs : List Def) where
   abbrev IsSmall : ℕ → Lowered → Type 0
@@ -69,12 +79,30 @@ module _ (defs : List Def) where
       let d = long_drops l.free 0 (count_of defs t) in
       omega arith
 
+  long_placed : (t : Ty) (v : Option ℕ) (into n : ℕ) (ks : List ℕ) (cs : List (List Instr)) (ss : List ℕ)
+      → length (placed defs t v into n ks cs ss) ≤ long_each cs + length ss
+  long_placed t v into n (k ∷ ks) (c ∷ cs) (s ∷ ss) =
+      let a = long_join c (Place t v n k into s ∷ placed defs t v into (suc n) ks cs ss) in
+      let b = long_placed t v into (suc n) ks cs ss in
+      omega arith
+  long_placed t v into n ks cs ss = omega arith
+
   gathers_small : (t : Ty) (o : Operation) (l : LoweredAll) (n m : ℕ) → AreSmall n l → node_of defs t + n ≤ m
       → IsSmall m (gathers defs t o l)
   gathers_small t o l n m f g =
-      let a = long_join l.code (Gather t (Operate o) l.free l.values ∷ []) in
+      let p = placed defs t (variant_of defs o) l.free 0 (part_numbers defs o (length l.values)) l.each l.values in
+      let a = long_join p (Gather t (Operate o) l.free (length l.values) ∷ []) in
+      let c = long_placed t (variant_of defs o) l.free 0 (part_numbers defs o (length l.values)) l.each l.values in
       let b = long_after_all (moves_into defs (part_types defs t) l.free (part_numbers defs o (length l.values)) l.values) l.drops in
       omega arith
+
+  long_together : (front us : List Ty) (l : LoweredAll) → length (together defs front us l) ≤ long_each l.each + length l.values
+  long_together front us l =
+      long_placed (ty.Tuple (tys_of (front ++ us))) None l.free 0 (numbers_from defs (length front) (length l.values)) l.each l.values
+
+  long_together_drops : (front us : List Ty) (l : LoweredAll) → length (together_drops defs front us l) ≡ length l.drops
+  long_together_drops front us l =
+      long_after_all (moves_into defs (front ++ us) l.free (numbers_from defs (length front) (length l.values)) l.values) l.drops
 
   long_writes : (aims : List Aim) (ss : List ℕ) (v : ℕ) → length (writes defs aims ss v) ≡ length aims
   long_writes [] ss v = refl
@@ -100,41 +128,47 @@ module _ (defs : List Def) where
       → Small m (code ++ i ∷ []) drops
   one_more code drops values n m i f g = let a = long_join code (i ∷ []) in omega arith
 
-  node_small : (u t : Ty) (o : Work) (l : LoweredAll) (n : ℕ) → AreSmall n l
-      → IsSmall (node_of defs t + (written_in o + n)) (node defs u t o l)
-  node_small u t (Operate o) l n f =
+  node_small : (us : List Ty) (t : Ty) (o : Work) (l : LoweredAll) (n : ℕ) → AreSmall n l
+      → IsSmall (node_of defs t + (written_in o + n)) (node defs us t o l)
+  node_small us t (Operate o) l n f =
       either_small (passes_on o) _ (gathers defs t o l) (gives defs t (Operate o) l) (gathers_small t o l n _ f (omega arith))
       (gives_small t (Operate o) l n _ f (omega arith))
-  node_small u t (tree.Assign aims) l n f =
+  node_small us t (tree.Assign aims) l n f =
       let w = writes defs aims l.values (slot_at (operands_for aims) l.values) in
       let a = long_join l.code w in
       let b = long_writes aims l.values (slot_at (operands_for aims) l.values) in
       omega arith
-  node_small u t (tree.TakePart k) l n f =
+  node_small us t (tree.TakePart k) l n f =
       let a = long_join l.code (Pick t k l.free (slot_at 0 l.values) ∷ []) in
-      let b = length-map l.drops (drop_after (moves_out defs u k (slot_at 0 l.values) l.free)) in
+      let b = length-map l.drops (drop_after (moves_out defs (first_of defs us) k (slot_at 0 l.values) l.free)) in
       omega arith
-  node_small u t tree.Copy l n f = one_more l.code l.drops (length l.values) n _ _ f (omega arith)
-  node_small u t tree.Link l n f =
+  node_small us t tree.Copy l n f = one_more l.code l.drops (length l.values) n _ _ f.all (omega arith)
+  node_small us t tree.Link l n f =
       let a = long_join l.code (list_code defs (item_of t) l.values l.free) in
       let b = long_list (item_of t) l.values l.free in
       let d = long_join l.drops (cell_drops defs (length l.values) l.free) in
       let e = long_cell_drops (length l.values) l.free in
       omega arith
-  node_small u t (tree.Call k) l n f =
-      let a = long_join l.code (Call t k l.free l.values ∷ []) in
-      let b = long_join l.drops (drops_from l.free 0 (count_of defs t)) in
-      let c = long_drops l.free 0 (count_of defs t) in
+  node_small us t (tree.Call k) l n f =
+      let a = long_join (together defs [] us l) (Call t k (value_slot defs l) (operands_slot defs l) ∷ []) in
+      let b = long_join (together_drops defs [] us l) (drops_from (value_slot defs l) 0 (count_of defs t)) in
+      let c = long_drops (value_slot defs l) 0 (count_of defs t) in
+      let d = long_together [] us l in
+      let e = long_together_drops [] us l in
       omega arith
-  node_small u t (tree.Print ps) l n f = one_more l.code l.drops (length l.values) n _ _ f (omega arith)
-  node_small u t tree.NewChannel l n f =
+  node_small us t (tree.Print ps) l n f =
+      let a = long_join (together defs (ty.Chars ∷ []) us l) (Print ps (value_slot defs l) (operands_slot defs l) ∷ []) in
+      let d = long_together (ty.Chars ∷ []) us l in
+      let e = long_together_drops (ty.Chars ∷ []) us l in
+      omega arith
+  node_small us t tree.NewChannel l n f =
       let a = long_join l.code (Give t tree.NewChannel l.free [] ∷ []) in
       let b = long_join l.drops (Drop l.free 0 ∷ []) in
       omega arith
-  node_small u t (tree.Literal c) l n f = gives_small t (tree.Literal c) l n _ f (omega arith)
-  node_small u t tree.Nil l n f = gives_small t tree.Nil l n _ f (omega arith)
-  node_small u t (tree.Read w) l n f = gives_small t (tree.Read w) l n _ f (omega arith)
-  node_small u t (tree.Sprint ps) l n f = gives_small t (tree.Sprint ps) l n _ f (omega arith)
+  node_small us t (tree.Literal c) l n f = gives_small t (tree.Literal c) l n _ f (omega arith)
+  node_small us t tree.Nil l n f = gives_small t tree.Nil l n _ f (omega arith)
+  node_small us t (tree.Read w) l n f = gives_small t (tree.Read w) l n _ f (omega arith)
+  node_small us t (tree.Sprint ps) l n f = gives_small t (tree.Sprint ps) l n _ f (omega arith)
 
   -- a loop of the others' element has seven instructions of its own
   others_small : (h : Bool) (t : Ty) (a : ℕ) (zs : List ℤ) (from : ℕ) (e : Lowered) →
@@ -156,7 +190,7 @@ module _ (defs : List Def) where
   mutual
     term_small : (lo : ℕ) (t : Term) → IsSmall (term_nodes defs t) (lower defs lo t)
     term_small lo (Evaluated v) = omega arith
-    term_small lo (Node t o ts) = node_small (type_at defs 0 ts) t o (lower_all defs lo ts) (terms_nodes defs ts) (terms_small lo ts)
+    term_small lo (Node t o ts) = node_small (types_in defs ts) t o (lower_all defs lo ts) (terms_nodes defs ts) (terms_small lo ts)
     term_small lo (Lazy c l r) =
         let x = lower defs lo l in
         let y = lower defs (suc x.free) r in
@@ -206,7 +240,7 @@ module _ (defs : List Def) where
     term_small lo t = omega arith
 
     terms_small : (lo : ℕ) (ts : Terms) → AreSmall (terms_nodes defs ts) (lower_all defs lo ts)
-    terms_small lo NoTerms = omega arith
+    terms_small lo NoTerms = record { each = omega arith; all = omega arith }
     terms_small lo (MoreTerms t ts) =
         let x = lower defs lo t in
         let y = lower_all defs x.free ts in
@@ -214,7 +248,7 @@ module _ (defs : List Def) where
         let g = terms_small x.free ts in
         let a = long_join x.code y.code in
         let b = long_join x.drops y.drops in
-        omega arith
+        record { each = omega arith; all = omega arith }
 
     items_small : (t : Ty) (a s lo : ℕ) (is : Items) →
         length (lower_items defs t a s lo is).code + length (lower_items defs t a s lo is).drops ≤ 4 * items_nodes defs is

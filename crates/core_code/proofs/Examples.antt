@@ -7,7 +7,7 @@ use Rattle.styx_msg.specs.declared.message.Rmsg.{Rmsg}
 use Rattle.process_model.specs.Process.{Went, Asks, Ends, Doing, Ready, Asking, Gone, Requested, Replied, Over}
 use Rattle.process_model.specs.Source.{Config, settled}
 use Rattle.process_model.specs.Law.{begins}
-use Rattle.limbo_types.specs.Types.{Int, Nothing}
+use Rattle.limbo_types.specs.Types.{Chars, Int, Nothing, Tuple, NoTys, MoreTys}
 use Rattle.limbo_values.specs.declared.number.Kind.TheVariants as kind
 use Rattle.limbo_typed.specs.declared.operation.Operation.TheVariants as operation
 use Rattle.limbo_typed.specs.declared.print.Hole.TheVariants as hole
@@ -30,7 +30,7 @@ use Rattle.limbo_meaning.proofs.Examples.{exprs, apply, len, words_module}
 use Rattle.limbo_meaning.proofs.Examples.{filling_first, storing_first, dropping, adding, three_texts, deciding}
 use Rattle.limbo_meaning.proofs.Examples.{function, made_of, ints, int_list, outcome}
 use Rattle.limbo_meaning.proofs.Temporaries.{unnamed_list, pairs, anew, walking, copies, endless, shapes, head_of, tail_of, pair_type}
-use Rattle.core_code.specs.Code.{Give, Print, Drop, Return, Function, Program}
+use Rattle.core_code.specs.Code.{Give, Place, Print, Drop, Return, Function, Program}
 use Rattle.core_code.specs.Machine.{Process, Does, frame_of, step, rules, naming}
 use Rattle.core_code.specs.Statements.{code_of}
 
@@ -257,7 +257,8 @@ second_code :
     Give int_list (Read (record { root = Local 0; parts = []; character = false })) 0 []
     ∷ Give int_list (Operate operation.Tail) 1 (0 ∷ [])
     ∷ Give Int (Operate operation.Head) 2 (1 ∷ [])
-    ∷ Print (piece.Hole (hole.Decimal kind.Int) ∷ []) 3 (2 ∷ [])
+    ∷ Place (Tuple (MoreTys Chars (MoreTys Int NoTys))) None 0 1 3 2
+    ∷ Print (piece.Hole (hole.Decimal kind.Int) ∷ []) 4 (Some 3)
     ∷ Drop 0 0
     ∷ Drop 1 0
     ∷ Return None

@@ -16,13 +16,14 @@ use Rattle.limbo_meaning.specs.Values.{references_in, row, listed, all_fitted}
 use Rattle.limbo_meaning.specs.Operations.{adt_parts}
 use Rattle.limbo_meaning.specs.Places.{value_part, put_part}
 use Rattle.limbo_meaning.specs.Process.{Shared}
-use Rattle.core_code.specs.Slots.{Slot, Holds, Turns, Region, NoSlot, MoreSlots, Regions, NoRegion, MoreRegions, Slots, empty, slot, put}
+use Rattle.core_code.specs.Slots.{Slot, Holds, Forms, Turns, Region, NoSlot, MoreSlots, Regions, NoRegion, MoreRegions, Slots, empty, slot}
+use Rattle.core_code.specs.Slots.{put}
 use Rattle.core_code.specs.Slots.{value_of, chain_of, next_of, without, all_without, dropped, region, cleared, placed, chained, slot_names}
-use Rattle.core_code.specs.Slots.{region_names, regions_name, slots_name, emptied, values_of}
+use Rattle.core_code.specs.Slots.{region_names, regions_name, slots_name, operands_of}
 use Rattle.core_code.specs.Code.{Program}
 use Rattle.core_code.specs.Machine.{Process, at, with_frames, goes_to, takes, left_whole, picked, process_names}
-use Rattle.core_code.specs.Naming.{reference, size, NamesTheSame, DropsOne, KeepsAll, TakesAll, MovesParts, GathersTuples}
-use Rattle.core_code.specs.Naming.{GathersAdts, DiffersFrom, AllDiffer, HoldValues, ComeFrom, AreOf, ReferencesGoSo}
+use Rattle.core_code.specs.Naming.{reference, size, NamesTheSame, DropsOne, KeepsAll, TakesAll, MovesParts, PlacesOperands}
+use Rattle.core_code.specs.Naming.{GathersTuples, GathersAdts, IsForming, AreOf, ReferencesGoSo}
 use Rattle.core_code.specs.Whole.{with_parts}
 use Rattle.core_code.proofs.Whole.{values_are_whole}
 
@@ -83,6 +84,7 @@ mutual
 
 drop_goes : (n k : ℕ) (s : Slot) → slot_names (dropped k s) n + one n (reference k s) ≡ slot_names s n
 drop_goes n k (Holds v) = one_goes n k v
+drop_goes n k (Forms vs) = omega arith
 drop_goes n k (Turns i rs) = omega arith
 
 -- ---- slots
@@ -254,27 +256,7 @@ moves_parts limit program w v p q t part into from vs e c f apart li lf z =
     omega arith) in
     record { world = a.0; names = λ n. let b = a.1 n in omega arith }
 
--- ---- a tuple's parts
-
-pub emptied_other : (slots : Slots) (ss : List ℕ) (d : ℕ) → DiffersFrom d ss → slot (emptied slots ss) d ≡ slot slots d
-emptied_other slots [] d h = refl
-emptied_other slots (s ∷ ss) d h = slot_other (emptied slots ss) s d empty h.0 ∙ emptied_other slots ss d h.1
-
-pub long_emptied : (slots : Slots) (ss : List ℕ) → length (emptied slots ss) ≡ length slots
-long_emptied slots [] = refl
-long_emptied slots (s ∷ ss) = length-set (emptied slots ss) s _ ∙ long_emptied slots ss
-
-pub names_emptied : (n : ℕ) (slots : Slots) (ss : List ℕ) → AllDiffer ss → HoldValues slots ss
-    → slots_name (emptied slots ss) n + among n (references_in (values_of slots ss)) ≡ slots_name slots n
-names_emptied n slots [] d h = omega arith
-names_emptied n slots (s ∷ ss) d h =
-    let a = names_emptied n slots ss d.1 h.2 in
-    let l : s < length (emptied slots ss) = let e = long_emptied slots ss in let k = h.0 in omega arith in
-    let b = names_put n (emptied slots ss) s empty l in
-    let c = ap (λ (x : Slot). slot_names x n) (emptied_other slots ss s d.0) in
-    let e = ap (λ (x : Slot). slot_names x n) h.1 in
-    let f = among_join n (references (value_of (slot slots s))) (references_in (values_of slots ss)) in
-    omega arith
+-- ---- operands that are put together
 
 pub listed_row : (vs : List Value) → listed (row vs) ≡ vs
 listed_row [] = refl
@@ -284,7 +266,8 @@ pub row_references : (vs : List Value) → all_references (row vs) ≡ reference
 row_references [] = refl
 row_references (v ∷ vs) = ap (λ (rs : List (Option ℕ)). references v ++ rs) (row_references vs)
 
-pub names_in_join : (n : ℕ) (us vs : List Value) → among n (references_in (us ++ vs)) ≡ among n (references_in us) + among n (references_in vs)
+pub names_in_join : (n : ℕ) (us vs : List Value)
+    → among n (references_in (us ++ vs)) ≡ among n (references_in us) + among n (references_in vs)
 names_in_join n [] vs = omega arith
 names_in_join n (u ∷ us) vs =
     let a = names_in_join n us vs in
@@ -347,34 +330,52 @@ adt_names n d (Some k) vs =
     let e = split_names n (length d.fields) vs in
     omega arith
 
--- parts go from their slots into one value
-gathered : (w v : Shared) (p q : Process) (into : ℕ) (from : List ℕ) (u : Value) → ComeFrom p.frame.slots into from
-    → goes_to w p (suc p.frame.pc) (put (emptied p.frame.slots from) into (Holds u)) ≡ Went v q
-    → ((n : ℕ) → among n (references u) ≡ among n (references_in (values_of p.frame.slots from))) → NamesTheSame w v p q
-gathered w v p q into from u c e f =
+-- what is put together has the names of its operands
+pub forming_names : (n : ℕ) (s : Slot) → IsForming s → slot_names s n ≡ among n (references_in (operands_of s))
+forming_names n s (inl e) = ap (λ (x : Slot). slot_names x n) e
+forming_names n s (inr e) = subst (λ (x : Slot). slot_names x n ≡ among n (references_in (operands_of x))) (sym e) refl
+
+places_operands : (limit : ℕ) (program : Program) → PlacesOperands limit program
+places_operands limit program w v p q t variant operand part into from e holds forming apart li lf =
     let slots = p.frame.slots in
-    let a = went w v p q (suc p.frame.pc) (put (emptied slots from) into (Holds u)) (λ n. 0) e (λ n.
-    let b = names_emptied n slots from c.apart.1 c.there in
-    let l : into < length (emptied slots from) = let k = long_emptied slots from in let m = c.free in omega arith in
-    let d = names_put n (emptied slots from) into (Holds u) l in
-    let i = ap (λ (x : Slot). slot_names x n) (emptied_other slots from into c.apart.0) in
-    let j = f n in
-    let y = c.names n in
+    let u = value_of (slot slots from) in
+    let vs = operands_of (slot slots into) in
+    let a = went w v p q (suc p.frame.pc) (put (put slots from empty) into (Forms (vs ++ u ∷ []))) (λ n. 0) e (λ n.
+    let b = names_put n slots from empty lf in
+    let c = names_put n (put slots from empty) into (Forms (vs ++ u ∷ [])) (let k = length-set slots from empty in omega arith) in
+    let d = ap (λ (s : Slot). slot_names s n) (slot_other slots from into empty apart) in
+    let f = forming_names n (slot slots into) forming in
+    let g = ap (λ (s : Slot). slot_names s n) holds in
+    let h = names_in_join n vs (u ∷ []) in
+    let i = among_join n (references u) [] in
+    omega arith) in
+    record { world = a.0; names = λ n. let b = a.1 n in omega arith }
+
+-- they are one value then
+gathered : (w v : Shared) (p q : Process) (into : ℕ) (u : Value) → IsForming (slot p.frame.slots into) → into < length p.frame.slots
+    → goes_to w p (suc p.frame.pc) (put p.frame.slots into (Holds u)) ≡ Went v q
+    → ((n : ℕ) → among n (references u) ≡ among n (references_in (operands_of (slot p.frame.slots into)))) → NamesTheSame w v p q
+gathered w v p q into u c l e f =
+    let slots = p.frame.slots in
+    let a = went w v p q (suc p.frame.pc) (put slots into (Holds u)) (λ n. 0) e (λ n.
+    let b = names_put n slots into (Holds u) l in
+    let d = forming_names n (slot slots into) c in
+    let g = f n in
     omega arith) in
     record { world = a.0; names = λ n. let b = a.1 n in omega arith }
 
 gathers_tuples : (limit : ℕ) (program : Program) → GathersTuples limit program
-gathers_tuples limit program w v p q ts into from e c h =
-    let vs = values_of p.frame.slots from in
-    gathered w v p q into from (fitted program.adts (ty.Tuple ts) (Parts (row vs))) c e (λ n.
+gathers_tuples limit program w v p q ts into count e c l h =
+    let vs = operands_of (slot p.frame.slots into) in
+    gathered w v p q into (fitted program.adts (ty.Tuple ts) (Parts (row vs))) c l e (λ n.
     ap (λ (u : Value). among n (references u)) (values_are_whole.tuples program.adts ts (Parts (row vs)))
     ∙ made_names n program.adts (adts.listed ts) vs h)
 
 gathers_adts : (limit : ℕ) (program : Program) → GathersAdts limit program
-gathers_adts limit program w v p q k variant d r into from e there laid c h =
-    let vs = values_of p.frame.slots from in
+gathers_adts limit program w v p q k variant d r into count e there laid c l h =
+    let vs = operands_of (slot p.frame.slots into) in
     let made = λ (o : Option Def). fitted program.adts (ty.Adt k) (Parts (row (adt_parts o variant vs))) in
-    gathered w v p q into from (made (slice_get program.adts k)) c e (λ n.
+    gathered w v p q into (made (slice_get program.adts k)) c l e (λ n.
     ap (λ (o : Option Def). among n (references (made o))) there
     ∙ ap (λ (u : Value). among n (references u))
     (values_are_whole.adts program.adts k d r (Parts (row (adt_parts (Some d) variant vs))) laid there)
@@ -386,6 +387,7 @@ references_go_so = record {
   keeps = keeps_all;
   takes = takes_all;
   moves = moves_parts;
+  places = places_operands;
   gathers = gathers_tuples;
   gathers_adts = gathers_adts;
 }

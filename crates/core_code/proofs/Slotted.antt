@@ -1,6 +1,6 @@
 -- How many slots expressions and statements use.
 use Rattle.std.proofs.Common.{ℕ, ℤ, suc, ◌+◌, ◌*◌, ◌≤◌, Bool, true, false, List, length, max, Option, Some, None, arith}
-use Rattle.std.specs.Prelude.{if◌then◌else◌}
+use Rattle.std.specs.Prelude.{nat_eq, if◌then◌else◌}
 use Rattle.limbo_types.specs.Types.{Ty}
 use Rattle.limbo_layout.specs.Adts.{Def}
 use Rattle.limbo_meaning.specs.Trees as tree
@@ -8,30 +8,38 @@ use Rattle.limbo_meaning.specs.Trees.{Work, Operate, Term, Evaluated, Node, Lazy
 use Rattle.limbo_meaning.specs.Trees.{Items, NoItems, MoreItems, Stm, Eval, If, While, Enter, Loop, Looping, Block, Done, Then, Turn, Again}
 use Rattle.limbo_meaning.specs.Evaluation.{passes_on, may_hold}
 use Rattle.core_code.specs.Terms.{LoweredAll, gives, gathers, node, others, lower, lower_all, lower_items, lower_rest, named}
-use Rattle.core_code.specs.Terms.{items_end, rest_end, type_at}
+use Rattle.core_code.specs.Terms.{items_end, rest_end, types_in, value_slot}
 use Rattle.core_code.specs.Statements.{free_after, stm_slots, loop_slots, block_slots}
 use Rattle.core_code.specs.Frames.{counted_nodes, all_counted, held, greatest, rest_held, rest_alone, if_counted, stm_counted, loop_counted}
 use Rattle.core_code.specs.Frames.{block_counted, ThreeSlotsANode}
 
 module _ (defs : List Def) where
-  node_room : (u t : Ty) (o : Work) (l : LoweredAll) (lo n : ℕ) → l.free + length l.values ≤ lo + 3 * n
-      → (node defs u t o l).free + 1 ≤ lo + 3 * suc n
-  node_room u t (Operate o) l lo n h = go (passes_on o)
+  slot_near : (b : Bool) (s : ℕ) → (if b then s else suc s) ≤ suc s
+  slot_near true s = omega arith
+  slot_near false s = omega arith
+
+  -- the value behind operands that are put together has the first slot that is free, or the next
+  value_near : (l : LoweredAll) → value_slot defs l ≤ suc l.free
+  value_near l = slot_near (nat_eq (length l.values) 0) l.free
+
+  node_room : (us : List Ty) (t : Ty) (o : Work) (l : LoweredAll) (lo n : ℕ) → l.free + length l.values ≤ lo + 3 * n
+      → (node defs us t o l).free + 1 ≤ lo + 3 * suc n
+  node_room us t (Operate o) l lo n h = go (passes_on o)
     where
       go : (b : Bool) → (if b then gathers defs t o l else gives defs t (Operate o) l).free + 1 ≤ lo + 3 * suc n
       go true = omega arith
       go false = omega arith
-  node_room u t (tree.Assign aims) l lo n h = omega arith
-  node_room u t (tree.TakePart k) l lo n h = omega arith
-  node_room u t tree.Copy l lo n h = omega arith
-  node_room u t tree.Link l lo n h = omega arith
-  node_room u t (tree.Call k) l lo n h = omega arith
-  node_room u t (tree.Print ps) l lo n h = omega arith
-  node_room u t tree.NewChannel l lo n h = omega arith
-  node_room u t (tree.Literal c) l lo n h = omega arith
-  node_room u t tree.Nil l lo n h = omega arith
-  node_room u t (tree.Read w) l lo n h = omega arith
-  node_room u t (tree.Sprint ps) l lo n h = omega arith
+  node_room us t (tree.Assign aims) l lo n h = omega arith
+  node_room us t (tree.TakePart k) l lo n h = omega arith
+  node_room us t tree.Copy l lo n h = omega arith
+  node_room us t tree.Link l lo n h = omega arith
+  node_room us t (tree.Call k) l lo n h = let a = value_near l in omega arith
+  node_room us t (tree.Print ps) l lo n h = let a = value_near l in omega arith
+  node_room us t tree.NewChannel l lo n h = omega arith
+  node_room us t (tree.Literal c) l lo n h = omega arith
+  node_room us t tree.Nil l lo n h = omega arith
+  node_room us t (tree.Read w) l lo n h = omega arith
+  node_room us t (tree.Sprint ps) l lo n h = omega arith
 
   abbrev Small : ℕ → Term → Type 0
   Small lo e = (lower defs lo e).free + 1 ≤ lo + 3 * counted_nodes defs e
@@ -55,7 +63,7 @@ module _ (defs : List Def) where
   mutual
     pub term_room : (lo : ℕ) (t : Term) → Small lo t
     term_room lo (Evaluated v) = omega arith
-    term_room lo (Node t o ts) = node_room (type_at defs 0 ts) t o (lower_all defs lo ts) lo (all_counted defs ts) (terms_room lo ts)
+    term_room lo (Node t o ts) = node_room (types_in defs ts) t o (lower_all defs lo ts) lo (all_counted defs ts) (terms_room lo ts)
     term_room lo (Lazy c l r) =
         let a = term_room lo l in
         let b = term_room (suc (lower defs lo l).free) r in

@@ -8,7 +8,7 @@ use Rattle.styx_msg.specs.declared.message.Rmsg.{Rmsg}
 use Rattle.system_model.specs.Prints.{Printing, Answers, Requests, NoReply, print, hear, Writing}
 use Rattle.limbo_types.specs.Types.{Ty}
 use Rattle.limbo_layout.specs.Adts.{Def}
-use Rattle.limbo_meaning.specs.Values.{Part, Value, part_of, number_of}
+use Rattle.limbo_meaning.specs.Values.{Part, Value, Chars, part_of, number_of}
 use Rattle.limbo_meaning.specs.Exceptions.{Raising}
 use Rattle.limbo_meaning.specs.Places.{Place, part_at, written}
 use Rattle.limbo_meaning.specs.Operations.{copied, elements_of, decides, holds}
@@ -17,13 +17,15 @@ use Rattle.limbo_meaning.specs.Evaluation.{Progress, Stepped, Raises, performed,
 use Rattle.limbo_meaning.specs.Trees.{Term, Evaluated}
 use Rattle.limbo_meaning.specs.Process.{Shared}
 use Rattle.limbo_meaning.specs.Program as source
-use Rattle.core_code.specs.Slots.{Slots, Region, NoSlot, MoreSlots, Regions, NoRegion, MoreRegions, slot, chain_of, put, emptied, cleared}
-use Rattle.core_code.specs.Slots.{next_of, index_of, placed, values_of}
+use Rattle.core_code.specs.Slots.{Slots, Region, NoSlot, MoreSlots, Regions, NoRegion, MoreRegions, slot, chain_of, put, cleared}
+use Rattle.core_code.specs.Slots.{next_of, index_of, placed, values_of, operands_of}
 use Rattle.core_code.specs.Code as code
 use Rattle.core_code.specs.Code.{Instr, Give, Gather, Pick, Known, Write, CopyInto, Call, Print, Skip, Truth, Element, Next, Other}
 use Rattle.core_code.specs.Code.{Start, Keep, Take, Drop, Mirror, Unless, Jump, Back, Return, Function, Program}
 use Rattle.core_code.specs.Machine as machine
 use Rattle.core_code.specs.Machine.{Frame, Process, Does, at, waiting, frame_of, with_frames, answered, returns, calls, prints, hears}
+use Rattle.core_code.specs.Machine.{operands, together}
+use Rattle.core_code.specs.Machine.{with_operands}
 use Rattle.core_code.specs.Machine.{heard}
 use Rattle.core_code.specs.Machine.{choice, noted, slot_value, memory, unless_raised, part_or_none, does, first_left, long_of}
 use Rattle.core_code.specs.Machine.{step}
@@ -55,9 +57,9 @@ all_sound defs (r ∷ rs) (suc n) f e = all_sound defs rs n f e
 long_put : (slots : Slots) (s : ℕ) (v : _) → length (put slots s v) ≡ length slots
 long_put slots s v = length-set slots s v
 
-long_emptied : (slots : Slots) (ss : List ℕ) → length (emptied slots ss) ≡ length slots
-long_emptied slots [] = refl
-long_emptied slots (s ∷ ss) = long_put (emptied slots ss) s _ ∙ long_emptied slots ss
+long_together : (front : List Value) (slots : Slots) (o : Option ℕ) → length (together front slots o) ≡ length slots
+long_together front slots None = refl
+long_together front slots (Some s) = long_put slots s _
 
 long_cleared : (slots : Slots) (from words : ℕ) → length (cleared slots from words) ≡ length slots
 long_cleared slots from zero = refl
@@ -83,7 +85,7 @@ module _ (program : Program) (sound : (n : ℕ) (f : Function) → slice_get pro
   uses : (f : Frame) (s : StandsAt program f) (i : Instr) → slice_get f.code f.pc ≡ Some i → Uses s.function.slots i
   uses f s i e = (function_in f s).uses f.pc i (subst (λ (c : List Instr). slice_get c f.pc ≡ Some i) s.code e)
 
-  moved : (f : Frame) → StandsAt program f → (pc : ℕ) (variables : List Value) (slots : Slots) → pc < length f.code
+  abbrev moved : (f : Frame) → StandsAt program f → (pc : ℕ) (variables : List Value) (slots : Slots) → pc < length f.code
       → length slots ≡ length f.slots → StandsAt program (at f pc variables slots)
   moved f s pc variables slots l e = record {
     number = s.number;
@@ -122,6 +124,33 @@ module _ (program : Program) (sound : (n : ℕ) (f : Function) → slice_get pro
     answer = (sound n g e).slots;
   }
 
+  -- with the operands of a call and of a print as one value
+  abbrev stands_with : (front : List Value) (q : Process) → Stands program q → (o : Option ℕ) → Stands program (with_operands front q o)
+  stands_with front q s o = record {
+    frame = moved q.frame s.frame q.frame.pc q.frame.variables (together front q.frame.slots o) s.frame.at (long_together front q.frame.slots o);
+    below = s.below;
+  }
+
+  either : (b : Bool) (x y : Does) → LeavesStanding program x → LeavesStanding program y → LeavesStanding program (if b then x else y)
+  either true x y l k = l
+  either false x y l k = k
+
+  called : (limit : ℕ) (w : Shared) (q : Process) (s : Stands program q) (t : Ty) (into f : ℕ) (o : Option Function) (args : List Value)
+      → slice_get program.functions f ≡ o → suc q.frame.pc < length q.frame.code → into < s.frame.function.slots
+      → LeavesStanding program (calls program.adts limit w q t into o args)
+  called limit w q s t into f None args e l k = s
+  called limit w q s t into f (Some g) args e l k =
+      either (nat_lt (suc (length q.below)) limit) _ _ (record {
+        frame = begun program.adts f q.frame.instance g t args e;
+        below = (waits q.frame s.frame into l k, s.below);
+      }) tt
+
+  printed : (w : Shared) (q : Process) → Stands program q → (f : Frame) (o : Printing) → StandsAt program f
+      → LeavesStanding program (prints w q f o)
+  printed w q s f (Answers o v) k = record { frame = has_answer f _ k; below = s.below }
+  printed w q s f (Requests o m n) k = record { frame = k; below = s.below }
+  printed w q s f NoReply k = s
+
   module _ (limit : ℕ) (w : Shared) (q : Process) (s : Stands program q) where
     abbrev Leaves : Does → Type 0
     Leaves d = LeavesStanding program d
@@ -136,14 +165,14 @@ module _ (program : Program) (sound : (n : ℕ) (f : Function) → slice_get pro
     raised (Err text) go k = tt
 
     parted : (p : Option Part) (go : Part → Does) → ((x : Part) → Leaves (go x)) → Leaves (part_or_none limit program w q p go)
-    parted None go k = s
+    parted None go k = tt
     parted (Some x) go k = k x
 
-    given : (into : ℕ) (behind : Slots) (pr : Progress Value Term) → suc q.frame.pc < length q.frame.code
-        → length behind ≡ length q.frame.slots → Leaves (machine.gives limit program w q into behind pr)
-    given into behind (Stepped m got (Evaluated v)) l e = goes _ _ _ l (long_put behind into _ ∙ e)
-    given into behind (Raises text) l e = tt
-    given into behind _ l e = s
+    given : (into : ℕ) (pr : Progress Value Term) → suc q.frame.pc < length q.frame.code
+        → Leaves (machine.gives limit program w q into pr)
+    given into (Stepped m got (Evaluated v)) l = goes _ _ _ l (long_put q.frame.slots into _)
+    given into (Raises text) l = tt
+    given into _ l = s
 
     stored : (place : Place) (v : Value) → suc q.frame.pc < length q.frame.code → Leaves (machine.stores limit program w q place v)
     stored place v l = raised (written program.adts (memory limit program w q) place v) _ (λ m. goes _ _ _ l refl)
@@ -163,24 +192,6 @@ module _ (program : Program) (sound : (n : ℕ) (f : Function) → slice_get pro
         → suc q.frame.pc + passes < length q.frame.code → Leaves (machine.left_decides limit program w q into d from passes b)
     decides_so into d from n true l k = goes _ _ _ k (long_put (noted q.frame.slots d true) into _ ∙ long_noted q.frame.slots d true)
     decides_so into d from n false l k = goes _ _ _ l (long_noted q.frame.slots d false)
-
-    either : (b : Bool) (x y : Does) → Leaves x → Leaves y → Leaves (if b then x else y)
-    either true x y l k = l
-    either false x y l k = k
-
-    called : (t : Ty) (into f : ℕ) (o : Option Function) (args : List Value) → slice_get program.functions f ≡ o
-        → suc q.frame.pc < length q.frame.code → into < s.frame.function.slots → Leaves (calls program.adts limit w q t into o args)
-    called t into f None args e l k = s
-    called t into f (Some g) args e l k =
-        either (nat_lt (suc (length q.below)) limit) _ _ (record {
-          frame = begun program.adts f q.frame.instance g t args e;
-          below = (waits q.frame s.frame into l k, s.below);
-        }) tt
-
-    printed : (f : Frame) (o : Printing) → StandsAt program f → Leaves (prints w q f o)
-    printed f (Answers o v) k = record { frame = has_answer f _ k; below = s.below }
-    printed f (Requests o m n) k = record { frame = k; below = s.below }
-    printed f NoReply k = s
 
     heard_so : (o : Printing) → Leaves (hears w q o)
     heard_so (Answers o v) = record { frame = has_answer q.frame _ s.frame; below = s.below }
@@ -210,28 +221,30 @@ module _ (program : Program) (sound : (n : ℕ) (f : Function) → slice_get pro
 
     done : (i : Instr) → slice_get q.frame.code q.frame.pc ≡ Some i → Leaves (does limit program w q i)
     done (Give t o into from) e =
-        given into q.frame.slots (performed program.adts (memory limit program w q) t o (values_of q.frame.slots from))
-        (on _ e (omega arith)) refl
-    done (Gather t o into from) e =
-        given into (emptied q.frame.slots from) (performed program.adts (memory limit program w q) t o (values_of q.frame.slots from))
-        (on _ e (omega arith)) (long_emptied q.frame.slots from)
+        given into (performed program.adts (memory limit program w q) t o (values_of q.frame.slots from)) (on _ e (omega arith))
+    done (code.Place t v n k into from) e =
+        goes _ _ _ (on _ e (omega arith)) (long_put (put q.frame.slots from _) into _ ∙ long_put q.frame.slots from _)
+    done (Gather t o into n) e =
+        given into (performed program.adts (memory limit program w q) t o (operands_of (slot q.frame.slots into)))
+        (on _ e (omega arith))
     done (Pick t n into from) e =
         goes _ _ _ (on _ e (omega arith)) (long_put (put q.frame.slots from _) into _ ∙ long_put q.frame.slots from _)
     done (Known v into) e = goes _ _ _ (on _ e (omega arith)) (long_put q.frame.slots into _)
-    done (Write t way operands part from) e =
-        stored (record { type = t; way = way; operands = values_of q.frame.slots operands })
+    done (Write t way ss part from) e =
+        stored (record { type = t; way = way; operands = values_of q.frame.slots ss })
         (part_at part (slot_value limit program w q from)) (on _ e (omega arith))
     done (CopyInto a i from) e =
         raised (copied (memory limit program w q) (part_of (slot_value limit program w q a)) (number_of (slot_value limit program w q i))
         (elements_of (memory limit program w q) (part_of (slot_value limit program w q from)))) _
         (λ m. goes _ _ _ (on _ e (omega arith)) refl)
     done (code.Cell t into item behind) e = goes _ _ _ (on _ e (omega arith)) (long_put q.frame.slots into _)
-    done (Call t f into from) e =
-        called t into f (slice_get program.functions f) (values_of q.frame.slots from) refl (on _ e (omega arith))
-        (uses q.frame s.frame _ e).0
-    done (Print ps into from) e =
-        printed (waiting q.frame into) (print w.outside (formatted ps (values_of q.frame.slots from)))
-        (waits q.frame s.frame into (on _ e (omega arith)) (uses q.frame s.frame _ e).0)
+    done (Call t f into o) e =
+        called limit w (with_operands [] q o) (stands_with [] q s o) t into f (slice_get program.functions f) (operands q.frame.slots o) refl
+        (on _ e (omega arith)) (uses q.frame s.frame _ e).0
+    done (Print ps into o) e =
+        printed w q s (waiting (with_operands (Chars [] ∷ []) q o).frame into)
+        (print w.outside (formatted ps (operands q.frame.slots o)))
+        (waits (with_operands (Chars [] ∷ []) q o).frame (stands_with (Chars [] ∷ []) q s o).frame into (on _ e (omega arith)) (uses q.frame s.frame _ e).0)
     done (Skip c into d from n) e =
         decides_so into d from n (decides c (slot_value limit program w q from)) (on _ e (omega arith)) (past _ e (omega arith))
     done (Truth into from) e = goes _ _ _ (on _ e (omega arith)) (long_put q.frame.slots into _)
@@ -246,7 +259,7 @@ module _ (program : Program) (sound : (n : ℕ) (f : Function) → slice_get pro
         (on _ e (omega arith)) (past _ e (omega arith))
     done (Other t a loop from) e =
         parted (part_of (slot_value limit program w q a)) _
-        (λ p. stored (element_at t p (pos (index_of (slot q.frame.slots loop)))) (slot_value limit program w q from)
+        (λ p. stored (element_at t p (index_of (slot q.frame.slots loop))) (slot_value limit program w q from)
         (on _ e (omega arith)))
     done (Keep loop from words) e =
         goes _ _ _ (on _ e (omega arith))

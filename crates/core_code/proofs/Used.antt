@@ -2,9 +2,10 @@
 use Rattle.std.proofs.Common.{◌≡◌, ℕ, ℤ, zero, suc, ◌+◌, ◌-◌, ◌<◌, ◌≤◌, Bool, true, false, List, [], ◌∷◌, ◌++◌, length, max}
 use Rattle.std.proofs.Common.{Option, Some, None, sym, subst, arith}
 use Rattle.std.proofs.lemmas.List.{reverse-append, length-reverse}
-use Rattle.std.specs.Prelude.{slice_get, take, drop, reverse, if◌then◌else◌}
+use Rattle.std.specs.Prelude.{slice_get, take, drop, reverse, nat_eq, if◌then◌else◌}
 use Rattle.limbo_types.specs.Types as ty
 use Rattle.limbo_types.specs.Types.{Ty}
+use Rattle.limbo_types.specs.View.{tys_of}
 use Rattle.limbo_layout.specs.Adts.{Def}
 use Rattle.limbo_layout.specs.Laying.{AllBelow}
 use Rattle.limbo_typed.specs.declared.operation.Operation.{Operation}
@@ -21,10 +22,12 @@ use Rattle.limbo_meaning.specs.Operations.{item_of}
 use Rattle.core_code.specs.Code.{Instr, Give, Write, Skip, Truth, Element, Next, Other}
 use Rattle.core_code.specs.Code.{Start, Keep, Take, Drop, Mirror, Unless, Jump, Back, Return}
 use Rattle.core_code.specs.Terms.{Lowered, LoweredAll, Moved, is_moved, drop_after, drops_after, drops_after_all, drops_from, drops_if}
-use Rattle.core_code.specs.Terms.{count_of, gives, gathers, writes, cells, list_code, cell_drops, slot_at, moves_out, type_at, given_slot}
+use Rattle.core_code.specs.Terms.{count_of, gives, gathers, writes, cells, list_code, cell_drops, slot_at, moves_out, first_of, types_in}
+use Rattle.core_code.specs.Terms.{given_slot}
 use Rattle.core_code.specs.Terms.{node, others, lower}
 use Rattle.core_code.specs.Terms.{lower_all}
-use Rattle.core_code.specs.Terms.{lower_items, lower_rest, named, items_end, rest_end, part_types, part_numbers, moves_into}
+use Rattle.core_code.specs.Terms.{lower_items, lower_rest, named, items_end, rest_end, part_types, part_numbers, numbers_from, moves_into}
+use Rattle.core_code.specs.Terms.{placed, variant_of, together, together_drops, value_slot, operands_slot}
 use Rattle.core_code.specs.Statements.{Around, further, in_loop, whole, whole_if, test, loop_tested, loop_entered}
 use Rattle.core_code.specs.Statements.{stm_code, loop_code_tested, loop_code_entered, block_code, free_after, stm_slots, loop_slots}
 use Rattle.core_code.specs.Statements.{block_slots, function_of}
@@ -104,7 +107,12 @@ record Good (n : ℕ) (l : Lowered) : Type 0 where
   drops : AllUse n l.drops
   value : l.value < n
 
+abbrev EachUse : ℕ → List (List Instr) → Type 0
+EachUse n [] = Unit {0}
+EachUse n (c ∷ cs) = AllUse n c × EachUse n cs
+
 record AllGood (n : ℕ) (l : LoweredAll) : Type 0 where
+  each : EachUse n l.each
   code : AllUse n l.code
   drops : AllUse n l.drops
   values : AllBelow n l.values
@@ -127,13 +135,43 @@ module _ (defs : List Def) where
     value = p;
   }
 
+  use_placed : (n : ℕ) (t : Ty) (v : Option ℕ) (into k : ℕ) (ks : List ℕ) (cs : List (List Instr)) (ss : List ℕ) → into < n
+      → EachUse n cs → AllBelow n ss → AllUse n (placed defs t v into k ks cs ss)
+  use_placed n t v into k (j ∷ ks) (c ∷ cs) (s ∷ ss) p f h =
+      use_join n c _ f.0 ((p, h.0), use_placed n t v into (suc k) ks cs ss p f.1 h.1)
+  use_placed n t v into k ks cs ss p f h = tt
+
   gathers_good : (n : ℕ) (t : Ty) (o : Operation) (l : LoweredAll) → l.free < n → AllGood n l → Good n (gathers defs t o l)
   gathers_good n t o l p f = record {
-    code = use_join n l.code _ f.code ((p, f.values), tt);
+    code = use_join n (placed defs t (variant_of defs o) l.free 0 (part_numbers defs o (length l.values)) l.each l.values) _
+        (use_placed n t (variant_of defs o) l.free 0 (part_numbers defs o (length l.values)) l.each l.values p f.each f.values) (p, tt);
     drops = use_after_all n _ l.drops
         (into_all n (part_types defs t) l.free (part_numbers defs o (length l.values)) l.values p) f.drops;
     value = p;
   }
+
+  use_together : (n : ℕ) (front us : List Ty) (l : LoweredAll) → l.free < n → AllGood n l → AllUse n (together defs front us l)
+  use_together n front us l p f =
+      use_placed n (ty.Tuple (tys_of (front ++ us))) None l.free 0 (numbers_from defs (length front) (length l.values)) l.each l.values p f.each f.values
+
+  use_together_drops : (n : ℕ) (front us : List Ty) (l : LoweredAll) → l.free < n → AllGood n l → AllUse n (together_drops defs front us l)
+  use_together_drops n front us l p f =
+      use_after_all n _ l.drops (into_all n (front ++ us) l.free (numbers_from defs (length front) (length l.values)) l.values p) f.drops
+
+  -- the slot of a value behind operands that are put together: the first one that is free, or the next
+  slot_from : (b : Bool) (s : ℕ) → s ≤ (if b then s else suc s)
+  slot_from true s = omega arith
+  slot_from false s = omega arith
+
+  pub value_from : (l : LoweredAll) → l.free ≤ value_slot defs l
+  value_from l = slot_from (nat_eq (length l.values) 0) l.free
+
+  slot_below : (n : ℕ) (b : Bool) (s : ℕ) → s < n → IfBelow n (if b then None else Some s)
+  slot_below n true s l = tt
+  slot_below n false s l = l
+
+  operands_below : (n : ℕ) (l : LoweredAll) → l.free < n → IfBelow n (operands_slot defs l)
+  operands_below n l p = slot_below n (nat_eq (length l.values) 0) l.free p
 
   use_writes : (n : ℕ) (aims : List Aim) (ss : List ℕ) (v : ℕ) → AllBelow n ss → v < n → AllUse n (writes defs aims ss v)
   use_writes n [] ss v h l = tt
@@ -159,72 +197,79 @@ module _ (defs : List Def) where
   use_cell_drops n (suc count) free l = (omega arith, use_cell_drops n count (suc free) (omega arith))
 
   -- how a node leaves the slots: it takes some or none
-  pub node_up : (u t : Ty) (o : Work) (l : LoweredAll) → l.free ≤ (node defs u t o l).free
-  node_up u t (Operate o) l = go (passes_on o)
+  pub node_up : (us : List Ty) (t : Ty) (o : Work) (l : LoweredAll) → l.free ≤ (node defs us t o l).free
+  node_up us t (Operate o) l = go (passes_on o)
     where
       go : (h : Bool) → l.free ≤ (if h then gathers defs t o l else gives defs t (Operate o) l).free
       go true = omega arith
       go false = omega arith
-  node_up u t (tree.Assign aims) l = omega arith
-  node_up u t (tree.TakePart k) l = omega arith
-  node_up u t tree.Copy l = omega arith
-  node_up u t tree.Link l = omega arith
-  node_up u t (tree.Call k) l = omega arith
-  node_up u t (tree.Print ps) l = omega arith
-  node_up u t tree.NewChannel l = omega arith
-  node_up u t (tree.Literal c) l = omega arith
-  node_up u t tree.Nil l = omega arith
-  node_up u t (tree.Read w) l = omega arith
-  node_up u t (tree.Sprint ps) l = omega arith
+  node_up us t (tree.Assign aims) l = omega arith
+  node_up us t (tree.TakePart k) l = omega arith
+  node_up us t tree.Copy l = omega arith
+  node_up us t tree.Link l = omega arith
+  node_up us t (tree.Call k) l = let a = value_from l in omega arith
+  node_up us t (tree.Print ps) l = let a = value_from l in omega arith
+  node_up us t tree.NewChannel l = omega arith
+  node_up us t (tree.Literal c) l = omega arith
+  node_up us t tree.Nil l = omega arith
+  node_up us t (tree.Read w) l = omega arith
+  node_up us t (tree.Sprint ps) l = omega arith
 
-  node_good : (n : ℕ) (u t : Ty) (o : Work) (l : LoweredAll) → 0 < n → (node defs u t o l).free ≤ n → AllGood n l
-      → Good n (node defs u t o l)
-  node_good n u t (Operate o) l p q f = go (passes_on o) q
+  node_good : (n : ℕ) (us : List Ty) (t : Ty) (o : Work) (l : LoweredAll) → 0 < n → (node defs us t o l).free ≤ n → AllGood n l
+      → Good n (node defs us t o l)
+  node_good n us t (Operate o) l p q f = go (passes_on o) q
     where
       go : (h : Bool) → (if h then gathers defs t o l else gives defs t (Operate o) l).free ≤ n
           → Good n (if h then gathers defs t o l else gives defs t (Operate o) l)
       go true q = gathers_good n t o l (omega arith) f
       go false q = gives_good n t (Operate o) l (omega arith) f
-  node_good n u t (tree.Assign aims) l p q f = record {
+  node_good n us t (tree.Assign aims) l p q f = record {
     code = use_join n l.code _ f.code (use_writes n aims l.values _ f.values (below_at n (operands_for aims) l.values p f.values));
     drops = f.drops;
     value = below_at n (operands_for aims) l.values p f.values;
   }
-  node_good n u t (tree.TakePart k) l p q f = record {
+  node_good n us t (tree.TakePart k) l p q f = record {
     code = use_join n l.code _ f.code ((omega arith, below_at n 0 l.values p f.values), tt);
-    drops = use_after n (moves_out defs u k (slot_at 0 l.values) l.free) l.drops (omega arith) f.drops;
+    drops = use_after n (moves_out defs (first_of defs us) k (slot_at 0 l.values) l.free) l.drops (omega arith) f.drops;
     value = omega arith;
   }
-  node_good n u t tree.Copy l p q f = record {
+  node_good n us t tree.Copy l p q f = record {
     code = use_join n l.code _ f.code
         ((below_at n 0 l.values p f.values, below_at n 1 l.values p f.values, below_at n 2 l.values p f.values), tt);
     drops = f.drops;
     value = below_at n 2 l.values p f.values;
   }
-  node_good n u t tree.Link l p q f = record {
+  node_good n us t tree.Link l p q f = record {
     code = use_join n l.code _ f.code (use_list n (item_of t) l.values l.free f.values q);
     drops = use_join n l.drops _ f.drops (use_cell_drops n (length l.values) l.free (omega arith));
     value = omega arith;
   }
-  node_good n u t (tree.Call k) l p q f = record {
-    code = use_join n l.code _ f.code ((omega arith, f.values), tt);
-    drops = use_join n l.drops _ f.drops (use_drops n l.free 0 (count_of defs t) (omega arith));
-    value = omega arith;
-  }
-  node_good n u t (tree.Print ps) l p q f = record {
-    code = use_join n l.code _ f.code ((omega arith, f.values), tt);
-    drops = f.drops;
-    value = omega arith;
-  }
-  node_good n u t tree.NewChannel l p q f = record {
+  node_good n us t (tree.Call k) l p q f =
+      let a = value_from l in
+      let free : l.free < n = omega arith in
+      record {
+        code = use_join n (together defs [] us l) _ (use_together n [] us l free f) ((q, operands_below n l free), tt);
+        drops = use_join n (together_drops defs [] us l) _ (use_together_drops n [] us l free f)
+            (use_drops n (value_slot defs l) 0 (count_of defs t) q);
+        value = q;
+      }
+  node_good n us t (tree.Print ps) l p q f =
+      let a = value_from l in
+      let free : l.free < n = omega arith in
+      record {
+        code = use_join n (together defs (ty.Chars ∷ []) us l) _ (use_together n (ty.Chars ∷ []) us l free f) ((q, operands_below n l free), tt);
+        drops = use_together_drops n (ty.Chars ∷ []) us l free f;
+        value = q;
+      }
+  node_good n us t tree.NewChannel l p q f = record {
     code = use_join n l.code _ f.code ((omega arith, tt), tt);
     drops = use_join n l.drops _ f.drops (omega arith, tt);
     value = omega arith;
   }
-  node_good n u t (tree.Literal c) l p q f = gives_good n t (tree.Literal c) l (omega arith) f
-  node_good n u t tree.Nil l p q f = gives_good n t tree.Nil l (omega arith) f
-  node_good n u t (tree.Read w) l p q f = gives_good n t (tree.Read w) l (omega arith) f
-  node_good n u t (tree.Sprint ps) l p q f = gives_good n t (tree.Sprint ps) l (omega arith) f
+  node_good n us t (tree.Literal c) l p q f = gives_good n t (tree.Literal c) l (omega arith) f
+  node_good n us t tree.Nil l p q f = gives_good n t tree.Nil l (omega arith) f
+  node_good n us t (tree.Read w) l p q f = gives_good n t (tree.Read w) l (omega arith) f
+  node_good n us t (tree.Sprint ps) l p q f = gives_good n t (tree.Sprint ps) l (omega arith) f
 
   -- ---- each part takes the slots behind those before it
 
@@ -245,7 +290,7 @@ module _ (defs : List Def) where
   mutual
     pub term_up : (lo : ℕ) (t : Term) → lo ≤ (lower defs lo t).free
     term_up lo (Evaluated v) = omega arith
-    term_up lo (Node t o ts) = let a = terms_up lo ts in let b = node_up (type_at defs 0 ts) t o (lower_all defs lo ts) in omega arith
+    term_up lo (Node t o ts) = let a = terms_up lo ts in let b = node_up (types_in defs ts) t o (lower_all defs lo ts) in omega arith
     term_up lo (Lazy c l r) =
         let a = term_up lo l in
         let b = term_up (suc (lower defs lo l).free) r in
@@ -335,8 +380,8 @@ module _ (defs : List Def) where
     term_good : (n lo : ℕ) (t : Term) → 0 < n → (lower defs lo t).free ≤ n → Good n (lower defs lo t)
     term_good n lo (Evaluated v) p q = record { code = (omega arith, tt); drops = tt; value = omega arith }
     term_good n lo (Node t o ts) p q =
-        let u = node_up (type_at defs 0 ts) t o (lower_all defs lo ts) in
-        node_good n (type_at defs 0 ts) t o (lower_all defs lo ts) p q (terms_good n lo ts p (omega arith))
+        let u = node_up (types_in defs ts) t o (lower_all defs lo ts) in
+        node_good n (types_in defs ts) t o (lower_all defs lo ts) p q (terms_good n lo ts p (omega arith))
     term_good n lo (Lazy c l r) p q =
         let x = lower defs lo l in
         let y = lower defs (suc x.free) r in
@@ -394,13 +439,14 @@ module _ (defs : List Def) where
     term_good n lo t p q = record { code = tt; drops = tt; value = omega arith }
 
     terms_good : (n lo : ℕ) (ts : Terms) → 0 < n → (lower_all defs lo ts).free ≤ n → AllGood n (lower_all defs lo ts)
-    terms_good n lo NoTerms p q = record { code = tt; drops = tt; values = tt }
+    terms_good n lo NoTerms p q = record { each = tt; code = tt; drops = tt; values = tt }
     terms_good n lo (MoreTerms t ts) p q =
         let x = lower defs lo t in
         let u = terms_up x.free ts in
         let f = term_good n lo t p (omega arith) in
         let g = terms_good n x.free ts p q in
         record {
+          each = (f.code, g.each);
           code = use_join n x.code _ f.code g.code;
           drops = use_join n x.drops _ f.drops g.drops;
           values = (f.value, g.values);

@@ -12,8 +12,11 @@ use Rattle.limbo_meaning.specs.Trees.{Work}
 pub data Instr : Type 0 where
   -- a node whose operands stand in slots gives its value into its own: an operation, a read, a constant, a part, a new channel, a text
   Give : Ty → Work → (into : ℕ) → (from : List ℕ) → Instr
-  -- the same of a tuple and an adt, whose parts move: the slots that they come from are empty then
-  Gather : Ty → Work → (into : ℕ) → (from : List ℕ) → Instr
+  -- an operand, by its number, moves to what a value of a type, of this variant of an adt, is put together of in a slot; its place there is
+  -- the part of another number. The slot that it comes from is empty then
+  Place : Ty → (variant : Option ℕ) → (operand part : ℕ) → (into from : ℕ) → Instr
+  -- a node gives its value, a tuple or an adt, of so many operands that are there
+  Gather : Ty → Work → (into : ℕ) → (operands : ℕ) → Instr
   -- a part of a value moves: where it comes from its references are nothing then
   Pick : Ty → (part : ℕ) → (into from : ℕ) → Instr
   -- a value is there that no step of a tree gives: the length of an array that isn't written
@@ -23,8 +26,9 @@ pub data Instr : Type 0 where
   CopyInto : (array start from : ℕ) → Instr
   -- a cell of a list, in front of the one in a slot, or of nothing
   Cell : Ty → (into item : ℕ) → (behind : Option ℕ) → Instr
-  Call : Ty → (function : ℕ) → (into : ℕ) → (from : List ℕ) → Instr
-  Print : List Piece → (into : ℕ) → (from : List ℕ) → Instr
+  -- a call, and a print: their operands are put together in a slot, where there are any, and stay there as a tuple
+  Call : Ty → (function : ℕ) → (into : ℕ) → (operands : Option ℕ) → Instr
+  Print : List Piece → (into : ℕ) → (operands : Option ℕ) → Instr
   -- a connective: whether its left operand decides goes into a slot of its own, where that is read again, and where it does, the value is
   -- there and so many instructions are passed; the truth of the right operand
   Skip : Connective → (into : ℕ) → (decision : Option ℕ) → (from passes : ℕ) → Instr

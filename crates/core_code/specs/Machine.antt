@@ -1,5 +1,6 @@
 -- One process of three-address code: its frames, and one instruction.
-use Rattle.std.specs.Prelude.{ℕ, ℤ, suc, pos, ◌+◌, ◌-◌, Bool, true, false, List, [], ◌∷◌, length, replicate, Option, Some, None, Ok, Err}
+use Rattle.std.specs.Prelude.{ℕ, ℤ, suc, pos, ◌+◌, ◌-◌, Bool, true, false, List, [], ◌∷◌, ◌++◌, length, replicate, Option, Some, None, Ok}
+use Rattle.std.specs.Prelude.{Err}
 use Rattle.std.specs.Prelude.{slice_get, nat_lt, if◌then◌else◌}
 use Rattle.std.specs.Ordering.{int_eq}
 use Rattle.std.specs.List.{range_with_len}
@@ -11,10 +12,10 @@ use Rattle.limbo_types.specs.Types.{Ty}
 use Rattle.limbo_layout.specs.Adts.{Def}
 use Rattle.system_model.specs.Ending.{Ending, Ended, Broken}
 use Rattle.system_model.specs.Prints.{Request, Writing, Printing, Answers, Requests, NoReply, print, hear}
-use Rattle.limbo_meaning.specs.Values.{Part, Value, Num, Ref, Parts, nothing, parts_of, number_of, part_of, name_of, fitted, all_fitted}
-use Rattle.limbo_meaning.specs.Values.{references_in, one, among}
+use Rattle.limbo_meaning.specs.Values.{Part, Value, Num, Chars, Ref, Parts, nothing, parts_of, number_of, part_of, name_of, fitted, all_fitted}
+use Rattle.limbo_meaning.specs.Values.{references_in, one, among, row}
 use Rattle.limbo_meaning.specs.Memory.{Cell, inside, Memory, made, next_name}
-use Rattle.limbo_meaning.specs.Exceptions.{Raising, stack_overflow}
+use Rattle.limbo_meaning.specs.Exceptions.{Raising, dereference_of_nil, stack_overflow}
 use Rattle.limbo_meaning.specs.Places.{Place, part_at, value_part, put_part, written}
 use Rattle.limbo_meaning.specs.Operations.{copied, elements_of, holds, decides, truth_of}
 use Rattle.limbo_meaning.specs.Formats.{formatted}
@@ -22,8 +23,8 @@ use Rattle.limbo_meaning.specs.Evaluation.{Progress, Stepped, Raises, performed,
 use Rattle.limbo_meaning.specs.Trees.{Term, Evaluated}
 use Rattle.limbo_meaning.specs.Process as meaning
 use Rattle.limbo_meaning.specs.Process.{Shared, shared_with, table_names}
-use Rattle.core_code.specs.Slots.{Holds, Turns, Slots, NoRegion, Regions, MoreRegions, empty, slot, put, value_of, chain_of, next_of}
-use Rattle.core_code.specs.Slots.{index_of, values_of, emptied, dropped, region, cleared, placed, chained, slots_name}
+use Rattle.core_code.specs.Slots.{Holds, Forms, Turns, Slots, NoRegion, Regions, MoreRegions, empty, slot, put, value_of, chain_of, next_of}
+use Rattle.core_code.specs.Slots.{index_of, values_of, operands_of, dropped, region, cleared, placed, chained, slots_name}
 use Rattle.core_code.specs.Code as code
 use Rattle.core_code.specs.Code.{Instr, Give, Gather, Pick, Known, Write, CopyInto, Call, Print, Skip, Truth, Element, Next, Other, Start}
 use Rattle.core_code.specs.Code.{Keep}
@@ -161,6 +162,23 @@ abbrev pub long_of : Option Part → ℕ
 long_of None = 0
 long_of (Some p) = p.long
 
+-- The operands of a call and of a print, which stay in their slot as a tuple: that of a print begins with a text, which is empty.
+abbrev pub operands : Slots → Option ℕ → List Value
+operands slots None = []
+operands slots (Some s) = operands_of (slot slots s)
+
+abbrev pub together : (front : List Value) → Slots → Option ℕ → Slots
+together front slots None = slots
+together front slots (Some s) = put slots s (Holds (Parts (row (front ++ operands_of (slot slots s)))))
+
+abbrev pub with_operands : (front : List Value) → Process → Option ℕ → Process
+with_operands front p o = record {
+  number = p.number;
+  frame = at p.frame p.frame.pc p.frame.variables (together front p.frame.slots o);
+  below = p.below;
+  printing = p.printing;
+}
+
 module _ (limit : ℕ) (program : Program) (w : Shared) (p : Process) where
   abbrev pub slots : Slots
   slots = p.frame.slots
@@ -176,13 +194,14 @@ module _ (limit : ℕ) (program : Program) (w : Shared) (p : Process) where
   unless_raised (Err text) go = Ends w (Broken text)
 
   -- What the step of a tree comes to, whose value goes into a slot.
-  abbrev pub gives : (into : ℕ) → Slots → Progress Value Term → Does
-  gives into behind (Stepped m got (Evaluated v)) = goes_with w p m (put behind into (Holds v))
-  gives into behind (Raises text) = Ends w (Broken text)
-  gives into behind _ = stands_still w p
+  abbrev pub gives : (into : ℕ) → Progress Value Term → Does
+  gives into (Stepped m got (Evaluated v)) = goes_with w p m (put slots into (Holds v))
+  gives into (Raises text) = Ends w (Broken text)
+  gives into _ = stands_still w p
 
+  -- Of `nil` there are no elements.
   abbrev pub part_or_none : Option Part → (Part → Does) → Does
-  part_or_none None go = stands_still w p
+  part_or_none None go = Ends w (Broken dereference_of_nil)
   part_or_none (Some a) go = go a
 
   abbrev pub stores : Place → Value → Does
@@ -212,21 +231,23 @@ module _ (limit : ℕ) (program : Program) (w : Shared) (p : Process) where
   left_whole t n v = Parts (put_part n (fitted program.adts t nothing) (parts_of v))
 
   abbrev pub does : Instr → Does
-  does (Give t o into from) = gives into slots (performed program.adts memory t o (values_of slots from))
-  does (Gather t o into from) = gives into (emptied slots from) (performed program.adts memory t o (values_of slots from))
+  does (Give t o into from) = gives into (performed program.adts memory t o (values_of slots from))
+  does (code.Place t v n k into from) =
+      goes_on w p (put (put slots from empty) into (Forms (operands_of (slot slots into) ++ slot_value from ∷ [])))
+  does (Gather t o into n) = gives into (performed program.adts memory t o (operands_of (slot slots into)))
   does (Pick t n into from) = goes_on w p (put (put slots from (Holds (left_whole t n (slot_value from)))) into
       (Holds (picked t n (slot_value from))))
   does (Known v into) = goes_on w p (put slots into (Holds v))
-  does (Write t way operands part from) =
-      stores (record { type = t; way = way; operands = values_of slots operands }) (part_at part (slot_value from))
+  does (Write t way ss part from) =
+      stores (record { type = t; way = way; operands = values_of slots ss }) (part_at part (slot_value from))
   does (CopyInto a i from) =
       unless_raised (copied memory (part_of (slot_value a)) (number_of (slot_value i)) (elements_of memory (part_of (slot_value from))))
       (λ m. goes_with w p m slots)
   does (code.Cell t into item behind) =
       goes_with w p (made memory (Cell (fitted program.adts t (slot_value item)) (behind_of behind)))
       (put slots into (Holds (Ref (Some (next_name memory)))))
-  does (Call t f into from) = calls program.adts limit w p t into (slice_get program.functions f) (values_of slots from)
-  does (Print ps into from) = prints w p (waiting p.frame into) (print w.outside (formatted ps (values_of slots from)))
+  does (Call t f into o) = calls program.adts limit w (with_operands [] p o) t into (slice_get program.functions f) (operands slots o)
+  does (Print ps into o) = prints w p (waiting (with_operands (Chars [] ∷ []) p o).frame into) (print w.outside (formatted ps (operands slots o)))
   does (Skip c into d from n) = left_decides into d from n (decides c (slot_value from))
   does (Truth into from) = goes_on w p (put slots into (Holds (truth_of (slot_value from))))
   does (Element t a i from) = part_or_none (part_of (slot_value a)) (λ part. stores (element_at t part i) (slot_value from))
@@ -235,7 +256,7 @@ module _ (limit : ℕ) (program : Program) (w : Shared) (p : Process) where
       let l = slot slots loop in
       nexts loop n (chain_of l) (first_left named (range_with_len (next_of l) (long_of (part_of (slot_value a)) - next_of l)))
   does (Other t a loop from) =
-      part_or_none (part_of (slot_value a)) (λ part. stores (element_at t part (pos (index_of (slot slots loop)))) (slot_value from))
+      part_or_none (part_of (slot_value a)) (λ part. stores (element_at t part (index_of (slot slots loop))) (slot_value from))
   does (Keep loop from words) =
       let l = slot slots loop in
       goes_on w p (put (cleared slots from words) loop (Turns (next_of l) (chained (chain_of l) (region slots from words))))

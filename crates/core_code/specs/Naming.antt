@@ -11,9 +11,9 @@ use Rattle.limbo_meaning.specs.Operations.{adt_parts}
 use Rattle.limbo_meaning.specs.Places.{value_part}
 use Rattle.limbo_meaning.specs.Trees.{Operate}
 use Rattle.limbo_meaning.specs.Process.{Shared}
-use Rattle.core_code.specs.Slots.{Slot, Holds, Turns, Region, NoSlot, MoreSlots, Regions, MoreRegions, slot, value_of, region}
-use Rattle.core_code.specs.Slots.{Slots, values_of, slot_names, region_names}
-use Rattle.core_code.specs.Code.{Program, Drop, Keep, Take, Pick, Gather}
+use Rattle.core_code.specs.Slots.{Slot, Holds, Forms, Turns, Region, NoSlot, MoreSlots, Regions, MoreRegions, empty, slot, value_of}
+use Rattle.core_code.specs.Slots.{operands_of, region, slot_names, region_names}
+use Rattle.core_code.specs.Code.{Program, Drop, Keep, Take, Pick, Place, Gather}
 use Rattle.core_code.specs.Machine.{Process, does, process_names}
 
 -- The reference of this number of a slot's value; nothing where there is none.
@@ -25,32 +25,15 @@ abbrev pub size : Region → ℕ
 size NoSlot = 0
 size (MoreSlots s g) = suc (size g)
 
--- None of the slots is another one of them.
-abbrev pub DiffersFrom : ℕ → List ℕ → Type 0
-DiffersFrom s [] = Unit {0}
-DiffersFrom s (d ∷ ds) = (s ≢ d) × DiffersFrom s ds
-
-abbrev pub AllDiffer : List ℕ → Type 0
-AllDiffer [] = Unit {0}
-AllDiffer (s ∷ ss) = DiffersFrom s ss × AllDiffer ss
-
--- Each of them is there, with a value.
-abbrev pub HoldValues : Slots → List ℕ → Type 0
-HoldValues slots [] = Unit {0}
-HoldValues slots (s ∷ ss) = (s < length slots) × (slot slots s ≡ Holds (value_of (slot slots s))) × HoldValues slots ss
-
--- Parts come from these slots into one that is none of them, and names nothing.
-pub record ComeFrom (slots : Slots) (into : ℕ) (from : List ℕ) : Type 0 where
-  pub apart : AllDiffer (into ∷ from)
-  pub there : HoldValues slots from
-  pub free : into < length slots
-  pub names : (n : ℕ) → slot_names (slot slots into) n ≡ 0
-
 -- Values are of these types, or nothing, as the parts of other variants are.
 abbrev pub AreOf : List Def → List Ty → List Value → Type 0
 AreOf defs ts [] = Unit {0}
 AreOf defs [] (v ∷ vs) = ⊥
 AreOf defs (t ∷ ts) (v ∷ vs) = ((fitted defs t v ≡ v) ⊎ (v ≡ nothing)) × AreOf defs ts vs
+
+-- A slot has what is put together so far, or is empty.
+abbrev pub IsForming : Slot → Type 0
+IsForming s = (s ≡ Forms (operands_of s)) ⊎ (s ≡ empty)
 
 -- A process goes on in the same world, and names what it named.
 pub record NamesTheSame (w v : Shared) (p q : Process) : Type 0 where
@@ -91,25 +74,35 @@ module _ (limit : ℕ) (program : Program) where
       fitted program.adts t (value_part part vs) ≡ value_part part vs → into ≢ from → into < length p.frame.slots →
       from < length p.frame.slots → ((n : ℕ) → slot_names (slot p.frame.slots into) n ≡ 0) → NamesTheSame w v p q
 
-  -- So are the parts that a tuple and an adt's value are made of: each comes from a slot of its own, in which a value of its type is, and
-  -- into a slot that names nothing.
+  -- So is an operand that moves to what is put together in another slot.
+  abbrev pub PlacesOperands : Type 0
+  PlacesOperands =
+      (w v : Shared) (p q : Process) (t : Ty) (variant : Option ℕ) (operand part into from : ℕ) →
+      does limit program w p (Place t variant operand part into from) ≡ Went v q →
+      slot p.frame.slots from ≡ Holds (value_of (slot p.frame.slots from)) → IsForming (slot p.frame.slots into) → into ≢ from →
+      into < length p.frame.slots → from < length p.frame.slots → NamesTheSame w v p q
+
+  -- So are the operands that a tuple and an adt's value are made of, which are of its types.
   abbrev pub GathersTuples : Type 0
   GathersTuples =
-      (w v : Shared) (p q : Process) (ts : Tys) (into : ℕ) (from : List ℕ) →
-      does limit program w p (Gather (Tuple ts) (Operate operation.Tuple) into from) ≡ Went v q →
-      ComeFrom p.frame.slots into from → AreOf program.adts (listed ts) (values_of p.frame.slots from) → NamesTheSame w v p q
+      (w v : Shared) (p q : Process) (ts : Tys) (into count : ℕ) →
+      does limit program w p (Gather (Tuple ts) (Operate operation.Tuple) into count) ≡ Went v q →
+      IsForming (slot p.frame.slots into) → into < length p.frame.slots →
+      AreOf program.adts (listed ts) (operands_of (slot p.frame.slots into)) → NamesTheSame w v p q
 
   abbrev pub GathersAdts : Type 0
   GathersAdts =
-      (w v : Shared) (p q : Process) (n : ℕ) (variant : Option ℕ) (d : Def) (r : Room) (into : ℕ) (from : List ℕ) →
-      does limit program w p (Gather (Adt n) (Operate (operation.Adt n variant)) into from) ≡ Went v q →
-      slice_get program.adts n ≡ Some d → Laid program.adts (Adt n) r → ComeFrom p.frame.slots into from →
-      AreOf program.adts (parts d) (adt_parts (Some d) variant (values_of p.frame.slots from)) → NamesTheSame w v p q
+      (w v : Shared) (p q : Process) (n : ℕ) (variant : Option ℕ) (d : Def) (r : Room) (into count : ℕ) →
+      does limit program w p (Gather (Adt n) (Operate (operation.Adt n variant)) into count) ≡ Went v q →
+      slice_get program.adts n ≡ Some d → Laid program.adts (Adt n) r → IsForming (slot p.frame.slots into) →
+      into < length p.frame.slots →
+      AreOf program.adts (parts d) (adt_parts (Some d) variant (operands_of (slot p.frame.slots into))) → NamesTheSame w v p q
 
 pub record ReferencesGoSo : Type 0 where
   pub drops : (limit : ℕ) (program : Program) → DropsOne limit program
   pub keeps : (limit : ℕ) (program : Program) → KeepsAll limit program
   pub takes : (limit : ℕ) (program : Program) → TakesAll limit program
   pub moves : (limit : ℕ) (program : Program) → MovesParts limit program
+  pub places : (limit : ℕ) (program : Program) → PlacesOperands limit program
   pub gathers : (limit : ℕ) (program : Program) → GathersTuples limit program
   pub gathers_adts : (limit : ℕ) (program : Program) → GathersAdts limit program

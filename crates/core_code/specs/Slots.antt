@@ -1,12 +1,14 @@
 -- Slots: where the values of a statement's nodes stand while it is evaluated.
-use Rattle.std.specs.Prelude.{ℕ, zero, suc, ◌+◌, ◌-◌, List, [], ◌∷◌, length, nat_lt, slice_set, slice_index_or, if◌then◌else◌, None}
-use Rattle.limbo_meaning.specs.Values.{Value, Num, Chars, Ref, Array, Parts, Values, NoValues, MoreValues, nothing, references, among}
+use Rattle.std.specs.Prelude.{ℕ, ℤ, pos, negsuc, zero, suc, ◌+◌, ◌-◌, List, [], ◌∷◌, length, nat_lt, slice_set, slice_index_or, if◌then◌else◌, None}
+use Rattle.limbo_meaning.specs.Values.{Value, Num, Chars, Ref, Array, Parts, Values, NoValues, MoreValues, nothing, references}
+use Rattle.limbo_meaning.specs.Values.{references_in, among}
 
--- A slot has a whole value; or a loop of an initialiser: which index comes next, and the chain of what its turns held, the oldest first,
--- each as a region of slots.
+-- A slot has a whole value; or the operands that are there so far of what is put together in it, in order; or a loop of an initialiser:
+-- which index comes next, and the chain of what its turns held, the oldest first, each as a region of slots.
 mutual
   pub data Slot : Type 0 where
     Holds : Value → Slot
+    Forms : List Value → Slot
     Turns : (next : ℕ) → Regions → Slot
 
   pub data Region : Type 0 where
@@ -31,29 +33,33 @@ put slots s v = slice_set slots s v
 
 abbrev pub value_of : Slot → Value
 value_of (Holds v) = v
+value_of (Forms vs) = nothing
 value_of (Turns n rs) = nothing
+
+abbrev pub operands_of : Slot → List Value
+operands_of (Forms vs) = vs
+operands_of s = []
 
 abbrev pub chain_of : Slot → Regions
 chain_of (Holds v) = NoRegion
+chain_of (Forms vs) = NoRegion
 chain_of (Turns n rs) = rs
 
--- The index that comes next in a loop, and the one that its turn is at, which is in front of that.
+-- The index that comes next in a loop, and the one that its turn is at, which is in front of that: no index, where none began.
 abbrev pub next_of : Slot → ℕ
 next_of (Holds v) = 0
+next_of (Forms vs) = 0
 next_of (Turns n rs) = n
 
-abbrev pub index_of : Slot → ℕ
-index_of (Holds v) = 0
-index_of (Turns zero rs) = 0
-index_of (Turns (suc n) rs) = n
+abbrev pub index_of : Slot → ℤ
+index_of (Holds v) = negsuc 0
+index_of (Forms vs) = negsuc 0
+index_of (Turns zero rs) = negsuc 0
+index_of (Turns (suc n) rs) = pos n
 
 abbrev pub values_of : Slots → List ℕ → List Value
 values_of slots [] = []
 values_of slots (s ∷ ss) = value_of (slot slots s) ∷ values_of slots ss
-
-abbrev pub emptied : Slots → List ℕ → Slots
-emptied slots [] = slots
-emptied slots (s ∷ ss) = put (emptied slots ss) s empty
 
 -- ---- one reference of a value goes
 
@@ -77,6 +83,7 @@ abbrev mutual
 
 abbrev pub dropped : ℕ → Slot → Slot
 dropped k (Holds v) = Holds (without k v)
+dropped k (Forms vs) = Forms vs
 dropped k (Turns n rs) = Turns n rs
 
 -- ---- regions
@@ -103,6 +110,7 @@ chained (MoreRegions h rs) g = MoreRegions h (chained rs g)
 abbrev mutual
   pub slot_names : Slot → ℕ → ℕ
   slot_names (Holds v) n = among n (references v)
+  slot_names (Forms vs) n = among n (references_in vs)
   slot_names (Turns i rs) n = regions_name rs n
 
   pub region_names : Region → ℕ → ℕ

@@ -4,6 +4,7 @@ use Rattle.std.specs.Prelude.{ℕ, ℤ, zero, suc, ◌+◌, ◌-◌, ◌&&◌, n
 use Rattle.std.specs.Prelude.{take, drop, reverse, nat_eq, if◌then◌else◌, Option, Some, None, slice_get, slice_index_or}
 use Rattle.limbo_types.specs.Types as ty
 use Rattle.limbo_types.specs.Types.{Ty, Tys}
+use Rattle.limbo_types.specs.View.{tys_of}
 use Rattle.limbo_layout.specs.Adts.{Def, listed, parts, variant_types}
 use Rattle.limbo_typed.specs.declared.operation.Operation.{Operation}
 use Rattle.limbo_typed.specs.declared.operation.Operation.TheVariants as operation
@@ -16,7 +17,8 @@ use Rattle.limbo_meaning.specs.Trees as tree
 use Rattle.limbo_meaning.specs.Trees.{Aim, Work, Operate, Term, Evaluated, Node, Lazy, Update, Fill, Terms, NoTerms, MoreTerms}
 use Rattle.limbo_meaning.specs.Trees.{Items, NoItems, MoreItems}
 use Rattle.limbo_meaning.specs.Evaluation.{passes_on, may_hold, work_refers, operands_for}
-use Rattle.core_code.specs.Code.{Instr, Give, Gather, Pick, Known, Write, CopyInto, Cell, Call, Print, Skip, Truth, Element, Next, Other}
+use Rattle.core_code.specs.Code.{Instr, Give, Place, Gather, Pick, Known, Write, CopyInto, Cell, Call, Print, Skip, Truth, Element, Next}
+use Rattle.core_code.specs.Code.{Other}
 use Rattle.core_code.specs.Code.{Start, Keep, Take, Drop, Mirror, Back}
 
 -- The code of a tree, the drops of what it got, in that order, the slot of its value, and the first slot that it doesn't use.
@@ -26,7 +28,9 @@ pub record Lowered : Type 0 where
   pub value : ℕ
   pub free : ℕ
 
+-- The same of operands in a row: the code of each, and all of it.
 pub record LoweredAll : Type 0 where
+  pub each : List (List Instr)
   pub code : List Instr
   pub drops : List Instr
   pub values : List ℕ
@@ -119,13 +123,40 @@ module _ (defs : List Def) where
     free = suc l.free;
   }
 
+  -- The code of each operand, and behind it the operand comes to its part of what is put together in a slot.
+  abbrev pub placed : Ty → (variant : Option ℕ) → (into : ℕ) → (operand : ℕ) → (parts : List ℕ) → List (List Instr) → List ℕ
+      → List Instr
+  placed t v into n (k ∷ ks) (c ∷ cs) (s ∷ ss) = c ++ Place t v n k into s ∷ placed t v into (suc n) ks cs ss
+  placed t v into n ks cs ss = []
+
+  abbrev pub variant_of : Operation → Option ℕ
+  variant_of (operation.Adt n v) = v
+  variant_of o = None
+
   abbrev pub gathers : Ty → Operation → LoweredAll → Lowered
   gathers t o l = record {
-    code = l.code ++ Gather t (Operate o) l.free l.values ∷ [];
+    code = placed t (variant_of o) l.free 0 (part_numbers o (length l.values)) l.each l.values
+        ++ Gather t (Operate o) l.free (length l.values) ∷ [];
     drops = drops_after_all (moves_into (part_types t) l.free (part_numbers o (length l.values)) l.values) l.drops;
     value = l.free;
     free = suc l.free;
   }
+
+  -- A call and a print put their operands, of these types, together as a tuple in a slot, where there are any; behind it comes the slot of
+  -- the value. The tuple may have others in front.
+  abbrev pub operands_slot : LoweredAll → Option ℕ
+  operands_slot l = if nat_eq (length l.values) 0 then None else Some l.free
+
+  abbrev pub value_slot : LoweredAll → ℕ
+  value_slot l = if nat_eq (length l.values) 0 then l.free else suc l.free
+
+  abbrev pub together : (front : List Ty) → List Ty → LoweredAll → List Instr
+  together front ts l =
+      placed (ty.Tuple (tys_of (front ++ ts))) None l.free 0 (numbers_from (length front) (length l.values)) l.each l.values
+
+  abbrev pub together_drops : (front : List Ty) → List Ty → LoweredAll → List Instr
+  together_drops front ts l =
+      drops_after_all (moves_into (front ++ ts) l.free (numbers_from (length front) (length l.values)) l.values) l.drops
 
   -- the writes of an assignment: each place takes its operands from the front
   abbrev pub writes : List Aim → (operands : List ℕ) → (value : ℕ) → List Instr
@@ -172,42 +203,46 @@ module _ (defs : List Def) where
     free = suc l.free;
   }
 
-  -- A node behind its operands, the first of which is of the type `first`.
-  abbrev pub node : (first : Ty) → Ty → Work → LoweredAll → Lowered
-  node u t (Operate o) l = if passes_on o then gathers t o l else gives t (Operate o) l
-  node u t (tree.Assign aims) l = record {
+  abbrev pub first_of : List Ty → Ty
+  first_of [] = ty.Nothing
+  first_of (u ∷ us) = u
+
+  -- A node behind its operands, which are of these types.
+  abbrev pub node : (types : List Ty) → Ty → Work → LoweredAll → Lowered
+  node us t (Operate o) l = if passes_on o then gathers t o l else gives t (Operate o) l
+  node us t (tree.Assign aims) l = record {
     code = l.code ++ writes aims l.values (slot_at (operands_for aims) l.values);
     drops = l.drops;
     value = slot_at (operands_for aims) l.values;
     free = l.free;
   }
-  node u t (tree.TakePart n) l = picks u t n l
-  node u t tree.Copy l = record {
+  node us t (tree.TakePart n) l = picks (first_of us) t n l
+  node us t tree.Copy l = record {
     code = l.code ++ CopyInto (slot_at 0 l.values) (slot_at 1 l.values) (slot_at 2 l.values) ∷ [];
     drops = l.drops;
     value = slot_at 2 l.values;
     free = l.free;
   }
-  node u t tree.Link l = links t l
-  node u t (tree.Call f) l = record {
-    code = l.code ++ Call t f l.free l.values ∷ [];
-    drops = l.drops ++ drops_from l.free 0 (count_of t);
-    value = l.free;
-    free = suc l.free;
+  node us t tree.Link l = links t l
+  node us t (tree.Call f) l = record {
+    code = together [] us l ++ Call t f (value_slot l) (operands_slot l) ∷ [];
+    drops = together_drops [] us l ++ drops_from (value_slot l) 0 (count_of t);
+    value = value_slot l;
+    free = suc (value_slot l);
   }
-  node u t (tree.Print ps) l = record {
-    code = l.code ++ Print ps l.free l.values ∷ [];
-    drops = l.drops;
-    value = l.free;
-    free = suc l.free;
+  node us t (tree.Print ps) l = record {
+    code = together (ty.Chars ∷ []) us l ++ Print ps (value_slot l) (operands_slot l) ∷ [];
+    drops = together_drops (ty.Chars ∷ []) us l;
+    value = value_slot l;
+    free = suc (value_slot l);
   }
-  node u t tree.NewChannel l = record {
+  node us t tree.NewChannel l = record {
     code = l.code ++ Give t tree.NewChannel l.free [] ∷ [];
     drops = l.drops ++ Drop l.free 0 ∷ [];
     value = l.free;
     free = suc l.free;
   }
-  node u t o l = gives t o l
+  node us t o l = gives t o l
 
   abbrev pub given_slot : Given → (old new : ℕ) → ℕ
   given_slot given.Old old new = old
@@ -254,10 +289,14 @@ module _ (defs : List Def) where
     type_at zero (MoreTerms t ts) = type_of t
     type_at (suc n) (MoreTerms t ts) = type_at n ts
 
+  abbrev pub types_in : Terms → List Ty
+  types_in NoTerms = []
+  types_in (MoreTerms t ts) = type_of t ∷ types_in ts
+
   abbrev mutual
     pub lower : (lo : ℕ) → Term → Lowered
     lower lo (Evaluated v) = record { code = Known v lo ∷ []; drops = []; value = lo; free = suc lo }
-    lower lo (Node t o ts) = node (type_at 0 ts) t o (lower_all lo ts)
+    lower lo (Node t o ts) = node (types_in ts) t o (lower_all lo ts)
     lower lo (Lazy c l r) =
         let a = lower lo l in
         let b = lower (suc a.free) r in
@@ -295,11 +334,17 @@ module _ (defs : List Def) where
     lower lo t = record { code = []; drops = []; value = lo; free = suc lo }
 
     pub lower_all : (lo : ℕ) → Terms → LoweredAll
-    lower_all lo NoTerms = record { code = []; drops = []; values = []; free = lo }
+    lower_all lo NoTerms = record { each = []; code = []; drops = []; values = []; free = lo }
     lower_all lo (MoreTerms t ts) =
         let a = lower lo t in
         let b = lower_all a.free ts in
-        record { code = a.code ++ b.code; drops = a.drops ++ b.drops; values = a.value ∷ b.values; free = b.free }
+        record {
+          each = a.code ∷ b.each;
+          code = a.code ++ b.code;
+          drops = a.drops ++ b.drops;
+          values = a.value ∷ b.values;
+          free = b.free;
+        }
 
     -- The elements of an initialiser: one that holds nothing begins at the shared slots, another behind all that are used.
     pub lower_items : Ty → (array shared lo : ℕ) → Items → Lowered

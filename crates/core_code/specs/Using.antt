@@ -3,7 +3,8 @@ use Rattle.std.specs.Prelude.{◌≡◌, ℕ, ◌+◌, ◌<◌, ◌≤◌, List,
 use Rattle.limbo_layout.specs.Adts.{Def}
 use Rattle.limbo_layout.specs.Laying.{AllBelow}
 use Rattle.limbo_meaning.specs.Program.{Routine}
-use Rattle.core_code.specs.Code.{Instr, Give, Gather, Pick, Known, Write, CopyInto, Cell, Call, Print, Skip, Truth, Element, Next, Other}
+use Rattle.core_code.specs.Code.{Instr, Give, Place, Gather, Pick, Known, Write, CopyInto, Cell, Call, Print, Skip, Truth, Element, Next}
+use Rattle.core_code.specs.Code.{Other}
 use Rattle.core_code.specs.Code.{Start, Keep, Take, Drop, Mirror, Unless, Jump, Back, Return}
 use Rattle.core_code.specs.Statements.{function_of}
 
@@ -15,14 +16,15 @@ IfBelow n (Some s) = s < n
 -- An instruction names slots among so many alone.
 abbrev pub Uses : ℕ → Instr → Type 0
 Uses n (Give t o into from) = (into < n) × AllBelow n from
-Uses n (Gather t o into from) = (into < n) × AllBelow n from
+Uses n (Place t v j k into from) = (into < n) × (from < n)
+Uses n (Gather t o into k) = into < n
 Uses n (Pick t k into from) = (into < n) × (from < n)
 Uses n (Known v into) = into < n
 Uses n (Write t w operands part from) = AllBelow n operands × (from < n)
 Uses n (CopyInto array start from) = (array < n) × (start < n) × (from < n)
 Uses n (Cell t into item behind) = (into < n) × (item < n) × IfBelow n behind
-Uses n (Call t f into from) = (into < n) × AllBelow n from
-Uses n (Print ps into from) = (into < n) × AllBelow n from
+Uses n (Call t f into o) = (into < n) × IfBelow n o
+Uses n (Print ps into o) = (into < n) × IfBelow n o
 Uses n (Skip c into decision from passes) = (into < n) × IfBelow n decision × (from < n)
 Uses n (Truth into from) = (into < n) × (from < n)
 Uses n (Element t array index from) = (array < n) × (from < n)

@@ -29,7 +29,7 @@ pub fn code_is_not_left()
 
 /// A drop lets one reference of a slot go, and changes nothing else that a process names. What the turns of an initialiser held stays
 /// named in a chain and as it comes back; what parts of values name is named once, as before, when a part is taken out of a value,
-/// and when a tuple or an adt's value is made of parts.
+/// when an operand moves to what is put together in a slot, and when a tuple or an adt's value is made of the operands there.
 pub fn references_go_so()
     ensures { ReferencesGoSo }
 {}

@@ -45,14 +45,15 @@ view_known known.Nothing = nothing
 
 abbrev pub view_inst : code_inst.Inst → Instr
 view_inst (inst.Give t o into from) = code.Give (view_ty t) (view_work o) into from.items
-view_inst (inst.Gather t o into from) = code.Gather (view_ty t) (tree.Operate o) into from.items
+view_inst (inst.Place t v j k into from) = code.Place (view_ty t) v j k into from
+view_inst (inst.Gather t o into n) = code.Gather (view_ty t) (tree.Operate o) into n
 view_inst (inst.Pick t n into from) = code.Pick (view_ty t) n into from
 view_inst (inst.Known v into) = code.Known (view_known v) into
 view_inst (inst.Write t w operands part from) = code.Write (view_ty t) (view_way w) operands.items part.items from
 view_inst (inst.CopyInto array start from) = code.CopyInto array start from
 view_inst (inst.Cell t into item behind) = code.Cell (view_ty t) into item behind
-view_inst (inst.Call t f into from) = code.Call (view_ty t) f into from.items
-view_inst (inst.Print ps into from) = code.Print ps.items into from.items
+view_inst (inst.Call t f into operands) = code.Call (view_ty t) f into operands
+view_inst (inst.Print ps into operands) = code.Print ps.items into operands
 view_inst (inst.Skip c into decision from n) = code.Skip c into decision from n
 view_inst (inst.Truth into from) = code.Truth into from
 view_inst (inst.Element t array index from) = code.Element (view_ty t) array index from

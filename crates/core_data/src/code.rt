@@ -63,12 +63,22 @@ pub enum Inst {
         into: u32,
         from: Vec<u32>,
     },
-    /// A tuple or an adt's value is made of parts, which move: the slots that they come from are empty then.
+    /// An operand, by its number, moves to what a value of a type, of this variant of an adt, is put together of in a slot, where it is
+    /// the part of another number. The slot that it comes from is empty then.
+    Place {
+        ty: Ty,
+        variant: Option<u32>,
+        operand: u32,
+        part: u32,
+        into: u32,
+        from: u32,
+    },
+    /// A node gives its value, a tuple or an adt's, of so many operands that are put together in its slot.
     Gather {
         ty: Ty,
         operation: Operation,
         into: u32,
-        from: Vec<u32>,
+        operands: u32,
     },
     /// A part of a value moves.
     Pick {
@@ -103,18 +113,18 @@ pub enum Inst {
         item: u32,
         behind: Option<u32>,
     },
-    /// A call of a function of the module. The answer goes into a slot.
+    /// A call of a function of the module, whose operands are put together in a slot where there are any. The answer goes into a slot.
     Call {
         ty: Ty,
         function: u32,
         into: u32,
-        from: Vec<u32>,
+        operands: Option<u32>,
     },
-    /// A print. How many bytes were written goes into a slot.
+    /// A print, whose operands are put together so. How many bytes were written goes into a slot.
     Print {
         pieces: Vec<Piece>,
         into: u32,
-        from: Vec<u32>,
+        operands: Option<u32>,
     },
     /// Where the left operand of a connective decides, the value is there and so many instructions are passed. Whether it does goes into
     /// a slot of its own, where that is read again.

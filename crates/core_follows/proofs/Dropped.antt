@@ -13,7 +13,8 @@ use Rattle.limbo_meaning.specs.Process as source
 use Rattle.limbo_meaning.specs.Process.{Shared}
 use Rattle.limbo_meaning.specs.Holding.{ends_first}
 use Rattle.limbo_meaning.proofs.Holding.{held_in_order}
-use Rattle.core_code.specs.Slots.{Slot, Holds, Turns, Slots, Region, NoSlot, MoreSlots, NoRegion, MoreRegions, slot, put, empty, value_of}
+use Rattle.core_code.specs.Slots.{Slot, Holds, Forms, Turns, Slots, Region, NoSlot, MoreSlots, NoRegion, MoreRegions, slot, put, empty}
+use Rattle.core_code.specs.Slots.{value_of}
 use Rattle.core_code.specs.Slots.{without, dropped, placed, next_of, chain_of, slot_names, region_names}
 use Rattle.core_code.specs.Code.{Instr, Drop, Mirror, Take, Back}
 use Rattle.core_code.specs.Machine as machine
@@ -22,20 +23,22 @@ use Rattle.core_code.specs.Naming.{size}
 use Rattle.core_code.specs.Statements.{code_of}
 use Rattle.core_code.proofs.Names.{names_put, long_placed, placed_below, names_placed}
 use Rattle.core_follows.specs.Drops as drops
-use Rattle.core_follows.specs.Drops.{AllSpare, Clean, Between, Beside, Apart, AllTouch, AllMiss, HasAt, Dropping, none, enters, passes}
+use Rattle.core_follows.specs.Drops.{AllSpare, AllWhole, Clean, Between, Beside, Apart, AllTouch, AllMiss, HasAt, Dropping, none, enters}
+use Rattle.core_follows.specs.Drops.{passes}
 use Rattle.core_follows.specs.Drops.{takes, HasTurns, last, more}
-use Rattle.core_follows.specs.Stands.{SlotsName, coded, sourced, beside, sstep, obeys, Stands, Going, going, obeying, goes, rests, place_at}
-use Rattle.core_follows.proofs.Slots.{put_same, put_other, put_long, total, total_same, total_clean, clean_total, slots_split, among_join}
-use Rattle.core_follows.proofs.Drops.{after_drop, dropped_names, touch_back, dropping_kept, dropping_behind}
+use Rattle.core_follows.specs.Stands.{SlotsName, SlotsWhole, coded, sourced, beside, sstep, obeys, Stands, Going, going, obeying, goes}
+use Rattle.core_follows.specs.Stands.{rests, place_at}
+use Rattle.core_follows.proofs.Slots.{placed_above, put_whole, put_same, put_other, put_long, total, total_same, total_clean, clean_total}
+use Rattle.core_follows.proofs.Slots.{slots_split, among_join}
+use Rattle.core_follows.proofs.Drops.{after_drop, drop_whole, dropped_names, touch_back, dropping_kept, dropping_behind}
 use Rattle.core_follows.proofs.Holding.{has_front, has_back}
 use Rattle.core_follows.proofs.Nodes.{spot, pc_is}
 
 -- ---- a region comes back
 
-placed_above : (slots : Slots) (a : ℕ) (g : Region) (s : ℕ) → a + size g ≤ s → slot (placed slots a g) s ≡ slot slots s
-placed_above slots a NoSlot s l = refl
-placed_above slots a (MoreSlots x g) s l =
-    put_other (placed slots (suc a) g) a s x (λ e. absurd (omega (arith, e, l))) ∙ placed_above slots (suc a) g s (omega arith)
+placed_whole : (slots : Slots) (a : ℕ) (g : Region) → AllWhole g → SlotsWhole slots → SlotsWhole (placed slots a g)
+placed_whole slots a NoSlot h w d = w d
+placed_whole slots a (MoreSlots x g) h w d = put_whole (placed slots (suc a) g) a x h.0 d (placed_whole slots (suc a) g h.1 w d)
 
 pub placed_total : (n : ℕ) (slots : Slots) (a : ℕ) (g : Region) → a + size g ≤ length slots
     → total (placed slots a g) a (size g) n ≡ region_names g n
@@ -92,6 +95,7 @@ without_number k (Parts vs) = refl
 
 dropped_number : (k : ℕ) (x : Slot) → number_of (value_of (dropped k x)) ≡ number_of (value_of x)
 dropped_number k (Holds v) = without_number k v
+dropped_number k (Forms vs) = refl
 dropped_number k (Turns i rs) = refl
 
 drop_number : (slots : Slots) (s k r : ℕ) → slot_number (put slots s (dropped k (slot slots s))) r ≡ slot_number slots r
@@ -126,24 +130,24 @@ module _ (limit : ℕ) (program : Program) (g : Frame) (todo : Block) (ends : en
   abbrev pub Done : (lo hi pc : ℕ) → List Instr → Slots → List (Option ℕ) → Type 0
   Done lo hi pc ds before later =
       (slots : Slots) → length slots ≡ length before → ((s : ℕ) → Beside lo hi s → slot slots s ≡ slot before s) → SlotsName slots later
-      → ((s : ℕ) → AllSpare s ds → slot_number slots s ≡ slot_number before s) → Stands limit program (here pc slots) later todo
+      → SlotsWhole slots → ((s : ℕ) → AllSpare s ds → slot_number slots s ≡ slot_number before s) → Stands limit program (here pc slots) later todo
 
   pub drops_go : (fuel lo hi pc : ℕ) (slots : Slots) (ds : List Instr) (held later : List (Option ℕ)) → length held ≤ fuel
-      → Dropping slots ds held → AllTouch (Between lo hi) ds → hi ≤ length slots → HasAt g.code pc ds → SlotsName slots (held ++ later)
+      → SlotsWhole slots → Dropping slots ds held → AllTouch (Between lo hi) ds → hi ≤ length slots → HasAt g.code pc ds → SlotsName slots (held ++ later)
       → Done lo hi (pc + length ds) ds slots later → Stands limit program (here pc slots) (held ++ later) todo
-  drops_go fuel lo hi pc slots ds held later l none t m has names k =
-      pc_is limit program g g.into (pc + 0) pc g.variables slots later todo (omega arith) (k slots refl (λ s b. refl) names (λ s z. refl))
-  drops_go zero lo hi pc slots ds held later l (drops.one s j r e miss d) t m has names k = absurd (omega arith)
-  drops_go (suc fuel) lo hi pc slots ds held later l (drops.one {is = is} {held = rest} s j r e miss d) t m has names k =
+  drops_go fuel lo hi pc slots ds held later l wh none t m has names k =
+      pc_is limit program g g.into (pc + 0) pc g.variables slots later todo (omega arith) (k slots refl (λ s b. refl) names wh (λ s z. refl))
+  drops_go zero lo hi pc slots ds held later l wh (drops.one s j r e miss d) t m has names k = absurd (omega arith)
+  drops_go (suc fuel) lo hi pc slots ds held later l wh (drops.one {is = is} {held = rest} s j r e miss d) t m has names k =
       let x = dropped j (slot slots s) in
       let slots1 = put slots s x in
       let in_slots : s < length slots = let b = t.0.1 in omega arith in
       going (one_less pc (suc pc) slots slots1 r (rest ++ later) (Drop s j) has.0 names (λ w n below p. refl)
-      (drops_go fuel lo hi (suc pc) slots1 is rest later (omega arith) (dropping_behind slots s j is rest miss d) t.1
+      (drops_go fuel lo hi (suc pc) slots1 is rest later (omega arith) (λ d. drop_whole slots s j d (wh d)) (dropping_behind slots s j is rest miss d) t.1
       (let y = put_long slots s x in omega arith) has.1
       (λ n. let a = names_put n slots s x in_slots in let b = dropped_names n j (slot slots s) in let c = names n in
       let f = ap (one n) e in omega arith)
-      (λ slots2 long same names2 numbers. pc_is limit program g g.into (pc + suc (length is)) (suc pc + length is) g.variables slots2
+      (λ slots2 long same names2 whole2 numbers. pc_is limit program g g.into (pc + suc (length is)) (suc pc + length is) g.variables slots2
       later todo (omega arith)
       (k slots2 (long ∙ put_long slots s x)
       (λ r b. same r b ∙ put_other slots s r x (λ q. absurd (let y = t.0 in elim b [
@@ -151,19 +155,19 @@ module _ (limit : ℕ) (program : Program) (g : Frame) (todo : Block) (ends : en
         | inr z ↦ omega
             (arith, z, q, y.1)
       ])))
-      names2 (λ r z. numbers r z.1 ∙ drop_number slots s j r)))))
-  drops_go zero lo hi pc slots ds held later l (enters d n e x) t m has names k = absurd (omega arith)
-  drops_go (suc fuel) lo hi pc slots ds held later l (enters {is = is} {held = rest} d n e x) t m has names k =
+      names2 whole2 (λ r z. numbers r z.1 ∙ drop_number slots s j r)))))
+  drops_go zero lo hi pc slots ds held later l wh (enters d n e x) t m has names k = absurd (omega arith)
+  drops_go (suc fuel) lo hi pc slots ds held later l wh (enters {is = is} {held = rest} d n e x) t m has names k =
       going (one_less pc (suc pc + 0) slots slots None (rest ++ later) (Mirror d n) has.0 names
       (λ w q below p. ap (λ (y : Slot). machine.goes_to w (coded q (here pc slots) below p) (suc pc + choice (holds (value_of y)) n 0)
       slots) e)
       (pc_is limit program g g.into (suc pc) (suc pc + 0) g.variables slots (rest ++ later) todo (omega arith)
-      (drops_go fuel lo hi (suc pc) slots is rest later (omega arith) x t.1 m has.1 (λ o. let q = names o in omega arith)
-      (λ slots2 long same names2 numbers. pc_is limit program g g.into (pc + suc (length is)) (suc pc + length is) g.variables slots2
+      (drops_go fuel lo hi (suc pc) slots is rest later (omega arith) wh x t.1 m has.1 (λ o. let q = names o in omega arith)
+      (λ slots2 long same names2 whole2 numbers. pc_is limit program g g.into (pc + suc (length is)) (suc pc + length is) g.variables slots2
       later todo (omega arith)
-      (k slots2 long same names2 (λ s z. numbers s z.1))))))
-  drops_go zero lo hi pc slots ds held later l (passes d n skipped is e f ln x) t m has names k = absurd (omega arith)
-  drops_go (suc fuel) lo hi pc slots ds held later l (passes {rest = body} {held = rest} d n skipped is e f ln x) t m has names k =
+      (k slots2 long same names2 whole2 (λ s z. numbers s z.1))))))
+  drops_go zero lo hi pc slots ds held later l wh (passes d n skipped is e f ln x) t m has names k = absurd (omega arith)
+  drops_go (suc fuel) lo hi pc slots ds held later l wh (passes {rest = body} {held = rest} d n skipped is e f ln x) t m has names k =
       let h = has_back g.code (suc pc) skipped is (subst (HasAt g.code (suc pc)) f has.1) in
       let u = touch_back (Between lo hi) skipped is (subst (AllTouch (Between lo hi)) f t.1) in
       let a : length body ≡ length skipped + length is = ap length f ∙ length-append skipped is in
@@ -172,14 +176,14 @@ module _ (limit : ℕ) (program : Program) (g : Frame) (todo : Block) (ends : en
       (λ w q below p. ap (λ (y : Slot). machine.goes_to w (coded q (here pc slots) below p) (suc pc + choice (holds (value_of y)) n 0)
       slots) e)
       (pc_is limit program g g.into (suc pc + length skipped) (suc pc + n) g.variables slots (rest ++ later) todo z
-      (drops_go fuel lo hi (suc pc + length skipped) slots is rest later (omega arith) x u m h (λ o. let q = names o in omega arith)
-      (λ slots2 long same names2 numbers. pc_is limit program g g.into (pc + suc (length body)) (suc pc + length skipped + length is)
+      (drops_go fuel lo hi (suc pc + length skipped) slots is rest later (omega arith) wh x u m h (λ o. let q = names o in omega arith)
+      (λ slots2 long same names2 whole2 numbers. pc_is limit program g g.into (pc + suc (length body)) (suc pc + length skipped + length is)
       g.variables slots2 later todo (omega arith)
-      (k slots2 long same names2 (λ s z. numbers s (spare_back s skipped is (subst (AllSpare s) f z.1))))))))
-  drops_go zero lo hi pc slots ds held later l (takes c from words n i es is NoRegion turned rest e lt wl cl te tj last x f ln h) t m has
+      (k slots2 long same names2 whole2 (λ s z. numbers s (spare_back s skipped is (subst (AllSpare s) f z.1))))))))
+  drops_go zero lo hi pc slots ds held later l wh (takes c from words n i es is NoRegion turned rest e lt wl cl te tj last x f ln h) t m has
       names k =
       absurd (let z = ap length h in omega arith)
-  drops_go (suc fuel) lo hi pc slots ds held later l (takes {rest = body} c from words n i es is NoRegion turned rest e lt wl cl te tj last
+  drops_go (suc fuel) lo hi pc slots ds held later l wh (takes {rest = body} c from words n i es is NoRegion turned rest e lt wl cl te tj last
       x f ln h) t m has names k =
       let slots1 = put slots c empty in
       let c_in : c < length slots = let b = t.0.0 in omega (arith, b.1, m) in
@@ -194,23 +198,24 @@ module _ (limit : ℕ) (program : Program) (g : Frame) (todo : Block) (ends : en
       (chain_of y)) e)
       (pc_is limit program g g.into (suc (suc pc + length es)) (suc pc + n) g.variables slots1 (rest ++ later) todo z
       (drops_go fuel lo hi (suc (suc pc + length es)) slots1 is rest later (let y = ap length h in omega arith)
+      (λ d. put_whole slots c empty refl d (wh d))
       (dropping_kept (Apart c from words) slots slots1 is rest tj (λ s b. put_other slots c s empty b.0) x) u.1
       (let y = put_long slots c empty in omega arith) h1.1
       (λ o. let p = names_put o slots c empty c_in in let q = names1 o in let r = ap (λ (y : Slot). slot_names y o) e in omega arith)
-      (λ slots2 long same names2 numbers.
+      (λ slots2 long same names2 whole2 numbers.
       pc_is limit program g g.into (pc + suc (length body)) (suc (suc pc + length es) + length is) g.variables slots2 later todo
       (omega arith)
       (k slots2 (long ∙ put_long slots c empty)
       (λ s b. same s b ∙ put_other slots c s empty (λ q. absurd
       (let y = t.0.0 in elim b [ inl r ↦ omega (arith, r, q, y.0) | inr r ↦ omega (arith, r, q, y.1) ])))
-      names2
+      names2 whole2
       (λ s z. numbers s (spare_back s es (Back (suc (length es)) ∷ is) (subst (AllSpare s) f z.1)).1
       ∙ ap (λ (y : Slot). number_of (value_of y)) (put_other slots c s empty z.0.0))))))))
-  drops_go zero lo hi pc slots ds held later l (takes c from words n i es is (MoreRegions y rs) turned rest e lt wl cl te tj
-      (more hg turned' sz fs nm ts) x f ln h) t m has names k =
+  drops_go zero lo hi pc slots ds held later l wh (takes c from words n i es is (MoreRegions y rs) turned rest e lt wl cl te tj
+      (more hg turned' sz fs nm aw ts) x f ln h) t m has names k =
       absurd (let z = ap length h in omega arith)
-  drops_go (suc fuel) lo hi pc slots ds held later l (takes {rest = body} c from words n i es is (MoreRegions y rs) turned rest e lt wl cl
-      te tj (more hg turned' sz fs nm ts) x f ln h) t m has names k =
+  drops_go (suc fuel) lo hi pc slots ds held later l wh (takes {rest = body} c from words n i es is (MoreRegions y rs) turned rest e lt wl cl
+      te tj (more hg turned' sz fs nm aw ts) x f ln h) t m has names k =
       let back = placed slots from y in
       let slots1 = put back c (Turns i rs) in
       let c_in : c < length slots = let b = t.0.0 in omega (arith, b.1, m) in
@@ -247,10 +252,11 @@ module _ (limit : ℕ) (program : Program) (g : Frame) (todo : Block) (ends : en
       (λ w q below p. ap (λ (z : Slot). machine.takes limit (code_of program) w (coded q (here pc slots) below p) c from n (next_of z)
       (chain_of z)) e)
       (drops_go fuel from (from + words) (suc pc) slots1 es hg more_held
-      (let z = ap length h in let v = length-append (hg ++ turned') rest in let u = length-append hg turned' in omega arith) inner te
+      (let z = ap length h in let v = length-append (hg ++ turned') rest in let u = length-append hg turned' in omega arith)
+      (λ d. put_whole back c (Turns i rs) refl d (placed_whole slots from y aw wh d)) inner te
       (omega arith)
       (has_front g.code (suc pc) es (Back (suc (length es)) ∷ is) has_es) names1
-      (λ slots2 long same names2 numbers.
+      (λ slots2 long same names2 whole2 numbers.
       let pcb : ℕ = suc pc + length es in
       let to_take : pcb - suc (length es) ≡ pc = omega arith in
       let long2 : length slots2 ≡ length slots = long ∙ long1 in
@@ -268,18 +274,18 @@ module _ (limit : ℕ) (program : Program) (g : Frame) (todo : Block) (ends : en
       let a1 = names1 o in
       let a2 = names2 o in
       let a3 = among_join o hg more_held in
-      let a4 = region1 o in omega arith) in
+      let a4 = region1 o in omega arith) (λ d p q. whole2 d) in
       going (obeying (Back (suc (length es))) names2 h1.0 (λ w. rests (pcb - suc (length es)) slots2 (λ q below p. refl)
       (subst (λ (q : ℕ). 1 < place_at (slice_get g.code q)) (sym to_take) (subst (λ (o : Option Instr). 1 < place_at o) (sym has.0)
       (omega arith)))
       (pc_is limit program g g.into pc (pcb - suc (length es)) g.variables slots2 more_held todo (sym to_take)
       (drops_go fuel lo hi pc slots2 (Take c from words n ∷ body) (turned' ++ rest) later
       (let z = ap length h in let v = length-append (hg ++ turned') rest in let u = length-append hg turned' in let z' = length-append
-      turned' rest in omega arith)
+      turned' rest in omega arith) whole2
       (takes c from words n i es is rs turned' rest
       (same c (inl lt) ∙ put_same back c (Turns i rs) (omega arith)) lt wl clean2 te tj ts
       (dropping_kept (Apart c from words) slots slots2 is rest tj same2 x) f ln refl)
       t (omega arith) has names2
-      (λ slots3 long3 same3 names3 numbers3. k slots3 (long3 ∙ long2)
-      (λ s b. same3 s b ∙ same2 s (apart_outside lo hi c from words s t.0.0 (λ r p q. t.0.2 r p q) b)) names3
+      (λ slots3 long3 same3 names3 whole3 numbers3. k slots3 (long3 ∙ long2)
+      (λ s b. same3 s b ∙ same2 s (apart_outside lo hi c from words s t.0.0 (λ r p q. t.0.2 r p q) b)) names3 whole3
       (λ s z. numbers3 s z ∙ ap (λ (y : Slot). number_of (value_of y)) (same2 s z.0)))))))))))

@@ -5,15 +5,15 @@ use Rattle.std.proofs.lemmas.Bool.{cases_eq, ltb-true, ltb-false}
 use Rattle.std.specs.Prelude.{pos, nat_lt, slice_set, slice_index_or, if◌then◌else◌}
 use Rattle.limbo_meaning.specs.Values.{Value, Num, Chars, Ref, Array, Parts, Values, NoValues, MoreValues, references, all_references}
 use Rattle.limbo_meaning.specs.Values.{one, among}
-use Rattle.core_code.specs.Slots.{Slot, Holds, Turns, Slots, slot, put, without, all_without}
-use Rattle.core_code.specs.Slots.{dropped, slot_names}
+use Rattle.core_code.specs.Slots.{Slot, Holds, Forms, Turns, Slots, slot, put, without, all_without}
+use Rattle.core_code.specs.Slots.{operands_of, dropped, slot_names}
 use Rattle.core_code.specs.Code.{Instr, Drop, Mirror, Take, Back}
 use Rattle.core_code.specs.Naming.{reference}
 use Rattle.core_follows.specs.Drops as drops
-use Rattle.core_follows.specs.Drops.{Clean, Between, Apart, Touches, AllTouch, Misses, AllMiss, HasAt, Dropping, none, enters, passes}
-use Rattle.core_follows.specs.Drops.{takes}
-use Rattle.core_follows.specs.Drops.{HasTurns, last, more}
-use Rattle.core_follows.proofs.Slots.{put_other}
+use Rattle.core_follows.specs.Drops.{IsWhole, Clean, Between, Apart, Touches, AllTouch, Misses, AllMiss, HasAt, Dropping, none, enters}
+use Rattle.core_follows.specs.Drops.{passes}
+use Rattle.core_follows.specs.Drops.{takes, HasTurns, last, more}
+use Rattle.core_follows.proofs.Slots.{put_other, clean_same}
 
 -- ---- one reference of a value goes
 
@@ -63,12 +63,19 @@ set_names n (r ∷ rs) (suc k) = let a = set_names n rs k in omega arith
 
 pub dropped_names : (n k : ℕ) (x : Slot) → slot_names (dropped k x) n + one n (reference k x) ≡ slot_names x n
 dropped_names n k (Holds v) = let a = set_names n (references v) k in let b = ap (among n) (without_references k v) in omega arith
+dropped_names n k (Forms vs) = omega arith
 dropped_names n k (Turns i rs) = omega arith
 
 dropped_other : (j k : ℕ) (x : Slot) → (j ≡ k → ⊥) → reference j (dropped k x) ≡ reference j x
 dropped_other j k (Holds v) e =
     ap (λ (rs : List (Option ℕ)). slice_index_or rs j None) (without_references k v) ∙ get_or-set_other (references v) k j None None e
+dropped_other j k (Forms vs) e = refl
 dropped_other j k (Turns i rs) e = refl
+
+pub dropped_whole : (k : ℕ) (x : Slot) → IsWhole x → IsWhole (dropped k x)
+dropped_whole k (Holds v) e = refl
+dropped_whole k (Forms vs) e = e
+dropped_whole k (Turns i rs) e = refl
 
 -- ---- which slots drops touch
 
@@ -124,7 +131,7 @@ dropping_kept own slots slots' is held t same (passes {held = rest} d n skipped 
     (dropping_kept own slots slots' js rest (touch_back own skipped js (subst (AllTouch own) f t.1)) same x)
 dropping_kept own slots slots' is held t same (takes c from words n i es js rs turned later e l wl cl te tj ts x f ln h) =
     takes c from words n i es js rs turned later (same c t.0.0 ∙ e) l wl
-    (λ s p q k. ap (λ (x : Slot). slot_names x k) (same s (t.0.2 s p q)) ∙ cl s p q k) te tj ts
+    (clean_same slots slots' from (from + words) (λ s p q. same s (t.0.2 s p q)) cl) te tj ts
     (dropping_kept own slots slots' js later
     ((touch_back own es (Back (suc (length es)) ∷ js) (subst (AllTouch own) f t.1)).1) same x) f ln h
 
@@ -195,6 +202,13 @@ keeps_clean slots s k d n z = ⊎_elim
     let a = dropped_names n k (slot slots d) in let b = ap (λ (x : Slot). slot_names x n) f.1 in omega arith)
     (after_drop slots s k d)
 
+pub drop_whole : (slots : Slots) (s k d : ℕ) → IsWhole (slot slots d) → IsWhole (slot (put slots s (dropped k (slot slots s))) d)
+drop_whole slots s k d w = ⊎_elim
+    (λ (f : slot (put slots s (dropped k (slot slots s))) d ≡ slot slots d). ap operands_of f ∙ w)
+    (λ (f : (d ≡ s) × (slot (put slots s (dropped k (slot slots s))) d ≡ dropped k (slot slots d))).
+    ap operands_of f.1 ∙ dropped_whole k (slot slots d) w)
+    (after_drop slots s k d)
+
 -- A drop leaves the others as they were that don't drop the same.
 pub dropping_behind : (slots : Slots) (s k : ℕ) (is : List Instr) (held : List (Option ℕ)) → AllMiss s k is → Dropping slots is held
     → Dropping (put slots s (dropped k (slot slots s))) is held
@@ -208,5 +222,5 @@ dropping_behind slots s k is held m (passes {held = rest} d n skipped js e f l x
     (dropping_behind slots s k js rest (miss_back s k skipped js (subst (AllMiss s k) f m.1)) x)
 dropping_behind slots s k is held m (takes c from words n i es js rs turned later e l wl cl te tj ts x f ln h) =
     takes c from words n i es js rs turned later (keeps_number slots s k c (Turns i rs) refl e) l wl
-    (λ d p q o. keeps_clean slots s k d o (cl d p q o)) te tj ts
+    (λ d p q. let z = cl d p q in ((λ o. keeps_clean slots s k d o (z.0 o)), drop_whole slots s k d z.1)) te tj ts
     (dropping_behind slots s k js later ((miss_back s k es (Back (suc (length es)) ∷ js) (subst (AllMiss s k) f m.1)).1) x) f ln h

@@ -22,13 +22,13 @@ use Rattle.core_follows.specs.Drops.{Clean, HasAt, Holding}
 use Rattle.core_follows.specs.Stands.{Stands, Going, going, obeying}
 use Rattle.core_follows.specs.Stands.{place_at, rests}
 use Rattle.core_follows.specs.Handled.{IsKnown, Handled, AllHandled}
-use Rattle.core_follows.proofs.Slots.{put_same, put_other, put_long}
+use Rattle.core_follows.proofs.Slots.{put_same, put_other, put_long, put_whole}
 use Rattle.core_follows.proofs.Holding.{has_front, has_back, Room, room_front, room_behind, holding_none, holding_more}
 use Rattle.core_follows.proofs.Contexts.{Carries, carry}
 use Rattle.core_follows.proofs.Static.{drops_within, no_drops}
 use Rattle.core_follows.proofs.Nodes.{between_wide, evaluated}
 use Rattle.core_follows.proofs.Nodes.{spot, pc_is}
-use Rattle.core_follows.proofs.Terms.{GoesBy, Comes, comes, begun, AllBy, node_either, lazy_goes, update_goes, known_goes, onward}
+use Rattle.core_follows.proofs.Terms.{GoesBy, Comes, comes, begun, AllBy, EachBy, node_either, lazy_goes, update_goes, known_goes, onward}
 use Rattle.core_follows.proofs.Terms.{as_is, handled_fill_all}
 use Rattle.std.specs.Prelude.{max}
 use Rattle.std.specs.List.{range_with_len}
@@ -193,12 +193,13 @@ module _ (limit : ℕ) (program : Program) where
         ]));
         fits = omega arith;
         array = put_other g.slots lo a begun (λ q. absurd (omega (arith, q, below, low, mid))) ∙ array;
+        whole = put_whole g.slots lo begun refl;
         loop = put_same g.slots lo begun (omega arith);
         turns = last;
         left = let z : p.long - 0 ≡ p.long = omega arith in ap (λ (y : ℕ). left_of is (range_with_len 0 y)) (sym z);
         clean = clean_same g.slots one (suc lo) x.free (λ s q r. put_other g.slots lo s begun (λ y. absurd (omega (arith, y, q))))
             (clean_within g.slots lo x.free (suc lo) x.free (omega arith) (omega arith) clean_lo);
-        names = put_names limit program g.slots lo begun held (omega arith) (clean_lo lo (omega arith) (omega arith)) (λ n. refl)
+        names = put_names limit program g.slots lo begun held (omega arith) (clean_lo lo (omega arith) (omega arith)).0 (λ n. refl)
             space.names;
         is_held = sym (append-nil held);
       } in
@@ -237,9 +238,10 @@ module _ (limit : ℕ) (program : Program) where
         shares = clean_same g.slots one shared from (λ s q r. put_other g.slots lo s begun (λ y. absurd (omega (arith, y, r, mid))))
             space.shares;
         array = put_other g.slots lo a begun (λ q. absurd (omega (arith, q, below, low, mid))) ∙ array;
+        whole = put_whole g.slots lo begun refl;
         loop = put_same g.slots lo begun in_slots;
         left = let z : p.long - 0 ≡ p.long = omega arith in ap (λ (y : ℕ). left_of is (range_with_len 0 y)) (sym z);
-        names = put_names limit program g.slots lo begun held in_slots (space.clean lo (omega arith) (omega arith)) (λ n. refl) space.names;
+        names = put_names limit program g.slots lo begun held in_slots (space.clean lo (omega arith) (omega arith)).0 (λ n. refl) space.names;
       } in
       going (obeying (Start lo) space.names has.0 (λ w. rests (suc g.pc) one (λ n below2 q. refl)
       (subst (λ (o : Option Instr). 0 < place_at o) (sym has.1.0) (omega arith))
@@ -255,7 +257,7 @@ module _ (limit : ℕ) (program : Program) where
   LengthBy lo l x =
       (C : Term → Block) → Carries limit program (next program.adts) fill C → (g : Frame) (held : List (Option ℕ)) → HasAt g.code g.pc
       x.code
-      → 0 < place_at (slice_get g.code (g.pc + length x.code)) → Room g.slots lo x.free held
+      → 1 < place_at (slice_get g.code (g.pc + length x.code)) → Room g.slots lo x.free held
       → ((j : ℕ) (variables : List Value) (slots : Slots) (v : Value) (got held' : List (Option ℕ)) → Holding g.slots slots lo x.free
       x.drops got
       → slot slots x.value ≡ Holds v → held' ≡ held ++ got
@@ -267,7 +269,7 @@ module _ (limit : ℕ) (program : Program) where
       → LengthBy lo l (lower program.adts lo l)
   known_length lo (Evaluated v) (inl e) ge C c g held has rank room k =
       let z : g.pc + 1 ≡ suc g.pc = omega arith in
-      known_goes limit program v lo g held (C (Evaluated v)) e has.0 (subst (λ (q : ℕ). 0 < place_at (slice_get g.code q)) z rank) room
+      known_goes limit program v lo g held (C (Evaluated v)) e has.0 (subst (λ (q : ℕ). 1 < place_at (slice_get g.code q)) z rank) room
       (λ slots h at. pc_is limit program g g.into (g.pc + 1) (suc g.pc) g.variables slots held (C (Evaluated v)) z
       (k g.into g.variables slots v [] held h at (sym (append-nil held))))
   known_length lo l (inr h) ge C c g held has rank room k = ge h C c g held has room
@@ -298,7 +300,7 @@ module _ (limit : ℕ) (program : Program) where
       length_by (λ x. C (Fill t x is rest))
       (carry limit program (next program.adts) fill (next program.adts) fill C c (λ x. Fill t x is rest)
       (λ m v. fills program.adts m t is rest v) (λ m x. refl) (λ v x. refl))
-      g held (has_front g.code g.pc n.code (give ∷ es.code) has_A) (subst (λ (o : Option Instr). 0 < place_at o) (sym has_give.0)
+      g held (has_front g.code g.pc n.code (give ∷ es.code) has_A) (subst (λ (o : Option Instr). 1 < place_at o) (sym has_give.0)
       (omega arith))
       (room_front g.slots lo n.free hi held up1 (omega arith) room)
       (λ j variables slots v got held1 h1 e1 eq1.
@@ -366,7 +368,7 @@ module _ (limit : ℕ) (program : Program) where
 
   mutual
     pub value_goes : (t : Term) → Handled program.adts t → (lo : ℕ) → GoesBy limit program lo t (lower program.adts lo t)
-    value_goes (Node t o ts) h lo = node_either limit program lo t o ts h (λ x b. operands_go ts x lo b)
+    value_goes (Node t o ts) h lo = node_either limit program lo t o ts h (λ x b. operands_go ts x lo b) (λ x. each_goes ts x lo)
     value_goes (Lazy k l r) h lo =
         let a = lower program.adts lo l in
         lazy_goes limit program k lo l r (may_hold program.adts r) a (lower program.adts (suc a.free) r) refl (term_up program.adts lo l)
@@ -391,6 +393,10 @@ module _ (limit : ℕ) (program : Program) where
         (rest_go rest h.2 t n.free is shared from (lower_items program.adts t n.free shared from is).free
         (let b = items_up program.adts t n.free shared from is in omega arith) (omega arith))
     value_goes _ h lo = absurd h
+
+    pub each_goes : (ts : Terms) → AllHandled program.adts ts → (lo : ℕ) → EachBy limit program lo ts
+    each_goes NoTerms h lo = tt
+    each_goes (MoreTerms t ts) h lo = (value_goes t h.0 lo, each_goes ts h.1 (lower program.adts lo t).free)
 
     pub operands_go : (ts : Terms) → AllHandled program.adts ts → (lo : ℕ) (b : Bool) → AllBy limit program b lo ts
         (lower_all program.adts lo ts)

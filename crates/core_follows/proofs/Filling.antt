@@ -25,7 +25,7 @@ use Rattle.limbo_meaning.specs.Program.{Program}
 use Rattle.limbo_meaning.specs.Process.{Shared}
 use Rattle.core_code.specs.Slots.{Slot, Holds, Turns, Slots, Region, Regions, NoRegion, MoreRegions, empty, slot, put}
 use Rattle.core_code.specs.Slots.{value_of, chain_of, next_of, index_of, region, cleared, placed, chained, slot_names, region_names}
-use Rattle.core_code.specs.Slots.{regions_name, slots_name}
+use Rattle.core_code.specs.Slots.{regions_name, slots_name, operands_of}
 use Rattle.core_code.specs.Code.{Instr, Give, Element, Next, Other, Keep, Take, Drop, Back}
 use Rattle.core_code.specs.Machine as machine
 use Rattle.core_code.specs.Machine.{Frame, at, memory_of, first_left, is_named}
@@ -33,14 +33,16 @@ use Rattle.core_code.specs.Naming.{size}
 use Rattle.core_code.specs.Terms.{Lowered, named}
 use Rattle.core_code.specs.Statements.{code_of}
 use Rattle.limbo_layout.specs.Adts.{Def}
-use Rattle.core_code.proofs.Names.{long_placed, names_put, long_cleared, cleared_below, names_cleared, names_chained}
+use Rattle.core_code.proofs.Names.{names_put, long_cleared, cleared_below, names_cleared, names_chained}
 use Rattle.core_follows.specs.Drops as drops
-use Rattle.core_follows.specs.Drops.{Clean, Name, Between, Beside, Apart, AllTouch, HasAt, Dropping, none, takes, HasTurns, last, more}
+use Rattle.core_follows.specs.Drops.{IsWhole, AllWhole, Clean, Name, Between, Beside, Apart, AllTouch, HasAt, Dropping, none, takes}
+use Rattle.core_follows.specs.Drops.{HasTurns, last, more}
 use Rattle.core_follows.specs.Drops.{Holding}
 use Rattle.core_follows.specs.Stands as stands
 use Rattle.core_follows.specs.Stands.{SlotsName, coded, sourced, beside, obeys, Stands, Going, going, obeying, goes, rests, raises}
 use Rattle.core_follows.specs.Stands.{place_at}
-use Rattle.core_follows.proofs.Slots.{put_same, put_other, put_long, total, total_same, total_split, total_clean, clean_same}
+use Rattle.core_follows.proofs.Slots.{region_size, placed_region, put_whole, put_same, put_other, put_long, total, total_same}
+use Rattle.core_follows.proofs.Slots.{total_split, total_clean, clean_same}
 use Rattle.core_follows.proofs.Slots.{slots_total, name_at, clean_within, name_none, name_more, name_same, name_clean, among_join}
 use Rattle.core_follows.proofs.Drops.{touch_more, touch_others, dropping_kept, dropping_more}
 use Rattle.core_follows.proofs.Holding.{has_front, has_back, Room, room_behind, holding_put}
@@ -65,6 +67,7 @@ pub record Space (slots : Slots) (shared from lo hi : ℕ) (held : List (Option 
 pub record Grown (before slots : Slots) (shared from lo hi : ℕ) (ds : List Instr) (got : List (Option ℕ)) : Type 0 where
   pub long : length slots ≡ length before
   pub same : (s : ℕ) → Beside shared from s → Beside lo hi s → slot slots s ≡ slot before s
+  pub whole : (s : ℕ) → IsWhole (slot before s) → IsWhole (slot slots s)
   pub shares : Clean slots shared from
   pub dropping : Dropping slots ds got
   pub within : AllTouch (Between lo hi) ds
@@ -74,6 +77,7 @@ pub grown_none : (slots : Slots) (shared from lo : ℕ) → Clean slots shared f
 grown_none slots shared from lo c = record {
   long = refl;
   same = λ s b d. refl;
+  whole = λ s w. w;
   shares = c;
   dropping = none;
   within = tt;
@@ -90,6 +94,7 @@ grown_more one two three shared from lo mid hi ds es held got f l m h k = record
     | inl x ↦ k.same s b (inl (omega arith)) ∙ h.same s b (inl x)
     | inr x ↦ k.same s b (inr x) ∙ h.same s b (inr (omega arith))
   ];
+  whole = λ s w. k.whole s (h.whole s w);
   shares = k.shares;
   dropping = dropping_more three lo mid hi ds es held got h.within k.within
       (dropping_kept (Between lo mid) two three ds held h.within
@@ -107,6 +112,7 @@ pub grown_own : (one two : Slots) (shared from lo hi : ℕ) (ds : List Instr) (g
 grown_own one two shared from lo hi ds got f c h = record {
   long = h.long;
   same = λ s b d. h.same s d;
+  whole = h.whole;
   shares = clean_same one two shared from (λ s p q. h.same s (inl (omega arith))) c;
   dropping = h.dropping;
   within = h.within;
@@ -119,10 +125,12 @@ pub grown_shared : (one two : Slots) (shared from hi lo : ℕ) → shared ≤ hi
 grown_shared one two shared from hi lo l m f c h = record {
   long = h.long;
   same = λ s b d. h.same s (elim b [ inl x ↦ inl x | inr x ↦ inr (omega arith) ]);
-  shares = λ s p q n. ⊎_elim
+  whole = h.whole;
+  shares = λ s p q. ⊎_elim
       (λ (x : s < hi). let e : shared + (hi - shared) ≡ hi = omega arith in
-      subst (Clean two shared) e (total_clean two shared (hi - shared) h.names) s p x n)
-      (λ (x : hi ≤ s). ap (λ (y : Slot). slot_names y n) (h.same s (inr x)) ∙ c s p q n)
+      subst (Clean two shared) e (total_clean two shared (hi - shared) h.names
+      (λ r y z. h.whole r (c r y (omega arith)).1)) s p x)
+      (λ (x : hi ≤ s). clean_same one two hi from (λ r y z. h.same r (inr y)) (clean_within one shared from hi from l (omega arith) c) s x q)
       (cases_lt s hi);
   dropping = none;
   within = tt;
@@ -199,6 +207,7 @@ pub grown_whole : (one two : Slots) (shared from hi : ℕ) (ds : List Instr) (go
 grown_whole one two shared from hi ds got l m g = record {
   long = g.long;
   same = λ s b. elim b [ inl x ↦ g.same s (inl x) (inl (omega arith)) | inr x ↦ g.same s (inr (omega arith)) (inr x) ];
+  whole = g.whole;
   dropping = g.dropping;
   within = touch_others (Between from hi) (Between shared hi) ds (λ s b. (let x = b.0 in omega (arith, x, l), b.1)) g.within;
   names = name_more two shared from hi [] got l m (name_clean two shared from l g.shares) g.names;
@@ -246,53 +255,50 @@ module _ (defs : List Def) where
 
 -- ---- chains
 
-region_size : (slots : Slots) (a k : ℕ) → size (region slots a k) ≡ k
-region_size slots a zero = refl
-region_size slots a (suc k) = ap suc (region_size slots (suc a) k)
-
-placed_region : (base slots : Slots) (a k s : ℕ) → a + k ≤ length base → a ≤ s → s < a + k → slot (placed base a (region slots a k)) s ≡
-    slot slots s
-placed_region base slots a zero s m l lt = absurd (omega arith)
-placed_region base slots a (suc k) s m l lt =
-    let back = placed base (suc a) (region slots (suc a) k) in
-    let long = long_placed base (suc a) (region slots (suc a) k) in
-    ⊎_elim
-    (λ (e : s ≡ a). subst (λ (s : ℕ). slot (put back a (slot slots a)) s ≡ slot slots s) (sym e)
-    (put_same back a (slot slots a) (omega arith)))
-    (λ (e : s ≡ a → ⊥). put_other back a s (slot slots a) e ∙ placed_region base slots (suc a) k s (omega arith) (omega (arith, e))
-    (omega arith))
-    (cases_eq s a)
-
 cleared_above : (slots : Slots) (a k s : ℕ) → a + k ≤ s → slot (cleared slots a k) s ≡ slot slots s
 cleared_above slots a zero s l = refl
 cleared_above slots a (suc k) s l =
     put_other (cleared slots (suc a) k) a s empty (λ e. absurd (omega (arith, e, l))) ∙ cleared_above slots (suc a) k s (omega arith)
 
-cleared_clean : (slots : Slots) (a k : ℕ) → a + k ≤ length slots → Clean (cleared slots a k) a (a + k)
-cleared_clean slots a zero l s p q n = absurd (omega arith)
-cleared_clean slots a (suc k) l s p q n =
+cleared_in : (slots : Slots) (a k s : ℕ) → a + k ≤ length slots → a ≤ s → s < a + k → slot (cleared slots a k) s ≡ empty
+cleared_in slots a zero s l p q = absurd (omega arith)
+cleared_in slots a (suc k) s l p q =
     let back = cleared slots (suc a) k in
     let long = long_cleared slots (suc a) k in
     ⊎_elim
-    (λ (e : s ≡ a). subst (λ (s : ℕ). slot_names (slot (put back a empty) s) n ≡ 0) (sym e)
-    (ap (λ (x : Slot). slot_names x n) (put_same back a empty (omega arith))))
-    (λ (e : s ≡ a → ⊥). ap (λ (x : Slot). slot_names x n) (put_other back a s empty e)
-    ∙ cleared_clean slots (suc a) k (omega arith) s (omega (arith, e)) (omega arith) n)
+    (λ (e : s ≡ a). subst (λ (s : ℕ). slot (put back a empty) s ≡ empty) (sym e) (put_same back a empty (omega arith)))
+    (λ (e : s ≡ a → ⊥). put_other back a s empty e ∙ cleared_in slots (suc a) k s (omega arith) (omega (arith, e)) (omega arith))
     (cases_eq s a)
+
+cleared_whole : (slots : Slots) (a k s : ℕ) → IsWhole (slot slots s) → IsWhole (slot (cleared slots a k) s)
+cleared_whole slots a zero s w = w
+cleared_whole slots a (suc k) s w = put_whole (cleared slots (suc a) k) a empty refl s (cleared_whole slots (suc a) k s w)
+
+region_whole : (slots : Slots) (a k : ℕ) → ((s : ℕ) → a ≤ s → s < a + k → IsWhole (slot slots s)) → AllWhole (region slots a k)
+region_whole slots a zero h = tt
+region_whole slots a (suc k) h = (
+  h a (omega arith) (omega arith),
+  region_whole slots (suc a) k (λ s p q. h s (omega arith) (omega arith)),
+)
+
+cleared_clean : (slots : Slots) (a k : ℕ) → a + k ≤ length slots → Clean (cleared slots a k) a (a + k)
+cleared_clean slots a k l s p q =
+    let e = cleared_in slots a k s l p q in
+    ((λ n. ap (λ (x : Slot). slot_names x n) e), ap operands_of e)
 
 turns_add : (from words : ℕ) (es : List Instr) (rs : Regions) (turned now : List (Option ℕ)) (g : Region) → HasTurns from words es rs turned
     → size g ≡ words → ((slots : Slots) → from + words ≤ length slots → Dropping (placed slots from g) es now)
-    → ((n : ℕ) → region_names g n ≡ among n now) → HasTurns from words es (chained rs g) (turned ++ (now ++ None ∷ []))
-turns_add from words es rs turned now g last e f h = more now (None ∷ []) e f h last
-turns_add from words es rs turned now g (more {g = g'} {rs = rs'} held later e' f' h' ts) e f h =
+    → ((n : ℕ) → region_names g n ≡ among n now) → AllWhole g → HasTurns from words es (chained rs g) (turned ++ (now ++ None ∷ []))
+turns_add from words es rs turned now g last e f h w = more now (None ∷ []) e f h w last
+turns_add from words es rs turned now g (more {g = g'} {rs = rs'} held later e' f' h' w' ts) e f h w =
     subst (λ (x : List (Option ℕ)). HasTurns from words es (MoreRegions g' (chained rs' g)) (None ∷ x))
     (sym (append_assoc held later (now ++ None ∷ [])))
-    (more held (later ++ (now ++ None ∷ [])) e' f' h' (turns_add from words es rs' later now g ts e f h))
+    (more held (later ++ (now ++ None ∷ [])) e' f' h' w' (turns_add from words es rs' later now g ts e f h w))
 
 turns_names : (n from words : ℕ) (es : List Instr) (rs : Regions) (turned : List (Option ℕ)) → HasTurns from words es rs turned
     → regions_name rs n ≡ among n turned
 turns_names n from words es rs turned last = refl
-turns_names n from words es rs turned (more {rs = rs'} held later e f h ts) =
+turns_names n from words es rs turned (more {rs = rs'} held later e f h w ts) =
     let a = turns_names n from words es rs' later ts in
     let b = h n in
     let c = among_join n held later in
@@ -344,16 +350,16 @@ module _ (limit : ℕ) (program : Program) where
       (λ m p em es.
       let x = Array (Some p) in
       goes m (suc g.pc) (put g.slots into (Holds x)) (held ++ (Some p.array ∷ [])) (C (fill_made t (Some p) is rest))
-      (λ n below q. ap (λ (y : Slot). machine.gives limit (code_of program) w (coded n g below q) into g.slots
+      (λ n below q. ap (λ (y : Slot). machine.gives limit (code_of program) w (coded n g below q) into
       (performed program.adts (memory_of w g) (ty.ArrayOf t) (Operate operation.NewArray) (value_of y ∷ []))) e
-      ∙ ap (λ (y : Progress Value Term). machine.gives limit (code_of program) w (coded n g below q) into g.slots y) em)
+      ∙ ap (λ (y : Progress Value Term). machine.gives limit (code_of program) w (coded n g below q) into y) em)
       (λ n below. c.steps w g held n below m (Some p.array ∷ []) (Fill t (Evaluated v) is rest) (fill_made t (Some p) is rest) es)
       (k m.variables p (holding_put g.slots into x (Drop into 0 ∷ []) (Some p.array ∷ []) (let a = room.fits in omega arith)
       (owns_row into x 1 refl))))
       (λ text em es. raises text
-      (λ n below q. ap (λ (y : Slot). machine.gives limit (code_of program) w (coded n g below q) into g.slots
+      (λ n below q. ap (λ (y : Slot). machine.gives limit (code_of program) w (coded n g below q) into
       (performed program.adts (memory_of w g) (ty.ArrayOf t) (Operate operation.NewArray) (value_of y ∷ []))) e
-      ∙ ap (λ (y : Progress Value Term). machine.gives limit (code_of program) w (coded n g below q) into g.slots y) em)
+      ∙ ap (λ (y : Progress Value Term). machine.gives limit (code_of program) w (coded n g below q) into y) em)
       (λ n below. c.raises w g held n below text (Fill t (Evaluated v) is rest) es))
       refl refl)
 
@@ -388,9 +394,9 @@ module _ (limit : ℕ) (program : Program) where
       (λ w n below q.
       ap (λ (y : Slot). machine.part_or_none limit (code_of program) w (coded n g below q) (part_of (value_of y))
       (λ part. machine.stores limit (code_of program) w (coded n g below q)
-      (element_at t part (pos (index_of (slot g.slots loop))))
+      (element_at t part (index_of (slot g.slots loop)))
       (value_of (slot g.slots from)))) e
-      ∙ ap (λ (y : Slot). machine.stores limit (code_of program) w (coded n g below q) (element_at t p (pos (index_of y)))
+      ∙ ap (λ (y : Slot). machine.stores limit (code_of program) w (coded n g below q) (element_at t p (index_of y))
       (value_of (slot g.slots from))) h
       ∙ ap (λ (y : Slot). machine.stores limit (code_of program) w (coded n g below q) (element_at t p (pos k)) (value_of y)) f)
       (λ w. steps (memory_of w g)) done
@@ -450,6 +456,7 @@ module _ (limit : ℕ) (program : Program) where
       (held start so_far : List (Option ℕ)) : Type 0 where
     pub long : length slots ≡ length before
     pub same : (s : ℕ) → Beside lo x.free s → slot slots s ≡ slot before s
+    pub whole : (s : ℕ) → IsWhole (slot before s) → IsWhole (slot slots s)
     pub fits : x.free ≤ length slots
     pub array : slot slots a ≡ Holds (Array (Some p))
     pub loop : slot slots lo ≡ Turns i rs
@@ -474,6 +481,7 @@ module _ (limit : ℕ) (program : Program) where
       record {
         long = b.long;
         same = b.same;
+        whole = b.whole;
         dropping = takes lo from words (suc (length x.drops)) i x.drops [] rs T [] b.loop (omega arith) (omega arith)
             (subst (Clean slots from) (sym fin) b.clean) (touch_others (Between from x.free) (Between from (from + words)) x.drops
             (λ s d. (d.0, let y = d.1 in omega (arith, y, fin))) te) tt b.turns none refl refl (sym (append-nil T));
@@ -551,6 +559,8 @@ module _ (limit : ℕ) (program : Program) where
           | inr y ↦ put_other wiped lo s loop (λ e. absurd (omega (arith, e, y))) ∙ cleared_above slots2 from words s (omega arith)
               ∙ h.same s (inr y) ∙ put_other slots lo s z (λ e. absurd (omega (arith, e, y))) ∙ b.same s (inr y)
         ];
+        whole = λ s w. put_whole wiped lo loop refl s
+            (cleared_whole slots2 from words s (h.whole s (put_whole slots lo z refl s (b.whole s w))));
         fits = let q = put_long wiped lo loop in omega arith;
         array = low a la ∙ b.array;
         loop = put_same wiped lo loop (omega arith);
@@ -558,7 +568,9 @@ module _ (limit : ℕ) (program : Program) where
             (turns_add from words x.drops rs T got g b.turns (region_size slots2 from words)
             (λ base l. dropping_kept (Between from x.free) slots2 (placed base from g) x.drops got te
             (λ s d. placed_region base slots2 from words s l d.0 (let y = d.1 in omega (arith, y, fin))) h.dropping)
-            h.names);
+            h.names
+            (region_whole slots2 from words (λ s q r. h.whole s
+            (put_whole slots lo z refl s (b.clean s q (omega (arith, r, fin))).1))));
         left = (left_behind is i p.long k ns b.left).1;
         clean = clean_same wiped three from x.free (λ s q r. put_other wiped lo s loop (λ e. absurd (omega (arith, e, q))))
             (subst (Clean wiped from) fin (cleared_clean slots2 from words in_slots));
@@ -691,6 +703,7 @@ module _ (limit : ℕ) (program : Program) where
       (held : List (Option ℕ)) : Type 0 where
     pub long : length slots ≡ length before
     pub same : (s : ℕ) → Beside shared from s → Beside lo (suc lo) s → slot slots s ≡ slot before s
+    pub whole : (s : ℕ) → IsWhole (slot before s) → IsWhole (slot slots s)
     pub fits : lo < length slots
     pub shares : Clean slots shared from
     pub array : slot slots a ≡ Holds (Array (Some p))
@@ -729,6 +742,7 @@ module _ (limit : ℕ) (program : Program) where
       (k j variables slots (record {
         long = b.long;
         same = b.same;
+        whole = b.whole;
         shares = b.shares;
         dropping = none;
         within = tt;
@@ -797,6 +811,7 @@ module _ (limit : ℕ) (program : Program) where
         long = h.long ∙ long1 ∙ b.long;
         same = λ s d f. h.same s (elim d [ inl y ↦ inl y | inr y ↦ inr (omega arith) ])
             ∙ put_other slots lo s at_z (λ q. absurd (elim f [ inl y ↦ omega (arith, y, q) | inr y ↦ omega (arith, y, q) ])) ∙ b.same s d f;
+        whole = λ s w. h.whole s (put_whole slots lo at_z refl s (b.whole s w));
         fits = let q = h.long in omega arith;
         shares = grown.shares;
         array = array2;

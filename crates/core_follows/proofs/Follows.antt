@@ -16,7 +16,7 @@ use Rattle.heap_model.proofs.Heap.{bool_or, stays_twice, all_stay, has_gone, non
 use Rattle.limbo_types.specs.Types.{Ty}
 use Rattle.system_model.specs.Prints.{Request, Writing, Printing, Answers, Requests, NoReply, print, hear}
 use Rattle.system_model.specs.Ending.{Ending, Ended, Broken}
-use Rattle.limbo_meaning.specs.Values.{Value, references_in, among, one}
+use Rattle.limbo_meaning.specs.Values.{Value, Chars, references_in, among, one}
 use Rattle.limbo_meaning.specs.Memory.{HeapValue, inside}
 use Rattle.limbo_meaning.specs.Exceptions.{stack_overflow}
 use Rattle.limbo_meaning.specs.Trees.{Block, Done, Then, Turn, Again, join}
@@ -33,7 +33,8 @@ use Rattle.core_code.specs.Statements.{function_of, code_of}
 use Rattle.core_follows.specs.Handled.{HandledBlock}
 use Rattle.core_follows.specs.Drops.{HasAt}
 use Rattle.core_follows.specs.Does.{Does}
-use Rattle.core_follows.specs.Stands.{beside, sourced, coded, SlotsName, place, place_at, obeys, Stands, outside, going, quietly, Going}
+use Rattle.core_follows.specs.Stands.{beside, sourced, coded, joined, SlotsWhole, SlotsName, place, place_at, obeys, Stands, outside}
+use Rattle.core_follows.specs.Stands.{going, quietly, Going}
 use Rattle.core_follows.specs.Stands.{softly, obeying, Next, goes, rests, raises, calls, prints, returns, Waits, waits, Hears, hears}
 use Rattle.core_follows.specs.Follows.{AllWait, none_waits, waits_below, Ready, ready, Asking, asking, sides, HandledProgram, CodeKeeps}
 use Rattle.core_follows.proofs.Blocks.{body_does}
@@ -110,11 +111,17 @@ empty_names : (n k : ℕ) → slots_name (replicate k empty) n ≡ 0
 empty_names n zero = refl
 empty_names n (suc k) = let a = empty_names n k in omega arith
 
+empty_whole : (k : ℕ) → SlotsWhole (replicate k empty)
+empty_whole zero s = refl
+empty_whole (suc k) zero = refl
+empty_whole (suc k) (suc s) = empty_whole k s
+
 place_small : (o : Option Instr) → place_at o < 3
 place_small None = omega arith
 place_small (Some i) = small i
   where
     small : (i : Instr) → place i < 3
+    small (code.Place t v k n into from) = omega arith
     small (code.Known v s) = omega arith
     small (code.Start c) = omega arith
     small (code.Keep c from words) = omega arith
@@ -131,7 +138,7 @@ module _ (limit : ℕ) (program : Program) (handled : HandledProgram program) wh
   begins_so f r e instance t arguments =
       let g = function_of program.adts r in
       let h = handled f r e in
-      outside (λ n. empty_names n g.slots)
+      outside (λ n. empty_names n g.slots) (empty_whole g.slots)
       (subst (λ (n : ℕ). Does program.adts g.code n 0 r.body) (sym (length-replicate g.slots empty))
       (subst (λ (b : Block). Does program.adts g.code g.slots 0 b) (join_done program.adts 0 r.body h)
       (body_does program.adts g.code g.slots r.body h (omega arith) (has_all [] g.code))))
@@ -140,7 +147,7 @@ module _ (limit : ℕ) (program : Program) (handled : HandledProgram program) wh
 
   mutual
     stands_name : (g : Frame) (held : List (Option ℕ)) (todo : Block) → Stands limit program g held todo → SlotsName g.slots held
-    stands_name g held todo (outside names d) = names
+    stands_name g held todo (outside names whole d) = names
     stands_name g held todo (going x) = going_name g held todo x
     stands_name g held todo (quietly after q s) = stands_name g held after s
 
@@ -178,7 +185,8 @@ module _ (limit : ℕ) (program : Program) (handled : HandledProgram program) wh
   -- ---- one instruction
 
   stands_going : (g : Frame) (held : List (Option ℕ)) (todo : Block) → Stands limit program g held todo → Going limit program g held todo
-  stands_going g held todo (outside names d) = does_goes limit program g (length g.slots) g.pc todo d g.into g.variables g.slots refl names
+  stands_going g held todo (outside names whole d) =
+      does_goes limit program g (length g.slots) g.pc todo d g.into g.variables g.slots refl (names, whole)
   stands_going g held todo (going x) = x
   stands_going g held todo (quietly after q s) = softly after q (stands_going g held after s)
 
@@ -305,22 +313,22 @@ module _ (limit : ℕ) (program : Program) (handled : HandledProgram program) wh
           (begins_so f r a g.instance t arguments)
           (waits_below (waiting g into) held wt ws below)))
 
-  prints_so : (at : ℕ) (w : Shared) (g : Frame) (held : List (Option ℕ)) (todo wt : Block) (n into : ℕ) (fs : List source.Frame)
+  prints_so : (at : ℕ) (w : Shared) (g : Frame) (held : List (Option ℕ)) (todo wt : Block) (n into : ℕ) (o : Option ℕ) (fs : List source.Frame)
       (gs : List Frame)
       (p : Option Writing) (a : Printing) → SlotsName g.slots held → AllWait limit program g.answer fs gs → Hears limit program
-      (waiting g into) held wt
+      (waiting (joined (Chars [] ∷ []) g o) into) held wt
       → S.program.step w (sourced n (beside g held todo) fs) ≡ source.prints w (sourced n (beside g held todo) fs) wt a
-      → Matches at w (sourced n (beside g held todo) fs) (machine.prints w (coded n g gs p) (waiting g into) a)
-  prints_so at w g held todo wt n into fs gs p (Answers o v) names below (hears names' k) e =
+      → Matches at w (sourced n (beside g held todo) fs) (machine.prints w (coded n g gs p) (waiting (joined (Chars [] ∷ []) g o) into) a)
+  prints_so at w g held todo wt n into j fs gs p (Answers o v) names below (hears names' k) e =
       moves_on at w (with_outside w o) (sourced n (beside g held todo) fs) _ _ e (ready n _ held _ None (k v) below)
-  prints_so at w g held todo wt n into fs gs p (Requests o m k) names below h e = record {
+  prints_so at w g held todo wt n into j fs gs p (Requests o m k) names below h e = record {
     world = with_outside w o;
     after = record { number = n; frame = beside g held wt; below = fs; printing = Some k };
     comes = comes_at_once w (sourced n (beside g held todo) fs) _ e;
-    related = asking n (waiting g into) held wt (Some k) h below;
+    related = asking n (waiting (joined (Chars [] ∷ []) g j) into) held wt (Some k) h below;
     worlds = refl;
   }
-  prints_so at w g held todo wt n into fs gs p NoReply names below h e = stands_still at w g held todo n fs gs p names below e
+  prints_so at w g held todo wt n into j fs gs p NoReply names below h e = stands_still at w g held todo n fs gs p names below e
 
   returns_so : (at : ℕ) (w : Shared) (g : Frame) (held : List (Option ℕ)) (todo : Block) (n : ℕ) (fs : List source.Frame) (gs : List Frame)
       (p : Option Writing) (v : Value) → AllWait limit program g.answer fs gs
@@ -370,12 +378,13 @@ module _ (limit : ℕ) (program : Program) (handled : HandledProgram program) wh
       by (raises text does steps) z =
           subst (Matches (place_at (slice_get g.code g.pc)) w (sourced n (beside g held todo) fs)) (sym (does n gs p))
           (ends_so (place_at (slice_get g.code g.pc)) w (sourced n (beside g held todo) fs) (Broken text) (steps n fs))
-      by (calls t f into arguments wt does steps ws) z =
+      by (calls t f into o arguments wt does steps ws) z =
           subst (Matches (place_at (slice_get g.code g.pc)) w (sourced n (beside g held todo) fs)) (sym (does n gs p))
-          (calls_so (place_at (slice_get g.code g.pc)) w g held todo wt n into fs gs p t f arguments names below ws (steps n fs))
-      by (prints into text wt does steps h) z =
+          (calls_so (place_at (slice_get g.code g.pc)) w (joined [] g o) held todo wt n into fs gs p t f arguments
+          (waits_name (waiting (joined [] g o) into) t held wt ws) below ws (steps n fs))
+      by (prints into o text wt does steps h) z =
           subst (Matches (place_at (slice_get g.code g.pc)) w (sourced n (beside g held todo) fs)) (sym (does n gs p))
-          (prints_so (place_at (slice_get g.code g.pc)) w g held todo wt n into fs gs p (print w.outside text) names below h (steps n fs))
+          (prints_so (place_at (slice_get g.code g.pc)) w g held todo wt n into o fs gs p (print w.outside text) names below h (steps n fs))
       by (returns v does steps) z =
           subst (Matches (place_at (slice_get g.code g.pc)) w (sourced n (beside g held todo) fs)) (sym (does n gs p))
           (returns_so (place_at (slice_get g.code g.pc)) w g held todo n fs gs p v below (steps n fs))

@@ -1,7 +1,7 @@
--- Parts that move from their slots into one value.
+-- Operands that are together as one value.
 use Rattle.std.proofs.Common.{◌≡◌, ℕ, zero, suc, ◌+◌, ◌-◌, ◌<◌, ◌≤◌, List, [], ◌∷◌, ◌++◌, length, Option}
 use Rattle.std.proofs.Common.{None}
-use Rattle.std.proofs.Common.{refl, sym, ap, subst, ◌∙◌, arith, append_assoc, length-append, inl, inr, ⊎_elim, ◌⊎◌, take}
+use Rattle.std.proofs.Common.{refl, sym, ap, subst, ◌∙◌, arith, append_assoc, length-append, inl, inr, ⊎_elim, take}
 use Rattle.std.proofs.lemmas.Bool.{cases_eq}
 use Rattle.std.specs.Prelude.{slice_index_or}
 use Rattle.limbo_types.specs.Types as ty
@@ -9,9 +9,9 @@ use Rattle.limbo_types.specs.Types.{Ty, Tys}
 use Rattle.limbo_layout.specs.Adts.{Def, listed}
 use Rattle.limbo_meaning.specs.Values as values
 use Rattle.limbo_meaning.specs.Values.{Value, Parts, row, references, references_in, all_fitted, fitted, among}
-use Rattle.core_code.specs.Slots.{Slot, Holds, Slots, empty, slot, put, value_of, emptied, slot_names}
+use Rattle.core_code.specs.Slots.{Slot, Holds, Slots, empty, slot, put, operands_of, slot_names}
 use Rattle.core_code.specs.Code.{Instr, Drop}
-use Rattle.core_code.specs.Naming.{reference, DiffersFrom, AllDiffer, HoldValues}
+use Rattle.core_code.specs.Naming.{reference}
 use Rattle.core_code.specs.Terms.{Moved, drop_after, drops_after, drops_after_all, moves_into, count_of, count_all, numbers_from}
 use Rattle.core_code.specs.Terms.{part_types, part_numbers, parts_there, adt_numbers}
 use Rattle.core_code.specs.Whole.{with_parts}
@@ -25,45 +25,25 @@ use Rattle.core_code.proofs.Names.{zero_fitted}
 use Rattle.core_follows.proofs.Slots.{among_join}
 use Rattle.core_follows.proofs.Given.{fitted_none}
 use Rattle.core_follows.specs.Handled.{TakesFields, HasLayout}
-use Rattle.core_code.proofs.Names.{names_put, names_emptied, emptied_other, long_emptied, listed_row, row_references}
+use Rattle.core_code.proofs.Names.{names_put, listed_row, row_references}
 use Rattle.core_code.proofs.Whole.{values_are_whole}
-use Rattle.core_follows.specs.Drops.{Between, Beside, AllTouch, Touches, AllSpare, Dropping, Holding}
-use Rattle.core_follows.specs.Handled.{AllFit, AllStandFor}
-use Rattle.core_follows.proofs.Slots.{put_same, put_other, put_long, total, total_same, slots_split}
+use Rattle.core_follows.specs.Drops.{IsWhole, Clean, Between, Beside, AllTouch, Touches, AllSpare, Dropping, Holding}
+use Rattle.core_follows.specs.Handled.{Fits, AllFit, AllStandFor}
+use Rattle.core_follows.specs.Stands.{SlotsName}
+use Rattle.core_follows.proofs.Slots.{put_same, put_other, put_long, name_between}
 use Rattle.core_follows.proofs.Drops.{dropping_kept, touch_others}
 use Rattle.core_follows.proofs.Static.{after_all}
 use Rattle.core_follows.proofs.Moves.{Under, AllUnder, IsMoved, IsNotMoved, moved_or, to_moved, to_same, Goes_over, move_dropping}
-use Rattle.core_follows.proofs.Nodes.{AllBetween, AllHold, hold_values}
+use Rattle.core_follows.proofs.Nodes.{AllBetween, AllHold, DiffersFrom, AllDiffer, hold_same}
+use Rattle.core_follows.proofs.Placing.{In, in_or, out_of, Formed}
 use Rattle.core_follows.proofs.Given.{counted}
 use Rattle.core_follows.proofs.Valued.{spare_after_one}
-use Rattle.core_follows.proofs.Slots.{total_split}
 
 -- ---- slots that are emptied
-
-abbrev In : ℕ → List ℕ → Type 0
-In d [] = ⊥
-In d (s ∷ ss) = (d ≡ s) ⊎ In d ss
-
-in_or : (d : ℕ) (ss : List ℕ) → In d ss ⊎ DiffersFrom d ss
-in_or d [] = inr tt
-in_or d (s ∷ ss) = ⊎_elim
-    (λ (e : d ≡ s). inl (inl e))
-    (λ (e : d ≡ s → ⊥). ⊎_elim (λ (h : In d ss). inl (inr h)) (λ (h : DiffersFrom d ss). inr (e, h)) (in_or d ss))
-    (cases_eq d s)
 
 abbrev Below : ℕ → List ℕ → Type 0
 Below n [] = Unit {0}
 Below n (s ∷ ss) = (s < n) × Below n ss
-
-emptied_in : (slots : Slots) (ss : List ℕ) (d : ℕ) → Below (length slots) ss → In d ss → slot (emptied slots ss) d ≡ empty
-emptied_in slots [] d b h = absurd h
-emptied_in slots (s ∷ ss) d b h =
-    let long = long_emptied slots ss in
-    ⊎_elim
-    (λ (e : d ≡ s). subst (λ (r : ℕ). slot (put (emptied slots ss) s empty) r ≡ empty) (sym e)
-    (put_same (emptied slots ss) s empty (let x = b.0 in omega (arith, x, long))))
-    (λ (e : d ≡ s → ⊥). put_other (emptied slots ss) s d empty e ∙ elim h [ inl f ↦ absurd (e f) | inr f ↦ emptied_in slots ss d b.1 f ])
-    (cases_eq d s)
 
 abbrev cleared_all : Slots → List ℕ → Slots
 cleared_all slots [] = slots
@@ -206,100 +186,73 @@ under_none lo mid (i ∷ ds) t = (under_one i t.0, under_none lo mid ds t.1)
     under_one (Drop r j) t = λ e. absurd (let y = t.1 in omega (arith, y, e))
     under_one _ t = tt
 
-pub gather_holding : (defs : List Def) (P : List Ty) (u : Value) (one slots : Slots) (lo mid : ℕ) (ns ss : List ℕ) (vs : List Value)
-    (ds : List Instr) (got : List (Option ℕ)) → lo ≤ mid → mid < length slots → Holding one slots lo mid ds got → AllHold slots ss vs
-    → AllBetween lo mid ss → AllDiffer ss → SpareEach ss ds → AllSpare mid ds → Segments defs P u 0 ns ss vs
-    → ((n : ℕ) → among n (references u) ≡ among n (references_in vs)) → ((n : ℕ) → slot_names (slot slots mid) n ≡ 0)
-    → Holding one (put (emptied slots ss) mid (Holds u)) lo (suc mid) (drops_after_all (moves_into defs P mid ns ss) ds) got
-gather_holding defs P u one slots lo mid ns ss vs ds got p l h hold bs differ sp si g names clean =
+pub gather_names : (slots : Slots) (mid : ℕ) (u : Value) (vs : List Value) (held : List (Option ℕ)) → mid < length slots
+    → ((n : ℕ) → slot_names (slot slots mid) n ≡ among n (references_in vs))
+    → ((n : ℕ) → among n (references u) ≡ among n (references_in vs)) → SlotsName slots held → SlotsName (put slots mid (Holds u)) held
+gather_names slots mid u vs held l formed names all n =
+    let a1 = names_put n slots mid (Holds u) l in
+    let a2 = formed n in
+    let a3 = names n in
+    let a4 = all n in
+    omega arith
+
+-- Where all operands are there, they are one value.
+pub gather_holding : (defs : List Def) (P : List Ty) (u : Value) (one still slots : Slots) (lo mid : ℕ) (ns ss : List ℕ) (vs : List Value)
+    (ds : List Instr) (held got : List (Option ℕ)) → lo ≤ mid → mid < length slots → Formed one still slots lo mid mid ss vs ds got
+    → AllDiffer ss → SpareEach ss ds → AllSpare mid ds → Segments defs P u 0 ns ss vs → Clean one lo (suc mid) → SlotsName one held
+    → SlotsName (put slots mid (Holds u)) (held ++ got)
+    → Holding one (put slots mid (Holds u)) lo (suc mid) (drops_after_all (moves_into defs P mid ns ss) ds) got
+gather_holding defs P u one still slots lo mid ns ss vs ds held got p l f differ sp si g clean before after =
+    let h = f.holding in
+    let bs = f.between in
     let x = Holds u in
-    let placed = put slots mid x in
-    let out = emptied slots ss in
-    let last = put out mid x in
-    let long_out = long_emptied slots ss in
-    let below = all_below lo mid (length slots) ss (omega arith) bs in
-    let apart = all_apart lo mid ss bs in
+    let placed = put still mid x in
+    let last = put slots mid x in
+    let long_one = h.long in
+    let long_still = f.long in
+    let in_still : mid < length still = omega arith in
+    let long_last : length last ≡ length one = put_long slots mid x ∙ f.long ∙ h.long in
+    let below = all_below lo mid (length placed) ss (let q = put_long still mid x in omega arith) bs in
+    let apart = out_of lo mid mid ss (inr (omega arith)) bs in
     let within = after_all (Between lo (suc mid)) defs P mid ns ss ds (p, omega arith)
     (touch_others (Between lo mid) (Between lo (suc mid)) ds (λ s b. (b.0, let y = b.1 in omega (arith, y))) h.within) in
-    let d0 : Dropping placed ds got = dropping_kept (Between lo mid) slots placed ds got h.within
-    (λ s b. put_other slots mid s x (λ e. absurd (let y = b.1 in omega (arith, y, e)))) h.dropping in
-    let d1 = moves_dropping defs P u mid ns ss vs 0 placed ds got g (put_same slots mid x l)
-    (hold_put slots mid x lo mid ss vs (omega arith) bs hold)
-    differ apart (subst (λ (n : ℕ). Below n ss) (sym (put_long slots mid x)) below) (under_none lo mid ds h.within) sp si d0 in
+    let d0 : Dropping placed ds got = dropping_kept (Between lo mid) still placed ds got h.within
+    (λ s b. put_other still mid s x (λ e. absurd (let y = b.1 in omega (arith, y, e)))) h.dropping in
+    let d1 = moves_dropping defs P u mid ns ss vs 0 placed ds got g (put_same still mid x in_still)
+    (hold_same still placed lo mid ss vs bs (λ s b. put_other still mid s x (λ e. absurd (let y = b.1 in omega (arith, y, e)))) f.held)
+    differ apart below (under_none lo mid ds h.within) sp si d0 in
     let pointwise : (s : ℕ) → slot last s ≡ slot (cleared_all placed ss) s = λ s. ⊎_elim
     (λ (e : s ≡ mid). subst (λ (r : ℕ). slot last r ≡ slot (cleared_all placed ss) r) (sym e)
-    (put_same out mid x (omega arith) ∙ sym (cleared_other placed ss mid apart ∙ put_same slots mid x l)))
-    (λ (e : s ≡ mid → ⊥). put_other out mid s x e ∙ ⊎_elim
-    (λ (i : In s ss). emptied_in slots ss s below i ∙ sym (cleared_in placed ss s
-    (subst (λ (n : ℕ). Below n ss) (sym (put_long slots mid x)) below) i))
-    (λ (i : DiffersFrom s ss). emptied_other slots ss s i ∙ sym (cleared_other placed ss s i ∙ put_other slots mid s x e))
+    (put_same slots mid x l ∙ sym (cleared_other placed ss mid apart ∙ put_same still mid x in_still)))
+    (λ (e : s ≡ mid → ⊥). put_other slots mid s x e ∙ ⊎_elim
+    (λ (i : In s ss). f.gone s i ∙ sym (cleared_in placed ss s below i))
+    (λ (i : DiffersFrom s ss). f.others s e i ∙ sym (cleared_other placed ss s i ∙ put_other still mid s x e))
     (in_or s ss))
     (cases_eq s mid) in
+    let same : (s : ℕ) → Beside lo (suc mid) s → slot last s ≡ slot one s = λ s b.
+    let ne : s ≡ mid → ⊥ = λ e. absurd (elim b [ inl y ↦ omega (arith, y, e, p) | inr y ↦ omega (arith, y, e) ]) in
+    let o : Beside lo mid s = elim b [ inl y ↦ inl y | inr y ↦ inr (omega arith) ] in
+    put_other slots mid s x ne ∙ f.others s ne (out_of lo mid s ss o bs) ∙ h.same s o in
     record {
-      long = put_long out mid x ∙ long_out ∙ h.long;
-      same = λ s b.
-          put_other out mid s x (λ e. absurd (elim b [ inl y ↦ omega (arith, y, e, p) | inr y ↦ omega (arith, y, e) ]))
-          ∙ emptied_other slots ss s (out_of lo mid s ss (elim b [ inl y ↦ inl y | inr y ↦ inr (omega arith) ]) bs)
-          ∙ h.same s (elim b [ inl y ↦ inl y | inr y ↦ inr (omega arith) ]);
+      long = long_last;
+      same = same;
+      whole = λ s w. ⊎_elim
+          (λ (e : s ≡ mid). subst (λ (r : ℕ). IsWhole (slot last r)) (sym e) (ap operands_of (put_same slots mid x l)))
+          (λ (e : s ≡ mid → ⊥). ap operands_of (put_other slots mid s x e) ∙ ⊎_elim
+          (λ (i : In s ss). ap operands_of (f.gone s i))
+          (λ (i : DiffersFrom s ss). ap operands_of (f.others s e i) ∙ h.whole s w)
+          (in_or s ss))
+          (cases_eq s mid);
       dropping = dropping_kept (λ s. Unit {0}) (cleared_all placed ss) last (drops_after_all (moves_into defs P mid ns ss) ds) got
           (touch_others (Between lo (suc mid)) (λ s. Unit {0}) (drops_after_all (moves_into defs P mid ns ss) ds) (λ s b. tt) within)
           (λ s b. pointwise s) d1;
       within = within;
-      names = λ n.
-          let a1 = names_emptied n slots ss differ (hold_there slots ss vs below hold) in
-          let a2 = ap (λ (ys : List Value). among n (references_in ys)) (hold_values slots ss vs hold) in
-          let a3 = names_put n out mid x (omega arith) in
-          let a4 = ap (λ (s : Slot). slot_names s n) (emptied_other slots ss mid apart) in
-          let a5 = clean n in
-          let a6 = names n in
-          let b1 = slots_split n slots lo (suc mid) (omega arith) (omega arith) in
-          let b2 = slots_split n last lo (suc mid) (omega arith) (let q = put_long out mid x in omega arith) in
-          let out_same : (s : ℕ) → (s < lo) ⊎ (suc mid ≤ s) → slot last s ≡ slot slots s = λ s b.
-          put_other out mid s x (λ e. absurd (elim b [ inl y ↦ omega (arith, y, e, p) | inr y ↦ omega (arith, y, e) ]))
-          ∙ emptied_other slots ss s (out_of lo mid s ss (elim b [ inl y ↦ inl y | inr y ↦ inr (omega arith) ]) bs) in
-          let c1 = total_same n slots last 0 lo (λ s q r. out_same s (inl (omega arith))) in
-          let c2 = total_same n slots last (suc mid) (length slots - suc mid) (λ s q r. out_same s (inr q)) in
-          let c3 : length last ≡ length slots = put_long out mid x ∙ long_out in
-          let c4 = ap (λ (k : ℕ). total last (suc mid) (k - suc mid) n) c3 in
-          let e1 : suc mid - lo ≡ (mid - lo) + 1 = omega arith in
-          let e2 = ap (λ (k : ℕ). total slots lo k n) e1 in
-          let e3 = total_split n slots lo (mid - lo) 1 in
-          let e4 : lo + (mid - lo) ≡ mid = omega arith in
-          let e5 = ap (λ (k : ℕ). total slots k 1 n) e4 in
-          let e6 : total slots mid 1 n ≡ slot_names (slot slots mid) n + 0 = refl in
-          let e7 = h.names n in
-          omega arith;
+      names = name_between one last lo (suc mid) held got (omega arith) (omega arith) long_last same clean before after;
     }
   where
     all_below : (lo mid n : ℕ) (ss : List ℕ) → mid ≤ n → AllBetween lo mid ss → Below n ss
     all_below lo mid n [] q b = tt
     all_below lo mid n (s ∷ ss) q b = (let y = b.0.1 in omega (arith, y, q), all_below lo mid n ss q b.1)
-
-    all_apart : (lo mid : ℕ) (ss : List ℕ) → AllBetween lo mid ss → DiffersFrom mid ss
-    all_apart lo mid [] b = tt
-    all_apart lo mid (s ∷ ss) b = ((λ e. absurd (let y = b.0.1 in omega (arith, y, e))), all_apart lo mid ss b.1)
-
-    out_of : (lo mid s : ℕ) (ss : List ℕ) → Beside lo mid s → AllBetween lo mid ss → DiffersFrom s ss
-    out_of lo mid s [] o b = tt
-    out_of lo mid s (r ∷ ss) o b = (
-      (λ e. absurd (elim o [ inl y ↦ (let z = b.0.0 in omega (arith, y, z, e)) | inr y ↦ (let z = b.0.1 in omega (arith, y, z, e)) ])),
-      out_of lo mid s ss o b.1,
-    )
-
-    hold_put : (slots : Slots) (m : ℕ) (x : Slot) (lo mid : ℕ) (ss : List ℕ) (vs : List Value) → mid ≤ m → AllBetween lo mid ss
-        → AllHold slots ss vs
-        → AllHold (put slots m x) ss vs
-    hold_put slots m x lo mid [] [] q b h = tt
-    hold_put slots m x lo mid [] (v ∷ vs) q b h = h
-    hold_put slots m x lo mid (s ∷ ss) [] q b h = h
-    hold_put slots m x lo mid (s ∷ ss) (v ∷ vs) q b h =
-        (put_other slots m s x (λ e. absurd (let y = b.0.1 in omega (arith, y, e, q))) ∙ h.0, hold_put slots m x lo mid ss vs q b.1 h.1)
-
-    hold_there : (slots : Slots) (ss : List ℕ) (vs : List Value) → Below (length slots) ss → AllHold slots ss vs → HoldValues slots ss
-    hold_there slots [] vs b h = tt
-    hold_there slots (s ∷ ss) [] b h = absurd h
-    hold_there slots (s ∷ ss) (v ∷ vs) b h =
-        (b.0, subst (λ (y : Slot). y ≡ Holds (value_of y)) (sym h.0) refl, hold_there slots ss vs b.1 h.1)
 
 -- ---- what the parts of a value are made of
 
@@ -391,6 +344,54 @@ module _ (defs : List Def) where
             ∙ ap (λ (rs : List (Option ℕ)). slice_index_or rs k None) f),
         (omega arith),
         subst (λ (W : List Ty). Segments defs W u b2 ms ss us) (append_assoc pre (t ∷ []) Q) more,
+      )
+
+  pub made_long : (p : ℕ) (P : List Ty) (full : List Value) (ns : List ℕ) (vs : List Value) → Made defs p P full ns vs
+      → length ns ≡ length vs
+  made_long p P full ns vs ends = refl
+  made_long p P full ns vs (fills {P = Q} {full = rest} t v z m) = made_long (suc p) Q rest ns vs m
+  made_long p P full ns vs (moves {P = Q} {full = rest} {ns = ms} {vs = us} t v e m) = ap suc (made_long (suc p) Q rest ms us m)
+
+  -- ---- operands together as a tuple
+
+  pub numbers_long : (n k : ℕ) → length (numbers_from defs n k) ≡ k
+  numbers_long n zero = refl
+  numbers_long n (suc k) = ap suc (numbers_long (suc n) k)
+
+  fit_counted : (t : Ty) (v : Value) → Fits defs t v → length (references v) ≡ count_of defs t
+  fit_counted t v (inl f) = ap (λ (x : Value). length (references x)) f.1 ∙ counted defs t f.0
+  fit_counted t v (inr f) =
+      ap (λ (x : Value). length (references x)) f.2 ∙ sym (ap (λ (u : Ty). count_of defs u) f.0)
+
+  pub together_segments : (u : Value) (p : ℕ) (P : List Ty) (vs : List Value) (ss : List ℕ) (pre : List Ty) (front : List (Option ℕ)) (b : ℕ)
+      → AllFit defs P vs → length pre ≡ p → references u ≡ front ++ references_in vs → length front ≡ count_all defs pre
+      → length ss ≡ length vs → b ≤ length front → Segments defs (pre ++ P) u b (numbers_from defs p (length vs)) ss vs
+  together_segments u p [] [] [] pre front b f q e c l m = tt
+  together_segments u p [] [] (s ∷ ss) pre front b f q e c l m = absurd (omega arith)
+  together_segments u p [] (v ∷ vs) ss pre front b f q e c l m = absurd f
+  together_segments u p (t ∷ P) [] ss pre front b f q e c l m = absurd f
+  together_segments u p (t ∷ P) (v ∷ vs) [] pre front b f q e c l m = absurd (omega arith)
+  together_segments u p (t ∷ P) (v ∷ vs) (s ∷ ss) pre front b f q e c l m =
+      let R = references v in
+      let eA : count_all defs (take (length pre) (pre ++ (t ∷ P))) ≡ length front = ap (count_all defs) (take_front pre (t ∷ P)) ∙ sym c in
+      let eC : count_of defs (slice_index_or (pre ++ (t ∷ P)) (length pre) ty.Int) ≡ count_of defs t = ap (count_of defs)
+      (index_front pre P t) in
+      let long : length R ≡ count_of defs t = fit_counted t v f.0 in
+      let e2 : references u ≡ (front ++ R) ++ references_in vs = e ∙ sym (append_assoc front R (references_in vs)) in
+      let n1 = length-append front R in
+      let n2 = count_more pre t in
+      let n3 = length-append pre (t ∷ []) in
+      let b2 : ℕ = count_all defs (take (length pre) (pre ++ (t ∷ P))) + count_of defs (slice_index_or (pre ++ (t ∷ P)) (length pre)
+      ty.Int) in
+      let more = together_segments u (suc p) P vs ss (pre ++ (t ∷ [])) (front ++ R) b2 f.1 (omega arith) e2 (omega arith) (omega arith)
+      (omega arith) in
+      subst (λ (j : ℕ). Segments defs (pre ++ (t ∷ P)) u b (j ∷ numbers_from defs (suc p) (length vs)) (s ∷ ss) (v ∷ vs)) q (
+        omega arith,
+        (λ k r.
+            ap (λ (j : ℕ). reference (j + k) (Holds u)) eA ∙ ap (λ (rs : List (Option ℕ)). slice_index_or rs (length front + k) None) e
+            ∙ nth_back front (R ++ references_in vs) k ∙ nth_front R (references_in vs) k (omega arith)),
+        (omega arith),
+        subst (λ (W : List Ty). Segments defs W u b2 (numbers_from defs (suc p) (length vs)) ss vs) (append_assoc pre (t ∷ []) P) more,
       )
 
   -- ---- the parts of tuples and of adts' values

@@ -260,12 +260,12 @@ module _ (limit : ℕ) (program : Program) where
           (Give t o into from)
       by w pm ps em es (gave m v got owns fit) =
           goes m (suc g.pc) (put g.slots into (Holds v)) (held ++ got) (C (left v))
-          (λ n below p. ap (λ x. machine.gives limit (code_of program) w (coded n g below p) into g.slots x) em)
+          (λ n below p. ap (λ x. machine.gives limit (code_of program) w (coded n g below p) into x) em)
           (λ n below. c.steps w g held n below m got u (left v) es)
           (let h = holding_put g.slots into v own got (let a = room.fits in omega arith) owns in
           k g.into m.variables (put g.slots into (Holds v)) v got (held ++ got) h
           (put_same g.slots into (Holds v) (let a = room.fits in omega arith)) (omega arith, omega arith, fit) refl)
       by w pm ps em es (raised text) =
           raises text
-          (λ n below p. ap (λ x. machine.gives limit (code_of program) w (coded n g below p) into g.slots x) em)
+          (λ n below p. ap (λ x. machine.gives limit (code_of program) w (coded n g below p) into x) em)
           (λ n below. c.raises w g held n below text u es)

@@ -4,11 +4,10 @@ use Rattle.std.proofs.Common.{refl, sym, ap, subst, ◌∙◌, arith, inl, inr}
 use Rattle.limbo_meaning.specs.Values.{Value, references, among}
 use Rattle.core_code.specs.Slots.{Slot, Holds, Slots, slot, put, slot_names}
 use Rattle.core_code.specs.Code.{Instr}
-use Rattle.core_follows.specs.Drops.{Clean, Name, Between, Beside, AllTouch, HasAt, Dropping, none, Holding}
+use Rattle.core_follows.specs.Drops.{Clean, Between, AllTouch, HasAt, Dropping, none, Holding}
 use Rattle.core_follows.specs.Stands.{SlotsName}
 use Rattle.core_follows.proofs.Slots.{put_same, put_other, put_long, names_between, clean_same, clean_within, name_none, name_more}
-use Rattle.core_follows.proofs.Slots.{name_same}
-use Rattle.core_follows.proofs.Slots.{name_at}
+use Rattle.core_follows.proofs.Slots.{name_same, name_at, put_whole}
 use Rattle.core_follows.proofs.Drops.{touch_more, touch_others, dropping_kept, dropping_more}
 
 -- ---- code at places
@@ -74,6 +73,7 @@ pub holding_none : (slots : Slots) (lo : ℕ) → Holding slots slots lo lo [] [
 holding_none slots lo = record {
   long = refl;
   same = λ s b. refl;
+  whole = λ s w. w;
   dropping = none;
   within = tt;
   names = name_none slots lo;
@@ -87,6 +87,7 @@ holding_more one two three lo mid hi ds es held got l m h k = record {
     | inl x ↦ k.same s (inl (omega arith)) ∙ h.same s (inl x)
     | inr x ↦ k.same s (inr x) ∙ h.same s (inr (omega arith))
   ];
+  whole = λ s w. k.whole s (h.whole s w);
   dropping = dropping_more three lo mid hi ds es held got h.within k.within
       (dropping_kept (Between lo mid) two three ds held h.within (λ s b. k.same s (inl b.1)) h.dropping) k.dropping;
   within = touch_more (Between lo hi) ds es
@@ -94,11 +95,6 @@ holding_more one two three lo mid hi ds es held got l m h k = record {
       (touch_others (Between mid hi) (Between lo hi) es (λ s b. (let x = b.0 in omega (arith, x, l), b.1)) k.within);
   names = name_more three lo mid hi held got l m (name_same two three lo mid held (λ s p q. k.same s (inl q)) h.names) k.names;
 }
-
--- Nothing is held of slots that name nothing.
-pub holding_empty : (slots slots' : Slots) (lo hi : ℕ) → length slots' ≡ length slots
-    → ((s : ℕ) → Beside lo hi s → slot slots' s ≡ slot slots s) → Name slots' lo hi [] → Holding slots slots' lo hi [] []
-holding_empty slots slots' lo hi e same c = record { long = e; same = same; dropping = none; within = tt; names = c }
 
 -- ---- one value comes into its slot
 
@@ -115,6 +111,7 @@ holding_put slots s v own got l o =
     record {
       long = put_long slots s (Holds v);
       same = λ r b. put_other slots s r (Holds v) (λ f. absurd (elim b [ inl x ↦ omega (arith, x, f) | inr x ↦ omega (arith, x, f) ]));
+      whole = put_whole slots s (Holds v) refl;
       dropping = o.dropping (put slots s (Holds v)) e;
       within = o.within;
       names = name_at (put slots s (Holds v)) s got (λ n. ap (λ (x : Slot). slot_names x n) e ∙ o.names n);

@@ -7,6 +7,8 @@ pub mod Moves
 pub mod Nodes
 pub mod Given
 pub mod Works
+pub mod Begins
+pub mod Placing
 pub mod Terms
 pub mod Dropped
 pub mod Blocks

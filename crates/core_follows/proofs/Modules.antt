@@ -26,7 +26,8 @@ use Rattle.limbo_meaning.specs.Program.{terms_before, only_term, way_of, aims_in
 use Rattle.limbo_meaning.specs.Program.{length_term}
 use Rattle.limbo_meaning.specs.Program.{items_of, printed_of, as_printed, operands_at, operands_to, operands_among, operating}
 use Rattle.core_code.specs.Terms.{type_of, type_at}
-use Rattle.core_follows.specs.Handled.{count, Suits, Handled, AllHandled, HandledItems, HandledRest, HasLayout, Takes, types_in}
+use Rattle.core_code.specs.Terms.{types_in}
+use Rattle.core_follows.specs.Handled.{count, Suits, Handled, AllHandled, HandledItems, HandledRest, HasLayout, Takes}
 use Rattle.core_follows.specs.Handled.{IsKnown, IsChannel}
 use Rattle.core_follows.specs.Modules.{IsPart, AllPart, ItemsPart, AdtsAreLaid, PartIf, StmPart, BlockPart, ProgramPart, ModulesKeep}
 use Rattle.core_follows.specs.Follows.{HandledProgram}

@@ -3,13 +3,14 @@ use Rattle.std.proofs.Common.{◌≡◌, ℕ, suc, ◌+◌, ◌-◌, ◌<◌, �
 use Rattle.std.proofs.Common.{refl, sym, ap, subst, ◌∙◌, arith, inl, inr, ⊎_elim, ◌⊎◌}
 use Rattle.std.proofs.lemmas.Bool.{eq-eqb, eqb-true, cases_eq, ltb-true, ltb-false, leb-true, leb-false}
 use Rattle.std.specs.Prelude.{nat_eq, nat_le, nat_lt, if◌then◌else◌}
-use Rattle.core_code.specs.Slots.{Slot, Slots, slot, slot_names}
+use Rattle.core_code.specs.Slots.{Slots, slot}
 use Rattle.core_code.specs.Code.{Instr, Drop, Back}
 use Rattle.core_code.specs.Naming.{reference}
 use Rattle.core_code.specs.Terms.{Moved, is_moved, drop_after, drops_after}
 use Rattle.core_follows.specs.Drops as drops
 use Rattle.core_follows.specs.Drops.{Clean, Between, Apart, Touches, AllTouch, Misses, AllMiss, Spares, AllSpare, Dropping, none}
 use Rattle.core_follows.specs.Drops.{enters, passes, takes}
+use Rattle.core_follows.proofs.Slots.{clean_same}
 use Rattle.core_follows.proofs.Static.{after_touch}
 
 -- Only references of a slot below this number are dropped.
@@ -166,9 +167,9 @@ move_dropping v slots slots' ds got g u sp si (takes {rest = body} c from words 
     let same_es = after_apart v from (from + words) es (λ p q. sp.0.1 p q) te in
     let back = Back (suc (length es)) ∷ is in
     takes c from words n i es (drops_after v is) rs turned later (g.others c (λ q. sp.0.0 (sym q)) (λ q. si.0.0 (sym q)) ∙ e) l wl
-    (λ s p q k. ap (λ (y : Slot). slot_names y k)
-    (g.others s (λ r. sp.0.1 (omega (arith, r, p)) (omega (arith, r, q))) (λ r. si.0.1 (omega (arith, r, p)) (omega (arith, r, q))))
-    ∙ cl s p q k)
+    (clean_same slots slots' from (from + words)
+    (λ s p q. g.others s (λ r. sp.0.1 (omega (arith, r, p)) (omega (arith, r, q))) (λ r. si.0.1 (omega (arith, r, p)) (omega (arith, r, q))))
+    cl)
     te (after_touch (Apart c from words) v is si.0 tj) ts
     (move_dropping v slots slots' is later g ((under_tail v.into v.at es back (subst (AllUnder v.into v.at) f u.1)).1)
     ((spare_tail v.slot es back (subst (AllSpare v.slot) f sp.1)).1) ((spare_tail v.into es back (subst (AllSpare v.into) f si.1)).1) x)

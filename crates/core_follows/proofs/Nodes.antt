@@ -11,7 +11,7 @@ use Rattle.limbo_types.specs.Types.{Ty}
 use Rattle.limbo_layout.specs.Adts.{Def}
 use Rattle.core_follows.specs.Handled.{Fits}
 use Rattle.limbo_typed.specs.declared.print.Piece.{Piece}
-use Rattle.limbo_meaning.specs.Values.{Value, nothing, fitted, references}
+use Rattle.limbo_meaning.specs.Values.{Value, Chars, nothing, fitted, references}
 use Rattle.limbo_meaning.specs.Memory.{Memory}
 use Rattle.limbo_meaning.specs.Exceptions.{Raising}
 use Rattle.limbo_meaning.specs.Formats.{formatted}
@@ -25,11 +25,11 @@ use Rattle.limbo_meaning.specs.Process.{Shared}
 use Rattle.core_code.specs.Slots.{Slot, Holds, Slots, slot, put, value_of, values_of}
 use Rattle.core_code.specs.Code.{Instr, Call, Print}
 use Rattle.core_code.specs.Machine as machine
-use Rattle.core_code.specs.Machine.{Frame, at, memory_of, waiting}
+use Rattle.core_code.specs.Machine.{Frame, at, memory_of, operands, waiting}
 use Rattle.core_code.specs.Terms.{slot_at}
 use Rattle.core_code.specs.Statements.{code_of}
 use Rattle.core_follows.specs.Drops.{Between, Holding}
-use Rattle.core_follows.specs.Stands.{SlotsName, coded, obeys, Stands, Going, obeying, Next, goes}
+use Rattle.core_follows.specs.Stands.{SlotsName, joined, coded, obeys, Stands, Going, obeying, Next, goes}
 use Rattle.core_follows.specs.Stands.{raises, calls, prints, waits, hears}
 use Rattle.core_follows.proofs.Slots.{put_same}
 use Rattle.core_follows.proofs.Holding.{Room, Owns, holding_put}
@@ -45,6 +45,15 @@ pub between_wide : (lo hi lo' hi' : ℕ) (ss : List ℕ) → lo' ≤ lo → hi �
 between_wide lo hi lo' hi' [] l m h = tt
 between_wide lo hi lo' hi' (s ∷ ss) l m h =
     ((let a = h.0.0 in omega arith, let a = h.0.1 in omega arith), between_wide lo hi lo' hi' ss l m h.1)
+
+-- None of the slots is another one of them.
+abbrev pub DiffersFrom : ℕ → List ℕ → Type 0
+DiffersFrom s [] = Unit {0}
+DiffersFrom s (d ∷ ds) = (s ≡ d → ⊥) × DiffersFrom s ds
+
+abbrev pub AllDiffer : List ℕ → Type 0
+AllDiffer [] = Unit {0}
+AllDiffer (s ∷ ss) = DiffersFrom s ss × AllDiffer ss
 
 -- Each of these slots holds its value.
 abbrev pub AllHold : Slots → List ℕ → List Value → Type 0
@@ -206,48 +215,53 @@ module _ (limit : ℕ) (program : Program) where
 
   -- A call: whatever the answer will be, it comes into its slot, and its references are held.
   pub call_goes : (C : Term → Block) → Carries limit program (next program.adts) fill C → (g : Frame) (held : List (Option ℕ))
-      (t : Ty) (f into : ℕ) (from : List ℕ) (vs : List Value) (own : List Instr)
-      → slice_get g.code g.pc ≡ Some (Call t f into from) → Room g.slots into (suc into) held → values_of g.slots from ≡ vs
+      (t : Ty) (f into : ℕ) (o : Option ℕ) (vs : List Value) (own : List Instr)
+      → slice_get g.code g.pc ≡ Some (Call t f into o) → SlotsName g.slots held → Room (joined [] g o).slots into (suc into) held
+      → operands g.slots o ≡ vs
       → ((v : Value) → Owns into (fitted program.adts t v) own (references (fitted program.adts t v)))
-      → Behind t g into (suc into) into (suc g.pc) own held (λ v. C (Evaluated v))
+      → Behind t (joined [] g o) into (suc into) into (suc g.pc) own held (λ v. C (Evaluated v))
       → Going limit program g held (C (Node t (tree.Call f) (evaluated vs)))
-  call_goes C c g held t f into from vs own i room e owns k =
-      obeying (Call t f into from) room.names i
-      (λ w. calls t f into vs (C Awaiting)
-      (λ n below p. ap (λ (xs : List Value). machine.calls program.adts limit w (coded n g below p) t into
+  call_goes C c g held t f into o vs own i names room e owns k =
+      let slots : Slots = (joined [] g o).slots in
+      obeying (Call t f into o) names i
+      (λ w. calls t f into o vs (C Awaiting)
+      (λ n below p. ap (λ (xs : List Value). machine.calls program.adts limit w (coded n (joined [] g o) below p) t into
       (slice_get (code_of program).functions f) xs) e)
       (λ n below. c.calls w g held n below t f vs (Node t (tree.Call f) (evaluated vs)) Awaiting
       (node_next (memory_of w g) t (tree.Call f) vs))
       (waits room.names (λ v.
       let x = fitted program.adts t v in
-      let l : into < length g.slots = let a = room.fits in omega arith in
-      subst (λ (b : Block). Stands limit program (spot g into (suc g.pc) g.variables (put g.slots into (Holds x))) (held ++ references x) b)
+      let l : into < length slots = let a = room.fits in omega arith in
+      subst (λ (b : Block). Stands limit program (spot g into (suc g.pc) g.variables (put slots into (Holds x))) (held ++ references x) b)
       (sym (c.fills x Awaiting))
-      (k into g.variables (put g.slots into (Holds x)) x (references x) (held ++ references x)
-      (holding_put g.slots into x own (references x) l (owns v)) (put_same g.slots into (Holds x) l)
+      (k into g.variables (put slots into (Holds x)) x (references x) (held ++ references x)
+      (holding_put slots into x own (references x) l (owns v)) (put_same slots into (Holds x) l)
       (omega arith, omega arith, inl (v, refl)) refl))))
 
   -- A print, which answers a number.
   pub print_goes : (C : Term → Block) → Carries limit program (next program.adts) fill C → (g : Frame) (held : List (Option ℕ))
-      (t : Ty) (ps : List Piece) (into : ℕ) (from : List ℕ) (vs : List Value)
-      → slice_get g.code g.pc ≡ Some (Print ps into from) → Room g.slots into (suc into) held → values_of g.slots from ≡ vs
+      (t : Ty) (ps : List Piece) (into : ℕ) (o : Option ℕ) (vs : List Value)
+      → slice_get g.code g.pc ≡ Some (Print ps into o) → SlotsName g.slots held
+      → Room (joined (Chars [] ∷ []) g o).slots into (suc into) held
+      → operands g.slots o ≡ vs
       → ((v : system.Value) → Owns into (source.value_of v) [] []) → t ≡ ty.Int
-      → Behind t g into (suc into) into (suc g.pc) [] held (λ v. C (Evaluated v))
+      → Behind t (joined (Chars [] ∷ []) g o) into (suc into) into (suc g.pc) [] held (λ v. C (Evaluated v))
       → Going limit program g held (C (Node t (tree.Print ps) (evaluated vs)))
-  print_goes C c g held t ps into from vs i room e owns et k =
-      obeying (Print ps into from) room.names i
-      (λ w. prints into (formatted ps vs) (C Awaiting)
-      (λ n below p. ap (λ (xs : List Value). machine.prints w (coded n g below p) (waiting g into)
+  print_goes C c g held t ps into o vs i names room e owns et k =
+      let slots : Slots = (joined (Chars [] ∷ []) g o).slots in
+      obeying (Print ps into o) names i
+      (λ w. prints into o (formatted ps vs) (C Awaiting)
+      (λ n below p. ap (λ (xs : List Value). machine.prints w (coded n g below p) (waiting (joined (Chars [] ∷ []) g o) into)
       (print w.outside (formatted ps xs))) e)
       (λ n below. c.prints w g held n below (formatted ps vs)
       (Node t (tree.Print ps) (evaluated vs)) Awaiting
       (node_next (memory_of w g) t (tree.Print ps) vs))
       (hears room.names (λ v.
       let x = source.value_of v in
-      let l : into < length g.slots = let a = room.fits in omega arith in
-      subst (λ (b : Block). Stands limit program (spot g into (suc g.pc) g.variables (put g.slots into (Holds x))) held b)
+      let l : into < length slots = let a = room.fits in omega arith in
+      subst (λ (b : Block). Stands limit program (spot g into (suc g.pc) g.variables (put slots into (Holds x))) held b)
       (sym (c.fills x Awaiting))
-      (k into g.variables (put g.slots into (Holds x)) x [] held
-      (holding_put g.slots into x [] [] l (owns v)) (put_same g.slots into (Holds x) l)
+      (k into g.variables (put slots into (Holds x)) x [] held
+      (holding_put slots into x [] [] l (owns v)) (put_same slots into (Holds x) l)
       (omega arith, omega arith, number_fits program.adts t v et)
       (sym (append-nil held))))))

@@ -15,7 +15,7 @@ use Rattle.core_code.specs.Terms.{Moved, drops_after, moves_out, part_types, cou
 use Rattle.core_code.proofs.Names.{names_put, part_goes, zero_fitted}
 use Rattle.core_follows.specs.Drops.{Between, Beside, AllSpare, Holding}
 use Rattle.core_follows.specs.Handled.{Fits, StandsFor, HasLayout}
-use Rattle.core_follows.proofs.Slots.{put_same, put_other, put_long, total, total_same, total_split, slots_split}
+use Rattle.core_follows.proofs.Slots.{put_same, put_other, put_long, put_whole, total, total_same, total_split, slots_split}
 use Rattle.core_follows.proofs.Static.{after_touch, touch_wide}
 use Rattle.core_follows.proofs.Moves.{Goes_over, move_dropping}
 use Rattle.core_follows.proofs.Gathers.{nth_front, nth_back, under_none, whole_is}
@@ -150,6 +150,7 @@ pick_holding defs u t k one slots lo mid from ws ds got p l h e b sp si w s clea
     record {
       long = put_long out mid x ∙ long_out ∙ h.long;
       same = λ r o. out_same r o ∙ h.same r (elim o [ inl y ↦ inl y | inr y ↦ inr (omega arith) ]);
+      whole = λ r e. put_whole out mid x refl r (put_whole slots from left refl r (h.whole r e));
       dropping = move_dropping m slots last ds got over (under_none lo mid ds h.within) sp si h.dropping;
       within = after_touch (Between lo (suc mid)) m ds (p, omega arith)
           (touch_wide lo mid lo (suc mid) ds (omega arith) (omega arith) h.within);

@@ -3,9 +3,11 @@ use Rattle.std.proofs.Common.{◌≡◌, ℕ, zero, suc, ◌+◌, ◌-◌, ◌<�
 use Rattle.std.proofs.Common.{refl, sym, ap, subst, ◌∙◌, arith, length-set, get_or-set_same, get_or-set_other, inl, inr, ⊎_elim}
 use Rattle.std.proofs.lemmas.Bool.{cases_eq}
 use Rattle.limbo_meaning.specs.Values.{among}
-use Rattle.core_code.specs.Slots.{Slot, Slots, empty, slot, put}
-use Rattle.core_code.specs.Slots.{region, slot_names, region_names, slots_name}
-use Rattle.core_follows.specs.Drops.{Clean, Name, Beside}
+use Rattle.core_code.specs.Slots.{Slot, Slots, Region, NoSlot, MoreSlots, empty, slot, put, region, placed, operands_of}
+use Rattle.core_code.specs.Slots.{slot_names, region_names, slots_name}
+use Rattle.core_code.specs.Naming.{size}
+use Rattle.core_code.proofs.Names.{long_placed}
+use Rattle.core_follows.specs.Drops.{IsWhole, Clean, Name, Beside}
 use Rattle.core_follows.specs.Stands.{SlotsName}
 
 pub among_join : (n : ℕ) (rs ss : List (Option ℕ)) → among n (rs ++ ss) ≡ among n rs + among n ss
@@ -22,6 +24,14 @@ put_other slots s d v e = get_or-set_other slots s d v empty e
 
 pub put_long : (slots : Slots) (s : ℕ) (v : Slot) → length (put slots s v) ≡ length slots
 put_long slots s v = length-set slots s v
+
+-- a whole value comes into a slot
+pub put_whole : (slots : Slots) (s : ℕ) (v : Slot) → IsWhole v → (d : ℕ) → IsWhole (slot slots d) → IsWhole (slot (put slots s v) d)
+put_whole [] s v w d h = h
+put_whole (x ∷ slots) zero v w zero h = w
+put_whole (x ∷ slots) zero v w (suc d) h = h
+put_whole (x ∷ slots) (suc s) v w zero h = h
+put_whole (x ∷ slots) (suc s) v w (suc d) h = put_whole slots s v w d h
 
 -- ---- slots in a row
 
@@ -54,17 +64,22 @@ total_same n slots slots' a (suc k) h =
 pub clean_total : (n : ℕ) (slots : Slots) (a k : ℕ) → Clean slots a (a + k) → total slots a k n ≡ 0
 clean_total n slots a zero c = refl
 clean_total n slots a (suc k) c =
-    let x = c a (omega arith) (omega arith) n in
+    let x = (c a (omega arith) (omega arith)).0 n in
     let y = clean_total n slots (suc a) k (λ s l m. c s (omega arith) (omega arith)) in
     omega arith
 
-pub total_clean : (slots : Slots) (a k : ℕ) → ((n : ℕ) → total slots a k n ≡ 0) → Clean slots a (a + k)
-total_clean slots a zero h s l m n = absurd (omega arith)
-total_clean slots a (suc k) h s l m n = ⊎_elim
+total_none : (slots : Slots) (a k : ℕ) → ((n : ℕ) → total slots a k n ≡ 0) → (s : ℕ) → a ≤ s → s < a + k → (n : ℕ)
+    → slot_names (slot slots s) n ≡ 0
+total_none slots a zero h s l m n = absurd (omega arith)
+total_none slots a (suc k) h s l m n = ⊎_elim
     (λ (e : s ≡ a). let z = h n in let w : slot_names (slot slots a) n ≡ 0 = omega arith in
     subst (λ (s : ℕ). slot_names (slot slots s) n ≡ 0) (sym e) w)
-    (λ (e : s ≡ a → ⊥). total_clean slots (suc a) k (λ n. let z = h n in omega arith) s (omega (arith, e)) (omega arith) n)
+    (λ (e : s ≡ a → ⊥). total_none slots (suc a) k (λ n. let z = h n in omega arith) s (omega (arith, e)) (omega arith) n)
     (cases_eq s a)
+
+pub total_clean : (slots : Slots) (a k : ℕ) → ((n : ℕ) → total slots a k n ≡ 0)
+    → ((s : ℕ) → a ≤ s → s < a + k → IsWhole (slot slots s)) → Clean slots a (a + k)
+total_clean slots a k h w s l m = (total_none slots a k h s l m, w s l m)
 
 total_tail : (n : ℕ) (x : Slot) (slots : Slots) (a k : ℕ) → total (x ∷ slots) (suc a) k n ≡ total slots a k n
 total_tail n x slots a zero = refl
@@ -106,15 +121,30 @@ names_between slots slots' a b held got l m e same c nm h n =
     let r = ap (λ (z : ℕ). total slots' b (z - b) n) e in
     omega arith
 
-pub clean_at : (slots : Slots) (s : ℕ) → ((n : ℕ) → slot_names (slot slots s) n ≡ 0) → Clean slots s (suc s)
-clean_at slots s h r l m n = let e : r ≡ s = omega arith in subst (λ (r : ℕ). slot_names (slot slots r) n ≡ 0) (sym e) (h n)
-
 pub clean_same : (slots slots' : Slots) (a b : ℕ) → ((s : ℕ) → a ≤ s → s < b → slot slots' s ≡ slot slots s) → Clean slots a b
     → Clean slots' a b
-clean_same slots slots' a b same c s l m n = ap (λ (x : Slot). slot_names x n) (same s l m) ∙ c s l m n
+clean_same slots slots' a b same c s l m =
+    let x = c s l m in ((λ n. ap (λ (x : Slot). slot_names x n) (same s l m) ∙ x.0 n), ap operands_of (same s l m) ∙ x.1)
+
+-- Where only slots between change, which named nothing, what they name is what all name in addition.
+pub name_between : (slots slots' : Slots) (a b : ℕ) (held got : List (Option ℕ)) → a ≤ b → b ≤ length slots
+    → length slots' ≡ length slots → ((s : ℕ) → Beside a b s → slot slots' s ≡ slot slots s) → Clean slots a b → SlotsName slots held
+    → SlotsName slots' (held ++ got) → Name slots' a b got
+name_between slots slots' a b held got l m e same c h h' n =
+    let x = slots_split n slots a b l m in
+    let y = slots_split n slots' a b l (omega arith) in
+    let i = total_same n slots slots' 0 a (λ s p q. same s (inl (omega arith))) in
+    let j = total_same n slots slots' b (length slots - b) (λ s p q. same s (inr p)) in
+    let f : a + (b - a) ≡ b = omega arith in
+    let k = clean_total n slots a (b - a) (subst (λ (z : ℕ). Clean slots a z) (sym f) c) in
+    let o = h n in
+    let p = h' n in
+    let q = among_join n held got in
+    let r = ap (λ (z : ℕ). total slots' b (z - b) n) e in
+    omega arith
 
 pub clean_within : (slots : Slots) (a b c d : ℕ) → a ≤ c → d ≤ b → Clean slots a b → Clean slots c d
-clean_within slots a b c d l m h s p q n = h s (omega arith) (omega arith) n
+clean_within slots a b c d l m h s p q = h s (omega arith) (omega arith)
 
 -- ---- what slots between name
 
@@ -148,3 +178,27 @@ pub name_clean : (slots : Slots) (a b : ℕ) → a ≤ b → Clean slots a b →
 name_clean slots a b l c n =
     let e : b ≡ a + (b - a) = omega arith in
     clean_total n slots a (b - a) (subst (λ (z : ℕ). Clean slots a z) e c)
+
+-- ---- a region in its place
+
+pub region_size : (slots : Slots) (a k : ℕ) → size (region slots a k) ≡ k
+region_size slots a zero = refl
+region_size slots a (suc k) = ap suc (region_size slots (suc a) k)
+
+pub placed_region : (base slots : Slots) (a k s : ℕ) → a + k ≤ length base → a ≤ s → s < a + k → slot (placed base a (region slots a k)) s ≡
+    slot slots s
+placed_region base slots a zero s m l lt = absurd (omega arith)
+placed_region base slots a (suc k) s m l lt =
+    let back = placed base (suc a) (region slots (suc a) k) in
+    let long = long_placed base (suc a) (region slots (suc a) k) in
+    ⊎_elim
+    (λ (e : s ≡ a). subst (λ (s : ℕ). slot (put back a (slot slots a)) s ≡ slot slots s) (sym e)
+    (put_same back a (slot slots a) (omega arith)))
+    (λ (e : s ≡ a → ⊥). put_other back a s (slot slots a) e ∙ placed_region base slots (suc a) k s (omega arith) (omega (arith, e))
+    (omega arith))
+    (cases_eq s a)
+
+pub placed_above : (slots : Slots) (a : ℕ) (g : Region) (s : ℕ) → a + size g ≤ s → slot (placed slots a g) s ≡ slot slots s
+placed_above slots a NoSlot s l = refl
+placed_above slots a (MoreSlots x g) s l =
+    put_other (placed slots (suc a) g) a s x (λ e. absurd (omega (arith, e, l))) ∙ placed_above slots (suc a) g s (omega arith)

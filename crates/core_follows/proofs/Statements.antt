@@ -34,7 +34,8 @@ use Rattle.core_follows.specs.Does.{tests, tested_turns, tested_agains, entered_
 use Rattle.core_follows.specs.Does.{tested_at, EnteredAt}
 use Rattle.core_follows.specs.Does.{entered_at}
 use Rattle.core_follows.specs.Stands as stands
-use Rattle.core_follows.specs.Stands.{SlotsName, coded, sourced, beside, sstep, obeys, Quiet, Stands, outside, going, quietly, Going}
+use Rattle.core_follows.specs.Stands.{SlotsName, SlotsWhole, coded, sourced, beside, sstep, obeys, Quiet, Stands, outside, going, quietly}
+use Rattle.core_follows.specs.Stands.{Going}
 use Rattle.core_follows.specs.Stands.{softly, obeying}
 use Rattle.core_follows.specs.Stands.{Next, goes}
 use Rattle.core_follows.proofs.Slots.{total, total_split, total_clean, slots_total}
@@ -46,14 +47,17 @@ use Rattle.core_follows.proofs.Valued.{value_stands}
 use Rattle.core_follows.proofs.Dropped.{slot_number, drops_go}
 use Rattle.core_follows.proofs.Blocks.{does_at, tested_enters, entered_enters}
 
--- Slots that name nothing are clean.
-pub clean_all : (slots : Slots) (hi : ℕ) → SlotsName slots [] → hi ≤ length slots → Clean slots 0 hi
+-- Slots name nothing, and nothing is put together in them: they are clean.
+abbrev pub Empty : Slots → Type 0
+Empty slots = SlotsName slots [] × SlotsWhole slots
+
+pub clean_all : (slots : Slots) (hi : ℕ) → Empty slots → hi ≤ length slots → Clean slots 0 hi
 clean_all slots hi h l = let z : 0 + hi ≡ hi = omega arith in subst (Clean slots 0) z (total_clean slots 0 hi (λ n.
     let e : length slots ≡ hi + (length slots - hi) = omega arith in
     let a = slots_total n slots in
     let b = ap (λ (k : ℕ). total slots 0 k n) e in
     let c = total_split n slots 0 hi (length slots - hi) in
-    let d = h n in omega arith))
+    let d = h.0 n in omega arith) (λ s p q. h.1 s))
 
 holds_number : (v u : Value) → number_of v ≡ number_of u → holds v ≡ holds u
 holds_number v u e = ap operators.holds e
@@ -63,8 +67,8 @@ module _ (limit : ℕ) (program : Program) where
   pub expression_goes : (t : Term) (C : Term → Block) → Carries limit program (next program.adts) fill C
       → ((v : Value) → ends_first (C (Evaluated v)) ≡ true) → (g : Frame) → Handled program.adts t → (lower program.adts 0 t).free ≤
       length g.slots
-      → HasAt g.code g.pc (whole program.adts t) → SlotsName g.slots []
-      → ((j : ℕ) (variables : List Value) (slots : Slots) (v : Value) → length slots ≡ length g.slots → SlotsName slots []
+      → HasAt g.code g.pc (whole program.adts t) → Empty g.slots
+      → ((j : ℕ) (variables : List Value) (slots : Slots) (v : Value) → length slots ≡ length g.slots → Empty slots
       → slot_number slots (lower program.adts 0 t).value ≡ number_of v
       → Stands limit program (spot g j (g.pc + length (whole program.adts t)) variables slots) [] (C (Evaluated v)))
       → Going limit program g [] (C t)
@@ -75,7 +79,7 @@ module _ (limit : ℕ) (program : Program) where
         order = omega arith;
         fits = fits;
         clean = clean_all g.slots x.free names fits;
-        names = names;
+        names = names.0;
       } in
       value_goes limit program t h 0 C c g [] (has_front g.code g.pc x.code x.drops has) room
       (λ j variables slots v got held' y e b eq.
@@ -84,12 +88,12 @@ module _ (limit : ℕ) (program : Program) where
       let r = room_behind g.slots slots 0 x.free x.free x.drops [] got held' (omega arith) (omega arith) room y eq in
       subst (λ (hs : List (Option ℕ)). Stands limit program g1 hs (C (Evaluated v))) same
       (drops_go limit program g1 (C (Evaluated v)) (ends_so v) (length got) 0 x.free (g.pc + length x.code) slots x.drops got []
-      (omega arith)
+      (omega arith) (λ d. y.whole d (names.1 d))
       y.dropping y.within r.fits (has_back g.code g.pc x.code x.drops has) (subst (SlotsName slots) (sym same) r.names)
-      (λ slots2 long same2 names2 numbers.
+      (λ slots2 long same2 names2 whole2 numbers.
       pc_is limit program g j (g.pc + length (x.code ++ x.drops)) (g.pc + length x.code + length x.drops) variables slots2 []
       (C (Evaluated v)) (omega arith)
-      (k j variables slots2 v (long ∙ y.long) names2
+      (k j variables slots2 v (long ∙ y.long) (names2, whole2)
       (numbers x.value (value_stands program.adts t h 0).spares ∙ ap (λ (s : Slot). number_of (value_of s)) e)))))
 
   module _ (g : Frame) (size : ℕ) where
@@ -102,24 +106,24 @@ module _ (limit : ℕ) (program : Program) where
     abbrev D : ℕ → Block → Type 0
     D pc todo = Does program.adts g.code size pc todo
 
-    out : (j pc : ℕ) (variables : List Value) (slots : Slots) (todo : Block) → length slots ≡ size → SlotsName slots [] → D pc todo
+    out : (j pc : ℕ) (variables : List Value) (slots : Slots) (todo : Block) → length slots ≡ size → Empty slots → D pc todo
         → Stands limit program (F j pc variables slots) [] todo
-    out j pc variables slots todo e names d = outside names (subst (λ (n : ℕ). Does program.adts g.code n pc todo) (sym e) d)
+    out j pc variables slots todo e names d = outside names.0 names.1 (subst (λ (n : ℕ). Does program.adts g.code n pc todo) (sym e) d)
 
     -- An instruction that only goes elsewhere.
     control : (j pc pc' : ℕ) (variables : List Value) (slots : Slots) (todo after : Block) (i : Instr) → slice_get g.code pc ≡ Some i
-        → SlotsName slots []
+        → Empty slots
         → ((w : Shared) (n : ℕ) (below : List Frame) (p : Option Writing) → obeys limit program w (coded n (F j pc variables slots) below
         p) i
         ≡ Went w (coded n (at (F j pc variables slots) pc' variables slots) below None))
         → Quiet limit program (F j pc variables slots) [] todo after → Stands limit program (F j pc' variables slots) [] after
         → Going limit program (F j pc variables slots) [] todo
     control j pc pc' variables slots todo after i e names does steps s =
-        obeying i names e (λ w. goes (memory_of w (F j pc variables slots)) pc' slots [] after (does w) (λ n below. steps w n below) s)
+        obeying i names.0 e (λ w. goes (memory_of w (F j pc variables slots)) pc' slots [] after (does w) (λ n below. steps w n below) s)
 
     -- A condition is decided.
     decides_by : (j pc n s : ℕ) (variables : List Value) (slots : Slots) (v : Value) (todo : Block) (after : Bool → Block)
-        → slice_get g.code pc ≡ Some (Unless s n) → SlotsName slots [] → slot_number slots s ≡ number_of v
+        → slice_get g.code pc ≡ Some (Unless s n) → Empty slots → slot_number slots s ≡ number_of v
         → Quiet limit program (F j pc variables slots) [] todo (after (holds v))
         → Stands limit program (F j (suc pc) variables slots) [] (after true)
         → Stands limit program (F j (suc pc + n) variables slots) [] (after false)
@@ -140,9 +144,9 @@ module _ (limit : ℕ) (program : Program) where
             (subst (λ (x : Bool). Quiet limit program (F j pc variables slots) [] todo (after x)) f steps) miss
 
     -- An expression that stands alone.
-    stands_alone : (j pc : ℕ) (variables : List Value) (slots : Slots) (t : Term) (rest : Block) → length slots ≡ size → SlotsName slots []
+    stands_alone : (j pc : ℕ) (variables : List Value) (slots : Slots) (t : Term) (rest : Block) → length slots ≡ size → Empty slots
         → Handled program.adts t → (lower program.adts 0 t).free ≤ size → HasAt g.code pc (whole program.adts t)
-        → ((j : ℕ) (variables : List Value) (slots : Slots) → length slots ≡ size → SlotsName slots []
+        → ((j : ℕ) (variables : List Value) (slots : Slots) → length slots ≡ size → Empty slots
         → Stands limit program (F j (pc + length (whole program.adts t)) variables slots) [] rest)
         → Going limit program (F j pc variables slots) [] (Then (Eval t) rest)
     stands_alone j pc variables slots t rest e names h fits has k =
@@ -155,7 +159,7 @@ module _ (limit : ℕ) (program : Program) where
         → Carries limit program (next program.adts) fill C → ((v : Value) → ends_first (C (Evaluated v)) ≡ true)
         → ((j pc : ℕ) (variables : List Value) (slots : Slots) (v : Value)
         → Quiet limit program (F j pc variables slots) [] (C (Evaluated v)) (after (holds v)))
-        → length slots ≡ size → SlotsName slots [] → Handled program.adts t → (lower program.adts 0 t).free ≤ size
+        → length slots ≡ size → Empty slots → Handled program.adts t → (lower program.adts 0 t).free ≤ size
         → HasAt g.code pc (test program.adts (Some t) n)
         → D (pc + length (test program.adts (Some t) n)) (after true) → D (pc + length (test program.adts (Some t) n) + n) (after false)
         → Going limit program (F j pc variables slots) [] (C t)
@@ -212,7 +216,7 @@ module _ (limit : ℕ) (program : Program) where
     -- The way back, which stands for a step.
     turns_back : (j pc pc' n : ℕ) (variables : List Value) (slots : Slots) (todo after : Block) → slice_get g.code pc ≡ Some (Back n)
         → pc' + n ≡ pc
-        → length slots ≡ size → SlotsName slots [] → Quiet limit program (F j pc variables slots) [] todo after → D pc' after
+        → length slots ≡ size → Empty slots → Quiet limit program (F j pc variables slots) [] todo after → D pc' after
         → Going limit program (F j pc variables slots) [] todo
     turns_back j pc pc' n variables slots todo after i e long names q d =
         control j pc (pc - n) variables slots todo after (Back n) i names (λ w m below p. refl) q
@@ -222,7 +226,7 @@ module _ (limit : ℕ) (program : Program) where
     -- ---- loops that begin with their test
 
     tests_goes : (start : ℕ) (l : LoopIn) (c : Term) (rest : Block) → l.condition ≡ Some c → TestedAt program.adts g.code size start l rest
-        → (j : ℕ) (variables : List Value) (slots : Slots) → length slots ≡ size → SlotsName slots []
+        → (j : ℕ) (variables : List Value) (slots : Slots) → length slots ≡ size → Empty slots
         → Going limit program (F j start variables slots) [] (Then (While c (loop_of l)) rest)
     tests_goes start l c rest ec (tested_at c' ec' h s1 s2 s3 has d x) j variables slots e names =
         let at = tested_at c' ec' h s1 s2 s3 has d x in
@@ -284,7 +288,7 @@ module _ (limit : ℕ) (program : Program) where
     tested_condition start l rest (tested_at c ec h s1 s2 s3 has d x) = (c, ec)
 
     tested_agains_goes : (start : ℕ) (l : LoopIn) (rest : Block) → TestedAt program.adts g.code size start l rest
-        → (j : ℕ) (variables : List Value) (slots : Slots) → length slots ≡ size → SlotsName slots []
+        → (j : ℕ) (variables : List Value) (slots : Slots) → length slots ≡ size → Empty slots
         → Going limit program (F j (tested_back program.adts start l) variables slots) [] (Again (loop_of l) rest)
     tested_agains_goes start l rest at j variables slots e names =
         let b = tested_back_has start l rest at in
@@ -298,7 +302,7 @@ module _ (limit : ℕ) (program : Program) where
 
     tested_turns_goes : (start : ℕ) (l : LoopIn) (rest : Block) (o : Option Term) → l.next ≡ o → TestedAt program.adts g.code size start
         l rest
-        → (j : ℕ) (variables : List Value) (slots : Slots) → length slots ≡ size → SlotsName slots []
+        → (j : ℕ) (variables : List Value) (slots : Slots) → length slots ≡ size → Empty slots
         → Going limit program (F j (tested_turn program.adts start l) variables slots) [] (Turn (loop_of l) rest)
     tested_turns_goes start l rest None en at j variables slots e names =
         let b = tested_back_has start l rest at in
@@ -345,7 +349,7 @@ module _ (limit : ℕ) (program : Program) where
 
     entered_tests_goes : (start : ℕ) (l : LoopIn) (c : Term) (rest : Block) → l.condition ≡ Some c → EnteredAt program.adts g.code size
         start l rest
-        → (j : ℕ) (variables : List Value) (slots : Slots) → length slots ≡ size → SlotsName slots []
+        → (j : ℕ) (variables : List Value) (slots : Slots) → length slots ≡ size → Empty slots
         → Going limit program (F j (entered_test program.adts start l) variables slots) [] (Then (While c (loop_of l)) rest)
     entered_tests_goes start l c rest ec (entered_at h s1 s2 s3 has d x) j variables slots e names =
         let at = entered_at h s1 s2 s3 has d x in
@@ -377,7 +381,7 @@ module _ (limit : ℕ) (program : Program) where
         rest
         → (todo : Block) → ((j pc : ℕ) (variables : List Value) (slots : Slots) → Quiet limit program (F j pc variables slots) [] todo
         (tested (loop_of l) rest))
-        → (j : ℕ) (variables : List Value) (slots : Slots) → length slots ≡ size → SlotsName slots []
+        → (j : ℕ) (variables : List Value) (slots : Slots) → length slots ≡ size → Empty slots
         → Going limit program (F j (entered_test program.adts start l) variables slots) [] todo
     entered_on start l rest None ec at todo q j variables slots e names =
         let b = entered_back_has start l rest at in
@@ -420,7 +424,7 @@ module _ (limit : ℕ) (program : Program) where
 
     entered_turns_goes : (start : ℕ) (l : LoopIn) (rest : Block) (o : Option Term) → l.next ≡ o → EnteredAt program.adts g.code size
         start l rest
-        → (j : ℕ) (variables : List Value) (slots : Slots) → length slots ≡ size → SlotsName slots []
+        → (j : ℕ) (variables : List Value) (slots : Slots) → length slots ≡ size → Empty slots
         → Going limit program (F j (entered_turn program.adts start l) variables slots) [] (Turn (loop_of l) rest)
     entered_turns_goes start l rest None en at j variables slots e names =
         let place : ℕ = entered_turn program.adts start l in
@@ -459,10 +463,10 @@ module _ (limit : ℕ) (program : Program) where
         obeying i names e (λ w. stands.returns v (does w) (λ n below. steps w n below))
 
     pub does_goes : (pc : ℕ) (todo : Block) → D pc todo → (j : ℕ) (variables : List Value) (slots : Slots) → length slots ≡ size
-        → SlotsName slots []
+        → Empty slots
         → Going limit program (F j pc variables slots) [] todo
     does_goes pc todo (ends i) j variables slots e names =
-        returns_goes j pc variables slots Done [] (code.Return None) nothing i names (λ w n below p. refl) (λ w n below. refl)
+        returns_goes j pc variables slots Done [] (code.Return None) nothing i names.0 (λ w n below p. refl) (λ w n below. refl)
     does_goes pc todo (over {rest = rest} d) j variables slots e names =
         softly rest (λ w n below. refl) (does_goes pc rest d j variables slots e names)
     does_goes pc todo (jumps {rest = rest} n i d) j variables slots e names =
@@ -493,7 +497,7 @@ module _ (limit : ℕ) (program : Program) where
           order = omega arith;
           fits = let q = r.1 in omega arith;
           clean = clean_all slots x.free names (let q = r.1 in omega arith);
-          names = names;
+          names = names.0;
         } in
         value_goes limit program t r.0 0 (λ y. Then (tree.Return y) rest) (in_return limit program rest) (F j pc variables slots) []
         (has_front g.code pc x.code last has) room
@@ -506,7 +510,7 @@ module _ (limit : ℕ) (program : Program) where
         below (value_of z)) ev)
         (λ w n below. refl)))
     does_goes pc todo (leaves {rest = rest} i) j variables slots e names =
-        returns_goes j pc variables slots (Then Leave rest) [] (code.Return None) nothing i names (λ w n below p. refl) (λ w n below. refl)
+        returns_goes j pc variables slots (Then Leave rest) [] (code.Return None) nothing i names.0 (λ w n below p. refl) (λ w n below. refl)
     does_goes pc todo (enters {l = l} {rest = rest} d) j variables slots e names =
         softly (entered l rest) (λ w n below. refl) (does_goes pc (entered l rest) d j variables slots e names)
     does_goes pc todo (tests {rest = rest} start l c ec at) j variables slots e names = tests_goes start l c rest ec at j variables slots

@@ -2,6 +2,7 @@
 use Rattle.std.proofs.Common.{◌≡◌, ℕ, ℤ, zero, suc, ◌+◌, ◌-◌, ◌<◌, ◌≤◌, Bool, true, false, ◌||◌, List, [], ◌∷◌, ◌++◌, length, max, Option}
 use Rattle.std.proofs.Common.{refl, sym, ap, subst, ◌∙◌, arith}
 use Rattle.std.specs.Prelude.{if◌then◌else◌}
+use Rattle.limbo_types.specs.Types as ty
 use Rattle.limbo_types.specs.Types.{Ty}
 use Rattle.limbo_layout.specs.Adts.{Def}
 use Rattle.limbo_meaning.specs.Values.{references, zero_of}
@@ -11,9 +12,10 @@ use Rattle.limbo_meaning.specs.Trees.{MoreItems}
 use Rattle.limbo_meaning.specs.Evaluation.{passes_on, may_hold, some_may_hold, work_refers, refers, is_some}
 use Rattle.core_code.specs.Code.{Instr, Drop, Mirror, Take, Back}
 use Rattle.core_code.specs.Terms.{LoweredAll, Moved, is_moved, drop_after, drops_after, drops_after_all, drops_from, drops_if}
-use Rattle.core_code.specs.Terms.{count_of, gives, gathers, cell_drops, slot_at, moves_out, type_at, node, others, lower, lower_all}
+use Rattle.core_code.specs.Terms.{count_of, gives, gathers, cell_drops, slot_at, moves_out, first_of, types_in, node, others, lower}
+use Rattle.core_code.specs.Terms.{lower_all, numbers_from, value_slot, together_drops}
 use Rattle.core_code.specs.Terms.{lower_items, lower_rest, named, items_end, rest_end, part_types, part_numbers, moves_into}
-use Rattle.core_code.proofs.Used.{either_up, end_up, term_up, terms_up, items_up, rest_up}
+use Rattle.core_code.proofs.Used.{value_from, either_up, end_up, term_up, terms_up, items_up, rest_up}
 use Rattle.core_follows.specs.Drops.{Between, Touches, AllTouch}
 use Rattle.core_follows.specs.Handled.{count}
 use Rattle.core_follows.proofs.Drops.{touch_more, touch_others}
@@ -80,35 +82,44 @@ module _ (defs : List Def) where
       touch_more (Between lo (suc l.free)) l.drops _ (touch_wide lo l.free lo (suc l.free) l.drops (omega arith) (omega arith) h)
       (touch_if (Between lo (suc l.free)) (work_refers defs t o) _ (touch_from lo (suc l.free) l.free 0 (count_of defs t) p (omega arith)))
 
-  node_within : (lo : ℕ) (u t : Ty) (o : Work) (l : LoweredAll) → lo ≤ l.free → AllTouch (Between lo l.free) l.drops
-      → AllTouch (Between lo (node defs u t o l).free) (node defs u t o l).drops
-  node_within lo u t (Operate o) l p h = go (passes_on o)
+  together_within : (lo hi : ℕ) (front us : List Ty) (l : LoweredAll) → lo ≤ l.free → l.free < hi → AllTouch (Between lo l.free) l.drops
+      → AllTouch (Between lo hi) (together_drops defs front us l)
+  together_within lo hi front us l p q h =
+      after_all (Between lo hi) defs (front ++ us) l.free (numbers_from defs (length front) (length l.values)) l.values l.drops (p, q)
+      (touch_wide lo l.free lo hi l.drops (omega arith) (omega arith) h)
+
+  node_within : (lo : ℕ) (us : List Ty) (t : Ty) (o : Work) (l : LoweredAll) → lo ≤ l.free → AllTouch (Between lo l.free) l.drops
+      → AllTouch (Between lo (node defs us t o l).free) (node defs us t o l).drops
+  node_within lo us t (Operate o) l p h = go (passes_on o)
     where
       go : (b : Bool) → AllTouch (Between lo (if b then gathers defs t o l else gives defs t (Operate o) l).free)
           (if b then gathers defs t o l else gives defs t (Operate o) l).drops
       go true = after_all (Between lo (suc l.free)) defs (part_types defs t) l.free (part_numbers defs o (length l.values)) l.values l.drops
           (p, omega arith) (touch_wide lo l.free lo (suc l.free) l.drops (omega arith) (omega arith) h)
       go false = gives_within lo t (Operate o) l p h
-  node_within lo u t (tree.Assign aims) l p h = h
-  node_within lo u t (tree.TakePart k) l p h =
-      after_touch (Between lo (suc l.free)) (moves_out defs u k (slot_at 0 l.values) l.free) l.drops (p, omega arith)
+  node_within lo us t (tree.Assign aims) l p h = h
+  node_within lo us t (tree.TakePart k) l p h =
+      after_touch (Between lo (suc l.free)) (moves_out defs (first_of defs us) k (slot_at 0 l.values) l.free) l.drops (p, omega arith)
       (touch_wide lo l.free lo (suc l.free) l.drops (omega arith) (omega arith) h)
-  node_within lo u t tree.Copy l p h = h
-  node_within lo u t tree.Link l p h =
+  node_within lo us t tree.Copy l p h = h
+  node_within lo us t tree.Link l p h =
       let hi = suc (l.free + (length l.values - 1)) in
       touch_more (Between lo hi) l.drops _ (touch_wide lo l.free lo hi l.drops (omega arith) (omega arith) h)
       (touch_cells lo hi (length l.values) l.free p (omega arith))
-  node_within lo u t (tree.Call f) l p h =
-      touch_more (Between lo (suc l.free)) l.drops _ (touch_wide lo l.free lo (suc l.free) l.drops (omega arith) (omega arith) h)
-      (touch_from lo (suc l.free) l.free 0 (count_of defs t) p (omega arith))
-  node_within lo u t (tree.Print ps) l p h = touch_wide lo l.free lo (suc l.free) l.drops (omega arith) (omega arith) h
-  node_within lo u t tree.NewChannel l p h =
+  node_within lo us t (tree.Call f) l p h =
+      let at : ℕ = value_slot defs l in
+      let q = value_from defs l in
+      touch_more (Between lo (suc at)) (together_drops defs [] us l) _ (together_within lo (suc at) [] us l p (omega arith) h)
+      (touch_from lo (suc at) at 0 (count_of defs t) (omega arith) (omega arith))
+  node_within lo us t (tree.Print ps) l p h =
+      let q = value_from defs l in together_within lo (suc (value_slot defs l)) (ty.Chars ∷ []) us l p (omega arith) h
+  node_within lo us t tree.NewChannel l p h =
       touch_more (Between lo (suc l.free)) l.drops _ (touch_wide lo l.free lo (suc l.free) l.drops (omega arith) (omega arith) h)
       ((p, omega arith), tt)
-  node_within lo u t (tree.Literal c) l p h = gives_within lo t (tree.Literal c) l p h
-  node_within lo u t tree.Nil l p h = gives_within lo t tree.Nil l p h
-  node_within lo u t (tree.Read w) l p h = gives_within lo t (tree.Read w) l p h
-  node_within lo u t (tree.Sprint ps) l p h = gives_within lo t (tree.Sprint ps) l p h
+  node_within lo us t (tree.Literal c) l p h = gives_within lo t (tree.Literal c) l p h
+  node_within lo us t tree.Nil l p h = gives_within lo t tree.Nil l p h
+  node_within lo us t (tree.Read w) l p h = gives_within lo t (tree.Read w) l p h
+  node_within lo us t (tree.Sprint ps) l p h = gives_within lo t (tree.Sprint ps) l p h
 
   -- ---- a tree without references has no drops
 
@@ -122,31 +133,36 @@ module _ (defs : List Def) where
   no_if : (b : Bool) (ds is : List Instr) → ds ≡ [] → b ≡ false → ds ++ drops_if b is ≡ []
   no_if b ds is e f = ap (λ (xs : List Instr). xs ++ drops_if b is) e ∙ ap (λ (c : Bool). drops_if c is) f
 
-  node_none : (u t : Ty) (o : Work) (l : LoweredAll) → work_refers defs t o ≡ false → l.drops ≡ [] → (node defs u t o l).drops ≡ []
-  node_none u t (Operate o) l e f = go (passes_on o) e
+  together_none : (front us : List Ty) (l : LoweredAll) → l.drops ≡ [] → together_drops defs front us l ≡ []
+  together_none front us l e =
+      ap (drops_after_all (moves_into defs (front ++ us) l.free (numbers_from defs (length front) (length l.values)) l.values)) e
+      ∙ after_nothing (moves_into defs (front ++ us) l.free (numbers_from defs (length front) (length l.values)) l.values)
+
+  node_none : (us : List Ty) (t : Ty) (o : Work) (l : LoweredAll) → work_refers defs t o ≡ false → l.drops ≡ [] → (node defs us t o l).drops ≡ []
+  node_none us t (Operate o) l e f = go (passes_on o) e
     where
       go : (b : Bool) → (if b then false else refers defs t) ≡ false
           → (if b then gathers defs t o l else gives defs t (Operate o) l).drops ≡ []
       go true g = ap (drops_after_all (moves_into defs (part_types defs t) l.free (part_numbers defs o (length l.values)) l.values)) f
           ∙ after_nothing (moves_into defs (part_types defs t) l.free (part_numbers defs o (length l.values)) l.values)
       go false g = no_if (work_refers defs t (Operate o)) l.drops _ f e
-  node_none u t (tree.Assign aims) l e f = f
-  node_none u t (tree.TakePart k) l e f = ap (drops_after (moves_out defs u k (slot_at 0 l.values) l.free)) f
-  node_none u t tree.Copy l e f = f
-  node_none u t tree.Link l e f = absurd cc
-  node_none u t (tree.Call k) l e f = no_row t l.free l.drops f e
-  node_none u t (tree.Print ps) l e f = f
-  node_none u t tree.NewChannel l e f = absurd cc
-  node_none u t (tree.Literal c) l e f = no_if false l.drops [] f e
-  node_none u t tree.Nil l e f = no_if false l.drops [] f e
-  node_none u t (tree.Read w) l e f = no_if (refers defs t) l.drops _ f e
-  node_none u t (tree.Sprint ps) l e f = no_if false l.drops [] f e
+  node_none us t (tree.Assign aims) l e f = f
+  node_none us t (tree.TakePart k) l e f = ap (drops_after (moves_out defs (first_of defs us) k (slot_at 0 l.values) l.free)) f
+  node_none us t tree.Copy l e f = f
+  node_none us t tree.Link l e f = absurd cc
+  node_none us t (tree.Call k) l e f = no_row t (value_slot defs l) (together_drops defs [] us l) (together_none [] us l f) e
+  node_none us t (tree.Print ps) l e f = together_none (ty.Chars ∷ []) us l f
+  node_none us t tree.NewChannel l e f = absurd cc
+  node_none us t (tree.Literal c) l e f = no_if false l.drops [] f e
+  node_none us t tree.Nil l e f = no_if false l.drops [] f e
+  node_none us t (tree.Read w) l e f = no_if (refers defs t) l.drops _ f e
+  node_none us t (tree.Sprint ps) l e f = no_if false l.drops [] f e
 
   mutual
     pub no_drops : (lo : ℕ) (t : Term) → may_hold defs t ≡ false → (lower defs lo t).drops ≡ []
     no_drops lo (Evaluated v) e = refl
     no_drops lo (Node t o ts) e =
-        node_none (type_at defs 0 ts) t o (lower_all defs lo ts) (or_left (work_refers defs t o) (some_may_hold defs ts) e)
+        node_none (types_in defs ts) t o (lower_all defs lo ts) (or_left (work_refers defs t o) (some_may_hold defs ts) e)
         (none_dropped lo ts (or_right (work_refers defs t o) (some_may_hold defs ts) e))
     no_drops lo (Lazy c l r) e =
         no_if (may_hold defs r) (lower defs lo l).drops _ (no_drops lo l (or_left (may_hold defs l) (may_hold defs r) e))
@@ -205,7 +221,7 @@ module _ (defs : List Def) where
     pub drops_within : (lo : ℕ) (t : Term) → AllTouch (Between lo (lower defs lo t).free) (lower defs lo t).drops
     drops_within lo (Evaluated v) = tt
     drops_within lo (Node t o ts) =
-        node_within lo (type_at defs 0 ts) t o (lower_all defs lo ts) (terms_up defs lo ts) (all_within lo ts)
+        node_within lo (types_in defs ts) t o (lower_all defs lo ts) (terms_up defs lo ts) (all_within lo ts)
     drops_within lo (Lazy c l r) =
         let a = lower defs lo l in
         let b = lower defs (suc a.free) r in

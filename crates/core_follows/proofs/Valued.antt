@@ -2,6 +2,7 @@
 use Rattle.std.proofs.Common.{◌≡◌, ℕ, zero, suc, ◌+◌, ◌-◌, ◌<◌, ◌≤◌, Bool, true, false, List, [], ◌∷◌, ◌++◌, length}
 use Rattle.std.proofs.Common.{sym, ap, subst, arith, inl, inr, ⊎_elim}
 use Rattle.std.specs.Prelude.{if◌then◌else◌}
+use Rattle.limbo_types.specs.Types as ty
 use Rattle.limbo_types.specs.Types.{Ty}
 use Rattle.limbo_layout.specs.Adts.{Def}
 use Rattle.limbo_typed.specs.declared.operation.Given.{Given}
@@ -11,18 +12,18 @@ use Rattle.limbo_meaning.specs.Trees.{Work, Operate, Term, Evaluated, Node, Lazy
 use Rattle.limbo_meaning.specs.Evaluation.{may_hold, work_refers, operands_for}
 use Rattle.core_code.specs.Code.{Drop}
 use Rattle.core_code.specs.Code.{Instr, Take}
-use Rattle.core_code.specs.Terms.{Lowered, LoweredAll, drops_from, drops_if, count_of, gives, gathers, cell_drops, slot_at, type_at}
-use Rattle.core_code.specs.Terms.{node, lower, moves_out}
+use Rattle.core_code.specs.Terms.{Lowered, LoweredAll, drops_from, drops_if, count_of, gives, gathers, cell_drops, slot_at, types_in}
+use Rattle.core_code.specs.Terms.{node, lower, first_of, moves_out, numbers_from, value_slot, together_drops}
 use Rattle.core_code.specs.Terms.{lower_all, given_slot}
 use Rattle.std.specs.Prelude.{max}
 use Rattle.core_code.specs.Terms.{lower_items, lower_rest, items_end, rest_end, named}
-use Rattle.core_code.proofs.Used.{end_up, items_up, rest_up, term_up, terms_up}
+use Rattle.core_code.proofs.Used.{value_from, end_up, items_up, rest_up, term_up, terms_up}
 use Rattle.core_follows.specs.Drops.{Between, Beside, Touches, AllTouch, Spares, AllSpare}
 use Rattle.core_follows.specs.Handled.{count, Suits, Declares, Handled, AllHandled}
 use Rattle.core_follows.proofs.Static.{items_within, rest_within, drops_within, all_within, values_counted}
 use Rattle.core_code.specs.Terms.{Moved, is_moved, drop_after, drops_after, drops_after_all, moves_into, part_types, part_numbers}
 use Rattle.core_code.specs.Code.{Mirror}
-use Rattle.core_code.specs.Naming.{DiffersFrom, AllDiffer}
+use Rattle.core_follows.proofs.Nodes.{DiffersFrom, AllDiffer}
 
 spare_one : (lo hi s : ℕ) (i : Instr) → Beside lo hi s → Touches (Between lo hi) i → Spares s i
 spare_one lo hi s (Take c from words n) b t = (
@@ -106,13 +107,20 @@ module _ (defs : List Def) where
         (spare_if l.free (work_refers defs t o) _ (spare_from l.free l.free 0 (count_of defs t)));
   }
 
-  node_valued : (lo : ℕ) (u t : Ty) (o : Work) (ts : Terms) (l : LoweredAll) → lo ≤ l.free → AllTouch (Between lo l.free) l.drops
+  together_spares : (lo : ℕ) (front us : List Ty) (l : LoweredAll) → AllTouch (Between lo l.free) l.drops
+      → AllSpare (value_slot defs l) (together_drops defs front us l)
+  together_spares lo front us l w =
+      spare_after_all (value_slot defs l) (moves_into defs (front ++ us) l.free (numbers_from defs (length front) (length l.values)) l.values)
+      l.drops
+      (spare_outside lo l.free (value_slot defs l) l.drops (inr (value_from defs l)) w)
+
+  node_valued : (lo : ℕ) (us : List Ty) (t : Ty) (o : Work) (ts : Terms) (l : LoweredAll) → lo ≤ l.free → AllTouch (Between lo l.free) l.drops
       → length l.values ≡ count ts
-      → AllValued lo l.free l.drops l.values → Suits defs t o ts → Valued lo (node defs u t o l)
-  node_valued lo u t (Operate o) ts l p w e v (inl s) =
+      → AllValued lo l.free l.drops l.values → Suits defs t o ts → Valued lo (node defs us t o l)
+  node_valued lo us t (Operate o) ts l p w e v (inl s) =
       subst (λ (b : Bool). Valued lo (if b then gathers defs t o l else gives defs t (Operate o) l)) (sym s)
       (gives_valued lo t (Operate o) l p w)
-  node_valued lo u t (Operate o) ts l p w e v (inr s) =
+  node_valued lo us t (Operate o) ts l p w e v (inr s) =
       subst (λ (b : Bool). Valued lo (if b then gathers defs t o l else gives defs t (Operate o) l)) (sym s.0)
       (record {
         between = (p, omega arith);
@@ -120,37 +128,39 @@ module _ (defs : List Def) where
             l.drops
             (spare_outside lo l.free l.free l.drops (inr (omega arith)) w);
       })
-  node_valued lo u t (tree.Assign aims) ts l p w e v s =
+  node_valued lo us t (tree.Assign aims) ts l p w e v s =
       let x = valued_at lo l.free l.drops l.values (operands_for aims) (omega (arith, e, s)) v in record { between = x.0; spares = x.1 }
-  node_valued lo u t (tree.TakePart k) ts l p w e v s = record {
+  node_valued lo us t (tree.TakePart k) ts l p w e v s = record {
     between = (p, omega arith);
-    spares = spare_after_one l.free (moves_out defs u k (slot_at 0 l.values) l.free) l.drops
+    spares = spare_after_one l.free (moves_out defs (first_of defs us) k (slot_at 0 l.values) l.free) l.drops
         (spare_outside lo l.free l.free l.drops (inr (omega arith)) w);
   }
-  node_valued lo u t tree.Copy ts l p w e v s =
+  node_valued lo us t tree.Copy ts l p w e v s =
       let x = valued_at lo l.free l.drops l.values 2 (omega (arith, e, s)) v in record { between = x.0; spares = x.1 }
-  node_valued lo u t tree.Link ts l p w e v s =
+  node_valued lo us t tree.Link ts l p w e v s =
       let at = l.free + (length l.values - 1) in
       record {
         between = (omega arith, omega arith);
         spares = spare_more at l.drops _ (spare_outside lo l.free at l.drops (inr (omega arith)) w)
             (spare_cells at (length l.values) l.free);
       }
-  node_valued lo u t (tree.Call f) ts l p w e v s = record {
-    between = (p, omega arith);
-    spares = spare_more l.free l.drops _ (spare_outside lo l.free l.free l.drops (inr (omega arith)) w)
-        (spare_from l.free l.free 0 (count_of defs t));
-  }
-  node_valued lo u t (tree.Print ps) ts l p w e v s =
-      record { between = (p, omega arith); spares = spare_outside lo l.free l.free l.drops (inr (omega arith)) w }
-  node_valued lo u t tree.NewChannel ts l p w e v s = record {
+  node_valued lo us t (tree.Call f) ts l p w e v s =
+      let at : ℕ = value_slot defs l in
+      let q = value_from defs l in
+      record {
+        between = (omega arith, omega arith);
+        spares = spare_more at (together_drops defs [] us l) _ (together_spares lo [] us l w) (spare_from at at 0 (count_of defs t));
+      }
+  node_valued lo us t (tree.Print ps) ts l p w e v s =
+      let q = value_from defs l in record { between = (omega arith, omega arith); spares = together_spares lo (ty.Chars ∷ []) us l w }
+  node_valued lo us t tree.NewChannel ts l p w e v s = record {
     between = (p, omega arith);
     spares = spare_more l.free l.drops _ (spare_outside lo l.free l.free l.drops (inr (omega arith)) w) (tt, tt);
   }
-  node_valued lo u t (tree.Literal c) ts l p w e v s = gives_valued lo t (tree.Literal c) l p w
-  node_valued lo u t tree.Nil ts l p w e v s = gives_valued lo t tree.Nil l p w
-  node_valued lo u t (tree.Read r) ts l p w e v s = gives_valued lo t (tree.Read r) l p w
-  node_valued lo u t (tree.Sprint ps) ts l p w e v s = gives_valued lo t (tree.Sprint ps) l p w
+  node_valued lo us t (tree.Literal c) ts l p w e v s = gives_valued lo t (tree.Literal c) l p w
+  node_valued lo us t tree.Nil ts l p w e v s = gives_valued lo t tree.Nil l p w
+  node_valued lo us t (tree.Read r) ts l p w e v s = gives_valued lo t (tree.Read r) l p w
+  node_valued lo us t (tree.Sprint ps) ts l p w e v s = gives_valued lo t (tree.Sprint ps) l p w
 
   declared_valued : (lo : ℕ) (t : Ty) (o : Work) (ts : Terms) → Declares o ts → Valued lo (lower defs lo (Node t o ts))
   declared_valued lo t (tree.Assign (a ∷ aims)) (MoreTerms (Evaluated v) NoTerms) d =
@@ -166,7 +176,7 @@ module _ (defs : List Def) where
   mutual
     pub value_stands : (t : Term) → Handled defs t → (lo : ℕ) → Valued lo (lower defs lo t)
     value_stands (Node t o ts) h lo = ⊎_elim
-        (λ (x : Suits defs t o ts × AllHandled defs ts). node_valued lo (type_at defs 0 ts) t o ts (lower_all defs lo ts)
+        (λ (x : Suits defs t o ts × AllHandled defs ts). node_valued lo (types_in defs ts) t o ts (lower_all defs lo ts)
         (terms_up defs lo ts)
         (all_within defs lo ts) (values_counted defs lo ts) (values_stand ts x.1 lo) x.0)
         (λ (x : Declares o ts). declared_valued lo t o ts x) h

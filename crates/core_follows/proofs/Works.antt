@@ -11,7 +11,6 @@ use Rattle.limbo_types.specs.Types.{Ty}
 use Rattle.limbo_layout.specs.Adts.{Def}
 use Rattle.core_follows.specs.Handled.{Fits, AllFit, IsChannel, IsList}
 use Rattle.core_follows.proofs.Nodes.{Placed, hold_long}
-use Rattle.limbo_typed.specs.declared.print.Piece.{Piece}
 use Rattle.limbo_meaning.specs.Values.{Value, Num, Ref, fitted, name_of, number_of, part_of}
 use Rattle.limbo_meaning.specs.Memory.{Memory, Cell, Channel, made, next_name}
 use Rattle.limbo_meaning.specs.Exceptions.{Raising}
@@ -41,9 +40,8 @@ use Rattle.core_follows.proofs.Holding.{Room, room_behind, Owns, holding_none, h
 use Rattle.core_follows.proofs.Contexts.{Carries}
 use Rattle.core_follows.proofs.Nodes.{between_wide, AllBetween, AllHold, hold_same, hold_values, hold_at, hold_reverse, between_at}
 use Rattle.core_follows.proofs.Nodes.{between_reverse}
-use Rattle.core_follows.proofs.Nodes.{values_take, values_drop, evaluated, node_next, spot, pc_is, store_goes, gives_always, call_goes}
-use Rattle.core_follows.proofs.Nodes.{print_goes}
-use Rattle.core_follows.proofs.Given.{Both, gave, Gives, given, give_goes, owns_row, owns_none, counted}
+use Rattle.core_follows.proofs.Nodes.{values_take, values_drop, evaluated, node_next, spot, pc_is, store_goes, gives_always}
+use Rattle.core_follows.proofs.Given.{Both, gave, Gives, given, give_goes, owns_row, owns_none}
 use Rattle.limbo_meaning.specs.Values.{nothing}
 use Rattle.std.specs.Prelude.{zero}
 
@@ -113,25 +111,8 @@ module _ (limit : ℕ) (program : Program) where
       (λ j variables slots v got held' h e b eq. pc_is limit program g j (g.pc + 1) (suc g.pc) variables slots held' (C (Evaluated v))
       (sym (one_more g.pc)) (k j variables slots v got held' h e (p, b.1, b.2) eq))
 
-  pub own_call : (lo mid : ℕ) (t : Ty) (f : ℕ) (ss : List ℕ) (Ts : List Ty) → lo ≤ mid
-      → Own (Going limit program) lo mid (suc mid) mid Ts t t (tree.Call f) ss (Call t f mid ss ∷ [])
-      (drops_from mid 0 (count_of program.adts t))
-  own_call lo mid t f ss Ts p C c g held vs has room hold bs fs k =
-      call_goes limit program C c g held t f mid ss vs (drops_from mid 0 (count_of program.adts t)) has.0 room
-      (hold_values g.slots ss vs hold)
-      (λ v. owns_row mid (fitted program.adts t v) (count_of program.adts t) (counted program.adts t v))
-      (λ j variables slots v got held' h e b eq. pc_is limit program g j (g.pc + 1) (suc g.pc) variables slots held' (C (Evaluated v))
-      (sym (one_more g.pc)) (k j variables slots v got held' h e (p, b.1, b.2) eq))
-
-  number_owns : (mid : ℕ) (v : system.Value) → Owns mid (source.value_of v) [] []
+  pub number_owns : (mid : ℕ) (v : system.Value) → Owns mid (source.value_of v) [] []
   number_owns mid (system.Num z) = owns_none mid (Num z) (λ n. refl)
-
-  pub own_print : (lo mid : ℕ) (t : Ty) (ps : List Piece) (ss : List ℕ) (Ts : List Ty) → t ≡ ty.Int → lo ≤ mid
-      → Own (Going limit program) lo mid (suc mid) mid Ts t t (tree.Print ps) ss (Print ps mid ss ∷ []) []
-  own_print lo mid t ps ss Ts et p C c g held vs has room hold bs fs k =
-      print_goes limit program C c g held t ps mid ss vs has.0 room (hold_values g.slots ss vs hold) (number_owns mid) et
-      (λ j variables slots v got held' h e b eq. pc_is limit program g j (g.pc + 1) (suc g.pc) variables slots held' (C (Evaluated v))
-      (sym (one_more g.pc)) (k j variables slots v got held' h e (p, b.1, b.2) eq))
 
   -- ---- assignments
 

@@ -1,14 +1,22 @@
 -- What the drops at the end of a statement let go, read off the slots.
 use Rattle.std.specs.Prelude.{◌≡◌, ℕ, suc, pos, ◌+◌, ◌-◌, ◌<◌, ◌≤◌, ◌⊎◌, List, [], ◌∷◌, ◌++◌, length, Option, Some, None, slice_get}
 use Rattle.limbo_meaning.specs.Values.{Num, among}
-use Rattle.core_code.specs.Slots.{Holds, Turns, Region, Regions, NoRegion, MoreRegions, Slots, slot, placed, region, slot_names}
-use Rattle.core_code.specs.Slots.{region_names}
+use Rattle.core_code.specs.Slots.{Slot, Holds, Turns, Region, NoSlot, MoreSlots, Regions, NoRegion, MoreRegions, Slots, slot, placed}
+use Rattle.core_code.specs.Slots.{region, operands_of, slot_names, region_names}
 use Rattle.core_code.specs.Code.{Instr, Drop, Mirror, Take, Back}
 use Rattle.core_code.specs.Naming.{reference, size}
 
--- No slot from one on, and below another, names anything.
+-- No operands are there of anything that is put together in a slot; in none of a region.
+abbrev pub IsWhole : Slot → Type 0
+IsWhole s = operands_of s ≡ []
+
+abbrev pub AllWhole : Region → Type 0
+AllWhole NoSlot = Unit {0}
+AllWhole (MoreSlots s g) = IsWhole s × AllWhole g
+
+-- No slot from one on, and below another, names anything, nor is anything put together there.
 abbrev pub Clean : Slots → (from to : ℕ) → Type 0
-Clean slots a b = (s : ℕ) → a ≤ s → s < b → (n : ℕ) → slot_names (slot slots s) n ≡ 0
+Clean slots a b = (s : ℕ) → a ≤ s → s < b → ((n : ℕ) → slot_names (slot slots s) n ≡ 0) × IsWhole (slot slots s)
 
 -- These slots name what is held, each as often.
 abbrev pub Name : Slots → (from to : ℕ) → List (Option ℕ) → Type 0
@@ -85,14 +93,15 @@ mutual
     last : {from words : ℕ} {es : List Instr} → HasTurns from words es NoRegion (None ∷ [])
     more : {from words : ℕ} {es : List Instr} {g : Region} {rs : Regions} (held turned : List (Option ℕ)) → size g ≡ words
         → ((slots : Slots) → from + words ≤ length slots → Dropping (placed slots from g) es held)
-        → ((n : ℕ) → region_names g n ≡ among n held) → HasTurns from words es rs turned
+        → ((n : ℕ) → region_names g n ≡ among n held) → AllWhole g → HasTurns from words es rs turned
         → HasTurns from words es (MoreRegions g rs) (None ∷ (held ++ turned))
 
--- What an evaluation left in its slots, from one on and below another: as many slots as before, all others as they were, and drops for all
--- that these name.
+-- What an evaluation left in its slots, from one on and below another: as many slots as before, all others as they were, nothing that isn't
+-- whole where all was whole, and drops for all that these name.
 pub record Holding (before slots : Slots) (lo hi : ℕ) (drops : List Instr) (held : List (Option ℕ)) : Type 0 where
   pub long : length slots ≡ length before
   pub same : (s : ℕ) → Beside lo hi s → slot slots s ≡ slot before s
+  pub whole : (s : ℕ) → IsWhole (slot before s) → IsWhole (slot slots s)
   pub dropping : Dropping slots drops held
   pub within : AllTouch (Between lo hi) drops
   pub names : Name slots lo hi held

@@ -13,7 +13,7 @@ use Rattle.limbo_meaning.specs.Trees.{Update, Fill, Terms, NoTerms}
 use Rattle.limbo_meaning.specs.Trees.{MoreTerms, Items, NoItems, MoreItems}
 use Rattle.limbo_meaning.specs.Trees.{Stm, Over, Eval, If, While, Enter, Break, Continue, Return, Leave, Loop, Looping, Block, Done}
 use Rattle.limbo_meaning.specs.Trees.{Then, Turn, Again}
-use Rattle.core_code.specs.Terms.{type_of, type_at, part_types}
+use Rattle.core_code.specs.Terms.{type_at, types_in, part_types}
 use Rattle.limbo_meaning.specs.Evaluation.{passes_on, operands_for}
 
 abbrev pub count : Terms → ℕ
@@ -59,10 +59,6 @@ IsList (ty.ListOf t) = Unit {0}
 IsList t = ⊥
 
 module _ (defs : List Def) where
-  abbrev pub types_in : Terms → List Ty
-  types_in NoTerms = []
-  types_in (MoreTerms t ts) = type_of defs t ∷ types_in ts
-
   -- Types whose values have their parts: tuples, and adts that have a layout.
   abbrev pub HasLayout : Ty → Type 0
   HasLayout (ty.Tuple us) = Unit {0}
@@ -89,7 +85,7 @@ module _ (defs : List Def) where
 
   -- An assignment has its value behind the operands of its places, and a copy three operands.
   abbrev pub Suits : Ty → Work → Terms → Type 0
-  Suits t (Operate o) ts = (passes_on o ≡ false) ⊎ ((passes_on o ≡ true) × Makes t o (types_in ts))
+  Suits t (Operate o) ts = (passes_on o ≡ false) ⊎ ((passes_on o ≡ true) × Makes t o (types_in defs ts))
   Suits t (Assign aims) ts = operands_for aims < count ts
   Suits t (TakePart k) ts = Takes (type_at defs 0 ts) k t
   Suits t Copy ts = 2 < count ts

@@ -1,11 +1,11 @@
 -- When a frame of the code stands for one of the program.
-use Rattle.std.specs.Prelude.{◌≡◌, ℕ, ◌<◌, List, [], ◌++◌, length, Option, Some, None, slice_get}
+use Rattle.std.specs.Prelude.{◌≡◌, ℕ, ◌<◌, List, [], ◌∷◌, ◌++◌, length, Option, Some, None, slice_get}
 use Rattle.process_model.specs.Process.{Went, Ends}
 use Rattle.limbo_types.specs.Types.{Ty}
 use Rattle.system_model.specs.Values as system
 use Rattle.system_model.specs.Prints.{Writing, print}
 use Rattle.system_model.specs.Ending.{Broken}
-use Rattle.limbo_meaning.specs.Values.{Value, references, among, fitted}
+use Rattle.limbo_meaning.specs.Values.{Value, Chars, references, among, fitted}
 use Rattle.limbo_meaning.specs.Memory.{Memory}
 use Rattle.limbo_meaning.specs.Trees.{Block}
 use Rattle.limbo_meaning.specs.Evaluation.{fill_block}
@@ -13,11 +13,12 @@ use Rattle.limbo_meaning.specs.Program.{Program}
 use Rattle.limbo_meaning.specs.Process as source
 use Rattle.limbo_meaning.specs.Process.{Shared, shared_with}
 use Rattle.limbo_meaning.specs.Step as source_step
-use Rattle.core_code.specs.Slots.{Slots, slots_name}
-use Rattle.core_code.specs.Code.{Instr, Known, Start, Keep, Back}
+use Rattle.core_code.specs.Slots.{Slots, slot, slots_name}
+use Rattle.core_code.specs.Code.{Instr, Place, Known, Start, Keep, Back}
 use Rattle.core_code.specs.Machine as machine
-use Rattle.core_code.specs.Machine.{Frame, at, waiting, answered}
+use Rattle.core_code.specs.Machine.{Frame, at, together, waiting, answered}
 use Rattle.core_code.specs.Statements.{code_of}
+use Rattle.core_follows.specs.Drops.{IsWhole}
 use Rattle.core_follows.specs.Does.{Does}
 
 -- ---- both processes
@@ -35,12 +36,21 @@ coded n g below p = record { number = n; frame = g; below = below; printing = p 
 abbrev pub SlotsName : Slots → List (Option ℕ) → Type 0
 SlotsName slots held = (n : ℕ) → slots_name slots n ≡ among n held
 
+-- In no slot anything is put together.
+abbrev pub SlotsWhole : Slots → Type 0
+SlotsWhole slots = (s : ℕ) → IsWhole (slot slots s)
+
+-- The frame whose operands are together as one value, where there are any; the value may have others in front.
+abbrev pub joined : (front : List Value) → Frame → Option ℕ → Frame
+joined front g o = at g g.pc g.variables (together front g.slots o)
+
 -- ---- the pace
 
--- Instructions that may stand for no step: a value that is known, the start of a loop of an initialiser, what a turn of it keeps, and the
--- way back behind that. The others stand for one; of three in a row one is such.
+-- Instructions that may stand for no step: an operand that moves to what is put together, a value that is known, the start of a loop of an
+-- initialiser, what a turn of it keeps, and the way back behind that. The others stand for one; of three in a row one is such.
 abbrev pub place : Instr → ℕ
-place (Known v s) = 0
+place (Place t v k part into from) = 0
+place (Known v s) = 1
 place (Start loop) = 0
 place (Keep loop from words) = 0
 place (Back n) = 1
@@ -68,7 +78,8 @@ module _ (limit : ℕ) (program : Program) where
   -- slots name what the frame of the program holds, each as often.
   mutual
     pub data Stands : Frame → List (Option ℕ) → Block → Type 0 where
-      outside : {g : Frame} {todo : Block} → SlotsName g.slots [] → Does program.adts g.code (length g.slots) g.pc todo → Stands g [] todo
+      outside : {g : Frame} {todo : Block} → SlotsName g.slots [] → SlotsWhole g.slots
+          → Does program.adts g.code (length g.slots) g.pc todo → Stands g [] todo
       going : {g : Frame} {held : List (Option ℕ)} {todo : Block} → Going g held todo → Stands g held todo
       quietly : {g : Frame} {held : List (Option ℕ)} {todo : Block} (after : Block) → Quiet g held todo after → Stands g held after
           → Stands g held todo
@@ -96,22 +107,24 @@ module _ (limit : ℕ) (program : Program) where
           → ((n : ℕ) (below : List Frame) (p : Option Writing) → obeys w (coded n g below p) i ≡ Ends w (Broken text))
           → ((n : ℕ) (below : List source.Frame) → sstep w (sourced n (beside g held todo) below) ≡ Ends w (Broken text))
           → Next w g held todo i
-      calls : {w : Shared} {g : Frame} {held : List (Option ℕ)} {todo : Block} {i : Instr} (t : Ty) (f into : ℕ) (arguments : List Value)
-          (waits : Block)
+      calls : {w : Shared} {g : Frame} {held : List (Option ℕ)} {todo : Block} {i : Instr} (t : Ty) (f into : ℕ) (o : Option ℕ)
+          (arguments : List Value) (waits : Block)
           → ((n : ℕ) (below : List Frame) (p : Option Writing)
           → obeys w (coded n g below p) i
-          ≡ machine.calls program.adts limit w (coded n g below p) t into (slice_get (code_of program).functions f) arguments)
+          ≡ machine.calls program.adts limit w (coded n (joined [] g o) below p) t into (slice_get (code_of program).functions f) arguments)
           → ((n : ℕ) (below : List source.Frame)
           → sstep w (sourced n (beside g held todo) below)
           ≡ source.calls program.adts limit w (sourced n (beside g held todo) below) waits t (slice_get program.routines f) arguments)
-          → Waits (waiting g into) t held waits → Next w g held todo i
-      prints : {w : Shared} {g : Frame} {held : List (Option ℕ)} {todo : Block} {i : Instr} (into : ℕ) (text : List ℕ) (waits : Block)
+          → Waits (waiting (joined [] g o) into) t held waits → Next w g held todo i
+      prints : {w : Shared} {g : Frame} {held : List (Option ℕ)} {todo : Block} {i : Instr} (into : ℕ) (o : Option ℕ) (text : List ℕ)
+          (waits : Block)
           → ((n : ℕ) (below : List Frame) (p : Option Writing)
-          → obeys w (coded n g below p) i ≡ machine.prints w (coded n g below p) (waiting g into) (print w.outside text))
+          → obeys w (coded n g below p) i
+          ≡ machine.prints w (coded n g below p) (waiting (joined (Chars [] ∷ []) g o) into) (print w.outside text))
           → ((n : ℕ) (below : List source.Frame)
           → sstep w (sourced n (beside g held todo) below)
           ≡ source.prints w (sourced n (beside g held todo) below) waits (print w.outside text))
-          → Hears (waiting g into) held waits → Next w g held todo i
+          → Hears (waiting (joined (Chars [] ∷ []) g o) into) held waits → Next w g held todo i
       returns : {w : Shared} {g : Frame} {held : List (Option ℕ)} {todo : Block} {i : Instr} (v : Value)
           → ((n : ℕ) (below : List Frame) (p : Option Writing)
           → obeys w (coded n g below p) i ≡ machine.returns program.adts w (coded n g below p) below v)

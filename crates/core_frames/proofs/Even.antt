@@ -22,7 +22,8 @@ use Rattle.core_frames.specs.Sizes as size
 use Rattle.core_frames.specs.Sizes.{node_size, expr_size, inner_size, exprs_size, optional_size, held_size, greatest, rest_held}
 use Rattle.core_frames.specs.Sizes.{way_size, pattern_size, patterns_size, some_size, stmt_size, stmts_size, declared_size, types_in}
 use Rattle.core_frames.specs.Sizes.{laid_size}
-use Rattle.core_frames.specs.Fits.{NoSlots, number, count, cells, list_slots, own_slots, slots_of, all_slots, held_slots, alone_slots}
+use Rattle.core_frames.specs.Fits.{Slot, Value, NoSlots, number, count, cells, list_slots, called_slots, own_slots, slots_of, all_slots}
+use Rattle.core_frames.specs.Fits.{held_slots, alone_slots}
 use Rattle.core_frames.specs.Fits.{rest_slots, rest_alone, slots_if, stm_slots, block_slots}
 use Rattle.core_code.specs.Statements.{function_of}
 use Rattle.core_frames.specs.Even.{used, all_used, EvenSlotsFit}
@@ -59,6 +60,11 @@ module _ (defs : List Def) where
   own_few t operation.List n = list_few t n
   own_few t _ n = omega arith
 
+  -- the slots of a call and of a print, of as many operands
+  called_few : (s : Slot) (n : ℕ) → (number (called_slots s n) ≤ 1 + n) × (number (called_slots s n) ≤ 2)
+  called_few s zero = (omega arith, omega arith)
+  called_few s (suc k) = (omega arith, omega arith)
+
   -- a byte that is printed is converted
   as_printed_few : (t : Ty) (x : Term) (n : ℕ) → Small x n → B (as_printed t x) ≤ n
   as_printed_few ty.Byte x n l = omega arith
@@ -66,7 +72,7 @@ module _ (defs : List Def) where
 
   printing_few : (w : Printed) (t : Ty) (ps : List Piece) (ts : Terms) (n : ℕ) → Bs ts ≤ n
       → Small (printing w t ps ts) (node_size defs t + (48 + n))
-  printing_few printed.Print t ps ts n l = omega arith
+  printing_few printed.Print t ps ts n l = let a = called_few (Value ty.Int) (count ts) in omega arith
   printing_few printed.Sprint t ps ts n l = omega arith
   printing_few printed.Fprint t ps ts n l = omega arith
 
@@ -135,7 +141,7 @@ module _ (defs : List Def) where
         omega arith
     node_fits t (typed.Channel typed.Absent) = omega arith
     node_fits t (typed.Channel (typed.Present e)) = omega arith
-    node_fits t (typed.Call f es) = let a = exprs_fit es in omega arith
+    node_fits t (typed.Call f es) = let a = exprs_fit es in let b = called_few (Value t) (count (terms_of es)) in omega arith
     node_fits t (typed.Print w m typed.Absent ps es) = printing_few w t ps (printed_of es) (exprs_size defs es) (printed_fit es)
     node_fits t (typed.Print w m (typed.Present f) ps es) = omega arith
     node_fits t _ = omega arith

@@ -82,11 +82,11 @@ mixed = function [] Nothing (ty.ArrayOf Big ∷ []) (set (var (ty.ArrayOf Big) 0
 mixed_frame : frame_size [] mixed ≡ 40 + 4 + (3 * 24 + (2 * 24 + (256 + 16)))
 mixed_frame = refl
 
--- the length and the array; the second element has more slots, and takes more
-mixed_numbers : (function_of [] (routine_of mixed)).slots ≡ 2 + 3
+-- the length and the array; the second element has more slots, also one for the operands of its call, and takes more
+mixed_numbers : (function_of [] (routine_of mixed)).slots ≡ 2 + 4
 mixed_numbers = refl
 
-mixed_slots : slot_bytes [] (routine_of mixed) ≡ 2 * 8 + (8 + 256 + 8)
+mixed_slots : slot_bytes [] (routine_of mixed) ≡ 2 * 8 + (8 + 256 + (8 + 8))
 mixed_slots = refl
 
 -- Slot 2 has the tuple for the first element, and a number for the second: so slot 3 lies behind 256 bytes, or behind 8.

@@ -2,9 +2,11 @@
 use Rattle.std.proofs.Common.{◌≡◌, ℕ, ℤ, zero, suc, ◌+◌, ◌-◌, Bool, true, false, List, [], ◌∷◌, ◌++◌, length, max, Option, Some, None}
 use Rattle.std.proofs.Common.{refl, sym, ap, subst, arith, inl, inr}
 use Rattle.std.proofs.lemmas.List.{length-reverse}
-use Rattle.std.specs.Prelude.{drop, reverse, if◌then◌else◌}
+use Rattle.std.proofs.Math.Dec.{eqb-suc-zero}
+use Rattle.std.specs.Prelude.{◌<◌, ◌⊎◌, drop, reverse, nat_eq, if◌then◌else◌}
 use Rattle.limbo_types.specs.Types as ty
 use Rattle.limbo_types.specs.Types.{Ty}
+use Rattle.limbo_types.specs.View.{tys_of}
 use Rattle.limbo_layout.specs.Adts.{Def}
 use Rattle.limbo_typed.specs.declared.operation.Connective.{Connective}
 use Rattle.limbo_typed.specs.declared.operation.Operation.TheVariants as operation
@@ -20,15 +22,15 @@ use Rattle.core_code.specs.Code.{Instr, Give, Write, Skip, Truth, Element, Next,
 use Rattle.core_code.specs.Code.{Start, Keep, Take, Drop, Mirror, Unless, Jump, Back, Return}
 use Rattle.core_code.specs.Terms as code
 use Rattle.core_code.specs.Terms.{Lowered, LoweredAll, Moved, is_moved, drop_after, drops_after, drops_after_all, drops_from, drops_if}
-use Rattle.core_code.specs.Terms.{count_of, gives, gathers, writes, list_code, cell_drops, slot_at, moves_out, moves_into, type_at}
+use Rattle.core_code.specs.Terms.{count_of, gives, gathers, writes, list_code, cell_drops, slot_at, moves_out, moves_into}
 use Rattle.core_code.specs.Terms.{node, others, lower, lower_all, lower_items, lower_rest, named, items_end, rest_end, part_types}
-use Rattle.core_code.specs.Terms.{part_numbers}
+use Rattle.core_code.specs.Terms.{part_numbers, numbers_from, placed, variant_of, together, together_drops, value_slot, first_of, types_in}
 use Rattle.core_code.specs.Statements as statements
 use Rattle.core_code.specs.Statements.{Around, further, in_loop, whole, whole_if, test, loop_tested, loop_entered, stm_code}
 use Rattle.core_code.specs.Statements.{loop_code_tested, loop_code_entered, block_code, free_after, function_of}
 use Rattle.core_frames.specs.Fits.{Slot, Value, Word, Slots, NoSlots, One, Both, Either, number, count, cells, list_slots, own_slots}
 use Rattle.core_frames.specs.Fits.{slots_of, all_slots, held_slots, alone_slots, rest_slots, rest_alone, slots_if, stm_slots, loop_slots}
-use Rattle.core_frames.specs.Fits.{block_slots, HasSlot, PutsInto, AllPutInto, SlotsAreListed}
+use Rattle.core_frames.specs.Fits.{called_slots, IfHas, block_slots, HasSlot, PutsInto, AllPutInto, SlotsAreListed}
 
 -- ---- slots that have room
 
@@ -56,6 +58,10 @@ right P lo a b f n s h = f n s (inr h)
 abbrev AllPut : (ℕ → Slot → Type 0) → List Instr → Type 0
 AllPut P [] = Unit {0}
 AllPut P (i ∷ is) = PutsInto P i × AllPut P is
+
+abbrev EachPut : (ℕ → Slot → Type 0) → List (List Instr) → Type 0
+EachPut P [] = Unit {0}
+EachPut P (c ∷ cs) = AllPut P c × EachPut P cs
 
 put_at : (P : ℕ → Slot → Type 0) (is : List Instr) → AllPut P is → AllPutInto P is
 put_at P [] h pc i e = absurd cc
@@ -98,8 +104,12 @@ module _ (P : ℕ → Slot → Type 0) where
     put_cell_drops zero free = tt
     put_cell_drops (suc count) free = (tt, put_cell_drops count (suc free))
 
-    node_drops : (u t : Ty) (o : Work) (l : LoweredAll) → AllPut P l.drops → AllPut P (node defs u t o l).drops
-    node_drops u t (Operate o) l f = go (passes_on o)
+    put_together_drops : (front us : List Ty) (l : LoweredAll) → AllPut P l.drops → AllPut P (together_drops defs front us l)
+    put_together_drops front us l f =
+        put_after_all (moves_into defs (front ++ us) l.free (numbers_from defs (length front) (length l.values)) l.values) l.drops f
+
+    node_drops : (us : List Ty) (t : Ty) (o : Work) (l : LoweredAll) → AllPut P l.drops → AllPut P (node defs us t o l).drops
+    node_drops us t (Operate o) l f = go (passes_on o)
       where
         go : (h : Bool) → AllPut P (if h then gathers defs t o l else gives defs t (Operate o) l).drops
         go true =
@@ -108,19 +118,20 @@ module _ (P : ℕ → Slot → Type 0) where
             let own = drops_from l.free 0 (count_of defs t) in
             let h = work_refers defs t (Operate o) in
             put_join l.drops (drops_if h own) f (if_put h own (drops_put l.free 0 (count_of defs t)))
-    node_drops u t (tree.Assign aims) l f = f
-    node_drops u t (tree.TakePart k) l f = put_after (moves_out defs u k (slot_at 0 l.values) l.free) l.drops f
-    node_drops u t tree.Copy l f = f
-    node_drops u t tree.Link l f = put_join l.drops _ f (put_cell_drops (length l.values) l.free)
-    node_drops u t (tree.Call k) l f = put_join l.drops _ f (drops_put l.free 0 (count_of defs t))
-    node_drops u t (tree.Print ps) l f = f
-    node_drops u t tree.NewChannel l f = put_join l.drops _ f (tt, tt)
-    node_drops u t (tree.Literal c) l f =
+    node_drops us t (tree.Assign aims) l f = f
+    node_drops us t (tree.TakePart k) l f = put_after (moves_out defs (first_of defs us) k (slot_at 0 l.values) l.free) l.drops f
+    node_drops us t tree.Copy l f = f
+    node_drops us t tree.Link l f = put_join l.drops _ f (put_cell_drops (length l.values) l.free)
+    node_drops us t (tree.Call k) l f =
+        put_join (together_drops defs [] us l) _ (put_together_drops [] us l f) (drops_put (value_slot defs l) 0 (count_of defs t))
+    node_drops us t (tree.Print ps) l f = put_together_drops (ty.Chars ∷ []) us l f
+    node_drops us t tree.NewChannel l f = put_join l.drops _ f (tt, tt)
+    node_drops us t (tree.Literal c) l f =
         put_join l.drops _ f (if_put (work_refers defs t (tree.Literal c)) _ (drops_put l.free 0 (count_of defs t)))
-    node_drops u t tree.Nil l f = put_join l.drops _ f (if_put (work_refers defs t tree.Nil) _ (drops_put l.free 0 (count_of defs t)))
-    node_drops u t (tree.Read w) l f =
+    node_drops us t tree.Nil l f = put_join l.drops _ f (if_put (work_refers defs t tree.Nil) _ (drops_put l.free 0 (count_of defs t)))
+    node_drops us t (tree.Read w) l f =
         put_join l.drops _ f (if_put (work_refers defs t (tree.Read w)) _ (drops_put l.free 0 (count_of defs t)))
-    node_drops u t (tree.Sprint ps) l f =
+    node_drops us t (tree.Sprint ps) l f =
         put_join l.drops _ f (if_put (work_refers defs t (tree.Sprint ps)) _ (drops_put l.free 0 (count_of defs t)))
 
     others_drops : (h : Bool) (t : Ty) (a : ℕ) (zs : List ℤ) (lo : ℕ) (x : Lowered) → AllPut P x.drops
@@ -132,7 +143,7 @@ module _ (P : ℕ → Slot → Type 0) where
     mutual
       term_drops : (lo : ℕ) (t : Term) → AllPut P (lower defs lo t).drops
       term_drops lo (Evaluated v) = tt
-      term_drops lo (Node t o ts) = node_drops (type_at defs 0 ts) t o (lower_all defs lo ts) (all_drops lo ts)
+      term_drops lo (Node t o ts) = node_drops (types_in defs ts) t o (lower_all defs lo ts) (all_drops lo ts)
       term_drops lo (Lazy c l r) =
           let x = lower defs lo l in
           let y = lower defs (suc x.free) r in
@@ -187,24 +198,34 @@ module _ (defs : List Def) where
   list_number t zero = refl
   list_number t (suc n) = let e = cells_number t (suc n) in omega arith
 
-  node_number : (u t : Ty) (o : Work) (l : LoweredAll) (n : ℕ) → length l.values ≡ n
-      → (node defs u t o l).free ≡ l.free + number (own_slots t o n)
-  node_number u t (Operate o) l n e = go (passes_on o)
+  called_number : (s : Slot) (n free : ℕ) → suc (if nat_eq n 0 then free else suc free) ≡ free + number (called_slots s n)
+  called_number s zero free = omega arith
+  called_number s (suc k) free =
+      subst (λ (b : Bool). suc (if b then free else suc free) ≡ free + number (called_slots s (suc k))) (sym (eqb-suc-zero k))
+      (omega arith)
+
+  node_number : (us : List Ty) (t : Ty) (o : Work) (l : LoweredAll) (n : ℕ) → length l.values ≡ n
+      → (node defs us t o l).free ≡ l.free + number (own_slots t o n)
+  node_number us t (Operate o) l n e = go (passes_on o)
     where
       go : (h : Bool) → (if h then gathers defs t o l else gives defs t (Operate o) l).free ≡ l.free + 1
       go true = omega arith
       go false = omega arith
-  node_number u t (tree.Assign aims) l n e = omega arith
-  node_number u t (tree.TakePart k) l n e = omega arith
-  node_number u t tree.Copy l n e = omega arith
-  node_number u t tree.Link l n e = let f = list_number t n in omega arith
-  node_number u t (tree.Call k) l n e = omega arith
-  node_number u t (tree.Print ps) l n e = omega arith
-  node_number u t tree.NewChannel l n e = omega arith
-  node_number u t (tree.Literal c) l n e = omega arith
-  node_number u t tree.Nil l n e = omega arith
-  node_number u t (tree.Read w) l n e = omega arith
-  node_number u t (tree.Sprint ps) l n e = omega arith
+  node_number us t (tree.Assign aims) l n e = omega arith
+  node_number us t (tree.TakePart k) l n e = omega arith
+  node_number us t tree.Copy l n e = omega arith
+  node_number us t tree.Link l n e = let f = list_number t n in omega arith
+  node_number us t (tree.Call k) l n e =
+      subst (λ (m : ℕ). suc (value_slot defs l) ≡ l.free + number (called_slots (Value t) m)) e
+      (called_number (Value t) (length l.values) l.free)
+  node_number us t (tree.Print ps) l n e =
+      subst (λ (m : ℕ). suc (value_slot defs l) ≡ l.free + number (called_slots (Value ty.Int) m)) e
+      (called_number (Value ty.Int) (length l.values) l.free)
+  node_number us t tree.NewChannel l n e = omega arith
+  node_number us t (tree.Literal c) l n e = omega arith
+  node_number us t tree.Nil l n e = omega arith
+  node_number us t (tree.Read w) l n e = omega arith
+  node_number us t (tree.Sprint ps) l n e = omega arith
 
   abbrev Numbered : Term → Type 0
   Numbered e = (lo : ℕ) → (lower defs lo e).free ≡ lo + number (slots_of defs e)
@@ -230,7 +251,7 @@ module _ (defs : List Def) where
     term_number lo (Evaluated v) = omega arith
     term_number lo (Node t o ts) =
         let a = all_number lo ts in
-        let b = node_number (type_at defs 0 ts) t o (lower_all defs lo ts) (count ts) (values_count lo ts) in
+        let b = node_number (types_in defs ts) t o (lower_all defs lo ts) (count ts) (values_count lo ts) in
         omega arith
     term_number lo (Lazy c l r) =
         let a = term_number lo l in
@@ -303,29 +324,62 @@ module _ (defs : List Def) where
         cells_put t (reverse (s ∷ ss)) None free
         (subst (λ (n : ℕ). Gets P free (cells t n)) (sym (length-reverse (s ∷ ss))) f)
 
-    node_put : (u t : Ty) (o : Work) (l : LoweredAll) → AllPut P l.code → Gets P l.free (own_slots t o (length l.values))
-        → AllPut P (node defs u t o l).code
-    node_put u t (Operate o) l c f = go (passes_on o)
+    placed_put : (t : Ty) (v : Option ℕ) (into n : ℕ) (ks : List ℕ) (cs : List (List Instr)) (ss : List ℕ) → EachPut P cs
+        → (0 < length ss → P into (Value t) ⊎ P into Word) → AllPut P (placed defs t v into n ks cs ss)
+    placed_put t v into n (k ∷ ks) (c ∷ cs) (s ∷ ss) g f =
+        put_join P c _ g.0 (f (omega arith), placed_put t v into (suc n) ks cs ss g.1 (λ l. f (omega arith)))
+    placed_put t v into n ks cs ss g f = tt
+
+    -- the slot of operands, where there are any, and the value's
+    operands_there : (s : Slot) (n free : ℕ) → Gets P free (called_slots s n) → 0 < n → P free Word
+    operands_there s zero free f l = absurd (omega arith)
+    operands_there s (suc k) free f l = one P free Word (front P free (One Word) (One s) f)
+
+    called_put : (s : Slot) (n free : ℕ) → Gets P free (called_slots s n)
+        → P (if nat_eq n 0 then free else suc free) s × IfHas P (if nat_eq n 0 then None else Some free) Word
+    called_put s zero free f = (one P free s f, tt)
+    called_put s (suc k) free f =
+        subst (λ (b : Bool). P (if b then free else suc free) s × IfHas P (if b then None else Some free) Word) (sym (eqb-suc-zero k)) (
+          one P (suc free) s (back P free (suc free) (One Word) (One s) (omega arith) f),
+          one P free Word (front P free (One Word) (One s) f),
+        )
+
+    together_put : (front us : List Ty) (l : LoweredAll) (s : Slot) → EachPut P l.each → Gets P l.free (called_slots s (length l.values))
+        → AllPut P (together defs front us l)
+    together_put front us l s g f =
+        placed_put (ty.Tuple (tys_of (front ++ us))) None l.free 0 (numbers_from defs (length front) (length l.values)) l.each l.values g
+        (λ k. inr (operands_there s (length l.values) l.free f k))
+
+    node_put : (us : List Ty) (t : Ty) (o : Work) (l : LoweredAll) → AllPut P l.code → EachPut P l.each
+        → Gets P l.free (own_slots t o (length l.values))
+        → AllPut P (node defs us t o l).code
+    node_put us t (Operate o) l c g f = go (passes_on o)
       where
         go : (h : Bool) → AllPut P (if h then gathers defs t o l else gives defs t (Operate o) l).code
-        go true = put_join P l.code _ c (one P l.free (Value t) f, tt)
+        go true =
+            put_join P (placed defs t (variant_of defs o) l.free 0 (part_numbers defs o (length l.values)) l.each l.values) _
+            (placed_put t (variant_of defs o) l.free 0 (part_numbers defs o (length l.values)) l.each l.values g
+            (λ k. inl (one P l.free (Value t) f))) (one P l.free (Value t) f, tt)
         go false = put_join P l.code _ c (one P l.free (Value t) f, tt)
-    node_put u t (tree.Assign aims) l c f = put_join P l.code _ c (writes_put aims l.values (slot_at (operands_for aims) l.values))
-    node_put u t (tree.TakePart k) l c f = put_join P l.code _ c (one P l.free (Value t) f, tt)
-    node_put u t tree.Copy l c f = put_join P l.code _ c (tt, tt)
-    node_put u t tree.Link l c f = put_join P l.code _ c (list_put t l.values l.free f)
-    node_put u t (tree.Call k) l c f = put_join P l.code _ c (one P l.free (Value t) f, tt)
-    node_put u t (tree.Print ps) l c f = put_join P l.code _ c (one P l.free (Value ty.Int) f, tt)
-    node_put u t tree.NewChannel l c f = put_join P l.code _ c (one P l.free (Value t) f, tt)
-    node_put u t (tree.Literal k) l c f = put_join P l.code _ c (one P l.free (Value t) f, tt)
-    node_put u t tree.Nil l c f = put_join P l.code _ c (one P l.free (Value t) f, tt)
-    node_put u t (tree.Read w) l c f = put_join P l.code _ c (one P l.free (Value t) f, tt)
-    node_put u t (tree.Sprint ps) l c f = put_join P l.code _ c (one P l.free (Value t) f, tt)
+    node_put us t (tree.Assign aims) l c g f = put_join P l.code _ c (writes_put aims l.values (slot_at (operands_for aims) l.values))
+    node_put us t (tree.TakePart k) l c g f = put_join P l.code _ c (one P l.free (Value t) f, tt)
+    node_put us t tree.Copy l c g f = put_join P l.code _ c (tt, tt)
+    node_put us t tree.Link l c g f = put_join P l.code _ c (list_put t l.values l.free f)
+    node_put us t (tree.Call k) l c g f =
+        put_join P (together defs [] us l) _ (together_put [] us l (Value t) g f) (called_put (Value t) (length l.values) l.free f, tt)
+    node_put us t (tree.Print ps) l c g f =
+        put_join P (together defs (ty.Chars ∷ []) us l) _ (together_put (ty.Chars ∷ []) us l (Value ty.Int) g f)
+        (called_put (Value ty.Int) (length l.values) l.free f, tt)
+    node_put us t tree.NewChannel l c g f = put_join P l.code _ c (one P l.free (Value t) f, tt)
+    node_put us t (tree.Literal k) l c g f = put_join P l.code _ c (one P l.free (Value t) f, tt)
+    node_put us t tree.Nil l c g f = put_join P l.code _ c (one P l.free (Value t) f, tt)
+    node_put us t (tree.Read w) l c g f = put_join P l.code _ c (one P l.free (Value t) f, tt)
+    node_put us t (tree.Sprint ps) l c g f = put_join P l.code _ c (one P l.free (Value t) f, tt)
 
     skip_put : (h : Bool) (c : Connective) (into decision from passes : ℕ) → P into (Value ty.Int) → P decision Word
         → PutsInto P (Skip c into (if h then Some decision else None) from passes)
     skip_put true c into decision from passes p q = (p, q)
-    skip_put false c into decision from passes p q = p
+    skip_put false c into decision from passes p q = (p, tt)
 
     abbrev Puts : Term → Type 0
     Puts e = (lo : ℕ) → Gets P lo (slots_of defs e) → AllPut P (lower defs lo e).code
@@ -360,7 +414,8 @@ module _ (defs : List Def) where
       term_put lo (Node t o ts) f =
           let l = lower_all defs lo ts in
           let own = back P lo l.free (all_slots defs ts) (own_slots t o (count ts)) (sym (all_number lo ts)) f in
-          node_put (type_at defs 0 ts) t o l (all_put lo ts (front P lo (all_slots defs ts) (own_slots t o (count ts)) f))
+          node_put (types_in defs ts) t o l (all_put lo ts (front P lo (all_slots defs ts) (own_slots t o (count ts)) f))
+          (each_put lo ts (front P lo (all_slots defs ts) (own_slots t o (count ts)) f))
           (subst (λ (n : ℕ). Gets P l.free (own_slots t o n)) (sym (values_count lo ts)) own)
       term_put lo (Lazy c l r) f =
           let x = lower defs lo l in
@@ -424,6 +479,14 @@ module _ (defs : List Def) where
           let x = lower defs lo t in
           put_join P x.code _ (term_put lo t (front P lo (slots_of defs t) (all_slots defs ts) f))
           (all_put x.free ts (back P lo x.free (slots_of defs t) (all_slots defs ts) (sym (term_number lo t)) f))
+
+      each_put : (lo : ℕ) (ts : Terms) → Gets P lo (all_slots defs ts) → EachPut P (lower_all defs lo ts).each
+      each_put lo NoTerms f = tt
+      each_put lo (MoreTerms t ts) f = (
+        term_put lo t (front P lo (slots_of defs t) (all_slots defs ts) f),
+        each_put (lower defs lo t).free ts
+            (back P lo (lower defs lo t).free (slots_of defs t) (all_slots defs ts) (sym (term_number lo t)) f),
+      )
 
       items_put : (t : Ty) (a s lo : ℕ) (is : Items) → Gets P s (alone_slots defs is) → Gets P lo (held_slots defs is)
           → AllPut P (lower_items defs t a s lo is).code

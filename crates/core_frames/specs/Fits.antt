@@ -11,12 +11,13 @@ use Rattle.limbo_meaning.specs.Trees as tree
 use Rattle.limbo_meaning.specs.Trees.{Work, Term, Evaluated, Node, Lazy, Update, Fill, Terms, NoTerms, MoreTerms, Items, NoItems, MoreItems}
 use Rattle.limbo_meaning.specs.Trees.{Stm, Eval, If, While, Enter, Loop, Looping, Block, Done, Then, Turn, Again}
 use Rattle.limbo_meaning.specs.Program.{Routine, routine_of}
-use Rattle.core_code.specs.Code.{Instr, Give, Gather, Pick, Known, Cell, Call, Print, Skip, Truth, Start}
+use Rattle.core_code.specs.Code.{Instr, Give, Place, Gather, Pick, Known, Cell, Call, Print, Skip, Truth, Start}
 use Rattle.core_code.specs.Terms.{lower}
 use Rattle.core_code.specs.Statements.{function_of}
 use Rattle.core_frames.specs.Sizes.{value_size, frame_size, laid_size}
 
--- What a slot has: a value of a type, or a word: a decision, a loop of an initialiser, or a value that is known from the start.
+-- What a slot has: a value of a type, or a word: a decision, a loop of an initialiser, a value that is known from the start, or where the
+-- operands of a call or a print are put together.
 pub data Slot : Type 0 where
   Value : Ty → Slot
   Word : Slot
@@ -52,12 +53,18 @@ abbrev pub list_slots : Ty → (items : ℕ) → Slots
 list_slots t zero = One Word
 list_slots t (suc k) = cells t (suc k)
 
+-- A call and a print have a slot for their operands, where there are any, and behind it that of the value.
+abbrev pub called_slots : (value : Slot) → (operands : ℕ) → Slots
+called_slots s zero = One s
+called_slots s (suc k) = Both (One Word) (One s)
+
 -- The slots of a node itself, behind those of so many operands. An assignment and a copy have none.
 abbrev pub own_slots : Ty → Work → (operands : ℕ) → Slots
 own_slots t (tree.Assign aims) n = NoSlots
 own_slots t tree.Copy n = NoSlots
 own_slots t tree.Link n = list_slots t n
-own_slots t (tree.Print ps) n = One (Value ty.Int)
+own_slots t (tree.Call f) n = called_slots (Value t) n
+own_slots t (tree.Print ps) n = called_slots (Value ty.Int) n
 own_slots t o n = One (Value t)
 
 module _ (defs : List Def) where
@@ -155,18 +162,24 @@ HasSlot lo (One r) n s = (n ≡ lo) × (s ≡ r)
 HasSlot lo (Both a b) n s = HasSlot lo a n s ⊎ HasSlot (lo + number a) b n s
 HasSlot lo (Either a b) n s = HasSlot lo a n s ⊎ HasSlot lo b n s
 
--- Each slot into which an instruction puts something has room for it. Parts that move and references that go leave what they come from as
--- large as it was, and what a turn of a loop held comes back to where it was put before.
+-- A slot, where there is one, has room for that.
+abbrev pub IfHas : (has : ℕ → Slot → Type 0) → Option ℕ → Slot → Type 0
+IfHas has None s = Unit {0}
+IfHas has (Some d) s = has d s
+
+-- Each slot into which an instruction puts something has room for it. A slot to which operands move has room for the value that they make,
+-- or is the word of a call or a print. Parts that move and references that go leave what they come from as large as it was, and what a turn
+-- of a loop held comes back to where it was put before.
 abbrev pub PutsInto : (has : ℕ → Slot → Type 0) → Instr → Type 0
 PutsInto has (Give t o into from) = has into (Value t)
-PutsInto has (Gather t o into from) = has into (Value t)
+PutsInto has (Place t v j k into from) = has into (Value t) ⊎ has into Word
+PutsInto has (Gather t o into n) = has into (Value t)
 PutsInto has (Pick t k into from) = has into (Value t)
 PutsInto has (Known v into) = has into Word
 PutsInto has (Cell t into item behind) = has into (Value (ty.ListOf t))
-PutsInto has (Call t f into from) = has into (Value t)
-PutsInto has (Print ps into from) = has into (Value ty.Int)
-PutsInto has (Skip c into None from passes) = has into (Value ty.Int)
-PutsInto has (Skip c into (Some d) from passes) = has into (Value ty.Int) × has d Word
+PutsInto has (Call t f into o) = has into (Value t) × IfHas has o Word
+PutsInto has (Print ps into o) = has into (Value ty.Int) × IfHas has o Word
+PutsInto has (Skip c into d from passes) = has into (Value ty.Int) × IfHas has d Word
 PutsInto has (Truth into from) = has into (Value ty.Int)
 PutsInto has (Start loop) = has loop Word
 PutsInto has i = Unit {0}

@@ -28,18 +28,19 @@ pub cells_on : (defs : List Def) (t : Ty) (all front : List ℕ) (last slot : �
 cells_on defs t all front last slot b code next er e =
     rw (e, er, add-one slot) (append_assoc code (Cell t slot last b ∷ []) (cells defs t (reverse front) (Some slot) (suc slot)))
 
-pub link_none : (defs : List Def) (t : Ty) (code drops new : List Instr) (vs : List ℕ) (lo : ℕ) → length vs ≡ 0
+pub link_none : (defs : List Def) (t : Ty) (each : List (List Instr)) (code drops new : List Instr) (vs : List ℕ) (lo : ℕ) → length vs ≡ 0
     → new ≡ code ++ Known (Ref None) lo ∷ []
     → ◌≡◌ {A = Lowered} (record { code = new; drops = drops; value = lo; free = lo + 1 })
-    (links defs t (record { code = code; drops = drops; values = vs; free = lo }))
-link_none defs t code drops new [] lo e en = rw (en, append-nil drops, add-zero lo, add-one lo) refl
-link_none defs t code drops new (v ∷ vs) lo e en = absurd (omega (arith, e))
+    (links defs t (record { each = each; code = code; drops = drops; values = vs; free = lo }))
+link_none defs t each code drops new [] lo e en = rw (en, append-nil drops, add-zero lo, add-one lo) refl
+link_none defs t each code drops new (v ∷ vs) lo e en = absurd (omega (arith, e))
 
-pub link_some : (defs : List Def) (t : Ty) (code drops new gone : List Instr) (vs : List ℕ) (lo n : ℕ) → 0 < n → n ≡ length vs
+pub link_some : (defs : List Def) (t : Ty) (each : List (List Instr)) (code drops new gone : List Instr) (vs : List ℕ) (lo n : ℕ)
+    → 0 < n → n ≡ length vs
     → new ≡ code ++ cells defs (item_of t) (reverse vs) None lo → gone ≡ drops ++ cell_drops defs n lo
     → ◌≡◌ {A = Lowered} (record { code = new; drops = gone; value = lo + (n - 1); free = lo + n })
-    (links defs t (record { code = code; drops = drops; values = vs; free = lo }))
-link_some defs t code drops new gone [] lo n h e en eg = absurd (omega (arith, e))
-link_some defs t code drops new gone (v ∷ vs) lo n h e en eg =
+    (links defs t (record { each = each; code = code; drops = drops; values = vs; free = lo }))
+link_some defs t each code drops new gone [] lo n h e en eg = absurd (omega (arith, e))
+link_some defs t each code drops new gone (v ∷ vs) lo n h e en eg =
     let free : lo + n ≡ suc (lo + (n - 1)) = omega arith in
     rw (en, eg, free, e) refl

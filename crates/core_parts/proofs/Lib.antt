@@ -5,3 +5,4 @@ pub mod Noded
 pub mod Items
 pub mod Celled
 pub mod Joined
+pub mod Coming

@@ -1,18 +1,23 @@
 -- Nodes behind their operands, by how many references their values have and where those of the operands move; and those of several parts.
-use Rattle.std.specs.Prelude.{ℕ, ℤ, suc, ◌+◌, ◌≤◌, ◌^◌, All, List, [], ◌∷◌, ◌++◌, length, Bool, Some, None, if◌then◌else◌}
+use Rattle.std.specs.Prelude.{ℕ, ℤ, suc, ◌+◌, ◌≤◌, ◌^◌, All, List, [], ◌∷◌, ◌++◌, length, map, Bool, Option, Some, None, if◌then◌else◌}
 use Rattle.limbo_types.specs.Types as ty
 use Rattle.limbo_types.specs.Types.{Ty}
+use Rattle.limbo_types.specs.View.{view_ty}
+use Rattle.limbo_layout.specs.Adts.{Def}
 use Rattle.limbo_typed.specs.declared.operation.Operation.{Operation}
 use Rattle.limbo_typed.specs.declared.operation.Operation.TheVariants as operation
 use Rattle.limbo_typed.specs.declared.operation.Connective.{Connective}
 use Rattle.limbo_typed.specs.declared.operation.Given.{Given}
 use Rattle.limbo_typed.specs.declared.operation.Given.TheVariants as given
+use Rattle.limbo_typed.specs.declared.print.Piece.{Piece}
 use Rattle.limbo_meaning.specs.Places.{Way}
 use Rattle.limbo_meaning.specs.Trees as tree
 use Rattle.limbo_meaning.specs.Trees.{Work, Operate}
-use Rattle.core_code.specs.Code.{Instr, Give, Gather, Pick, Call, Write, Skip, Truth, Mirror, Drop, Element, Start, Next, Take, Back}
+use Rattle.core_code.specs.Code.{Instr, Give, Gather, Pick, Call, Print, Write, Skip, Truth, Mirror, Drop, Element, Start, Next, Take, Back}
 use Rattle.core_code.specs.Terms.{Lowered, LoweredAll, Moved, slot_at, drops_from, drops_after, drops_after_all, drops_if}
+use Rattle.core_code.specs.Terms.{placed, operands_slot, value_slot}
 use Rattle.core_parts.specs.declared.drops.Moved as code_moved
+use Rattle.core_parts.specs.declared.together.Whole as code_whole
 
 abbrev pub view_moved : code_moved.Moved → Moved
 view_moved v = record { slot = v.slot; first = v.first; count = v.count; into = v.into; at = v.at }
@@ -30,21 +35,53 @@ gave t o n l = record {
   free = suc l.free;
 }
 
-abbrev pub called : Ty → (function references : ℕ) → LoweredAll → Lowered
-called t f n l = record {
-  code = l.code ++ Call t f l.free l.values ∷ [];
-  drops = l.drops ++ drops_from l.free 0 n;
-  value = l.free;
-  free = suc l.free;
+-- What operands are put together as: a value of this type, and variant of an adt, of the parts of these numbers; and where the references
+-- of each are then.
+pub record Whole : Type 0 where
+  pub type : Ty
+  pub variant : Option ℕ
+  pub parts : List ℕ
+  pub moves : List Moved
+
+abbrev pub view_whole : code_whole.Whole → Whole
+view_whole w = record {
+  type = view_ty w.ty;
+  variant = w.variant;
+  parts = w.parts.items;
+  moves = map view_moved w.moves.items;
 }
 
-abbrev pub gathered : Ty → Operation → List Moved → LoweredAll → Lowered
-gathered t o vs l = record {
-  code = l.code ++ Gather t (Operate o) l.free l.values ∷ [];
-  drops = drops_after_all vs l.drops;
-  value = l.free;
-  free = suc l.free;
-}
+module _ (defs : List Def) where
+  -- their code, and their drops
+  abbrev pub put_together : Whole → LoweredAll → List Instr
+  put_together w l = placed defs w.type w.variant l.free 0 w.parts l.each l.values
+
+  abbrev pub together_drops : Whole → LoweredAll → List Instr
+  together_drops w l = drops_after_all w.moves l.drops
+
+  abbrev pub gathered : Operation → Whole → LoweredAll → Lowered
+  gathered o w l = record {
+    code = put_together w l ++ Gather w.type (Operate o) l.free (length l.values) ∷ [];
+    drops = together_drops w l;
+    value = l.free;
+    free = suc l.free;
+  }
+
+  abbrev pub called : Ty → (function references : ℕ) → Whole → LoweredAll → Lowered
+  called t f n w l = record {
+    code = put_together w l ++ Call t f (value_slot defs l) (operands_slot defs l) ∷ [];
+    drops = together_drops w l ++ drops_from (value_slot defs l) 0 n;
+    value = value_slot defs l;
+    free = suc (value_slot defs l);
+  }
+
+  abbrev pub printed : List Piece → Whole → LoweredAll → Lowered
+  printed ps w l = record {
+    code = put_together w l ++ Print ps (value_slot defs l) (operands_slot defs l) ∷ [];
+    drops = together_drops w l;
+    value = value_slot defs l;
+    free = suc (value_slot defs l);
+  }
 
 abbrev pub picked : Ty → (part : ℕ) → Moved → LoweredAll → Lowered
 picked t n v l = record {

@@ -1,10 +1,10 @@
 //! Drops, and where they are once what they drop moved.
 
-ghost use Rattle.std.specs.Prelude.{◌≡◌, ◌+◌, ◌≤◌, ◌^◌, ◌++◌, IsTrue, OnOk};
+ghost use Rattle.std.specs.Prelude.{◌≡◌, ◌+◌, ◌≤◌, ◌^◌, ◌++◌, IsTrue, OnOk, map};
 ghost use Rattle.core_data.specs.View.{view_inst};
 ghost use Rattle.core_code.specs.Terms.{is_moved, drop_after, drops_after, drops_after_all, drops_from};
 ghost use Rattle.core_parts.specs.Lowered.{code_of};
-ghost use Rattle.core_parts.specs.Nodes.{view_moved};
+ghost use Rattle.core_parts.specs.Nodes.{view_moved, AllFit};
 
 use crate::lowered::put;
 use core_data::Inst;
@@ -59,5 +59,15 @@ pub fn move_drops(drops: &mut Vec<Inst>, moved: Moved)
 {
     for i in 0..drops.len() {
         move_drop(&mut drops[i], moved);
+    }
+}
+
+/// Drops all that moved where it is.
+pub fn move_all(drops: &mut Vec<Inst>, moves: &[Moved])
+    requires { AllFit moves.now }
+    ensures { code_of drops.new.items ≡ drops_after_all (map view_moved moves.now) (code_of drops.old.items) }
+{
+    for moved in moves {
+        move_drops(drops, *moved);
     }
 }

@@ -1,8 +1,9 @@
 //! What is lowered so far.
 
-ghost use Rattle.std.specs.Prelude.{◌≡◌, ◌∷◌, ◌++◌, [], OnOk};
+ghost use Rattle.std.specs.Prelude.{◌≡◌, ◌∷◌, ◌++◌, [], IfOk, OnOk};
 ghost use Rattle.core_data.specs.View.{view_inst};
-ghost use Rattle.core_parts.specs.Lowered.{code_of, view_lowered, view_lowered_all, none_from, added};
+ghost use Rattle.core_parts.specs.Lowered as lowered;
+ghost use Rattle.core_parts.specs.Lowered.{code_of, codes_of, view_lowered, view_lowered_all, none_from, added};
 
 use core_data::Inst;
 use std::alloc::{AllocError, Global};
@@ -19,10 +20,10 @@ pub struct Lowered {
     pub free: u32,
 }
 
-/// The code of trees in a row, and the slots of their values.
+/// The code of trees in a row, of each its own, and the slots of their values.
 #[derive(Drop)]
 pub struct LoweredAll {
-    pub code: Vec<Inst>,
+    pub each: Vec<Vec<Inst>>,
     pub drops: Vec<Inst>,
     pub values: Vec<u32>,
     pub free: u32,
@@ -46,14 +47,26 @@ pub fn put_all(code: &mut Vec<Inst>, mut behind: Vec<Inst>) -> Result<(), AllocE
     Ok(())
 }
 
+/// The code of trees in a row, one behind the other.
+#[tactic(auto, using(crate::proofs::Coded::code_of_none))]
+pub fn join(alloc: Global, each: Vec<Vec<Inst>>) -> Result<Vec<Inst>, AllocError>
+    ensures { IfOk result (λ code. code_of code.items ≡ lowered.joined (codes_of each.items)) }
+{
+    let mut code = Vec::new(alloc);
+    for own in each {
+        put_all(&mut code, own)?;
+    }
+    Ok(code)
+}
+
 impl LoweredAll {
     /// No operand yet: the slots from one on are free.
-    #[tactic(auto, using(crate::proofs::Coded::code_of_none))]
+    #[tactic(auto, using(crate::proofs::Coded::code_of_none, crate::proofs::Coded::codes_of_none))]
     pub fn new(alloc: Global, lo: u32) -> LoweredAll
         ensures { view_lowered_all result ≡ none_from lo }
     {
         LoweredAll {
-            code: Vec::new(alloc),
+            each: Vec::new(alloc),
             drops: Vec::new(alloc),
             values: Vec::new(alloc),
             free: lo,
@@ -61,6 +74,7 @@ impl LoweredAll {
     }
 
     /// One operand more.
+    #[tactic(auto, using(crate::proofs::Coded::codes_of_push, crate::proofs::Coded::joined_push))]
     pub fn add(&mut self, operand: Lowered) -> Result<(), AllocError>
         ensures { OnOk result (view_lowered_all self.new ≡ added (view_lowered_all self.old) (view_lowered operand)) }
     {
@@ -70,7 +84,7 @@ impl LoweredAll {
             value,
             free,
         } = operand;
-        put_all(&mut self.code, code)?;
+        self.each.push(code)?;
         put_all(&mut self.drops, drops)?;
         self.values.push(value)?;
         self.free = free;

@@ -10,7 +10,7 @@ ghost use Rattle.core_code.specs.Terms as terms;
 ghost use Rattle.core_parts.specs.Lowered.{code_of, view_lowered, view_lowered_all};
 ghost use Rattle.core_parts.specs.Nodes as nodes;
 
-use crate::lowered::{Lowered, LoweredAll, put, put_all};
+use crate::lowered::{Lowered, LoweredAll, join, put, put_all};
 use core_data::{Inst, Known};
 use limbo_typed::Connective;
 use limbo_types::{Ty, copy};
@@ -85,11 +85,12 @@ pub fn link(alloc: Global, all: LoweredAll, ty: &Ty) -> Result<Lowered, AllocErr
     ensures { IfOk result (λ l. (defs : List Def) → view_lowered l ≡ terms.links defs (view_ty ty.now) (view_lowered_all all)) }
 {
     let LoweredAll {
-        mut code,
+        each,
         mut drops,
         values,
         free,
     } = all;
+    let mut code = join(alloc, each)?;
     let item = item_of(alloc, ty)?;
     let count = values.len() as u32;
     if count == 0 {

@@ -11,7 +11,7 @@ ghost use Rattle.core_parts.specs.Nodes as nodes;
 
 use crate::copying::copy_way;
 use crate::drops::put_drops;
-use crate::lowered::{Lowered, LoweredAll, put, put_all};
+use crate::lowered::{Lowered, LoweredAll, join, put, put_all};
 use core_data::{Inst, Way, Work};
 use limbo_typed::{Given, Operation};
 use limbo_types::{Ty, copy};
@@ -131,18 +131,20 @@ pub fn update(
         change.now.old change.now.new (view_lowered_all place) (view_lowered_all others)) }
 {
     let LoweredAll {
-        mut code,
+        each: first,
         mut drops,
         values: operands,
         free: old,
     } = place;
     let LoweredAll {
-        code: between,
+        each: second,
         drops: more,
         values,
         free: new,
     } = others;
+    let mut code = join(alloc, first)?;
     put_read(alloc, &mut code, change.ty, change.way, &operands, old)?;
+    let between = join(alloc, second)?;
     put_all(&mut code, between)?;
     put_change(
         alloc,

@@ -7,7 +7,7 @@ use Rattle.limbo_types.specs.Types.{Ty}
 use Rattle.limbo_layout.specs.Adts.{Def}
 use Rattle.core_code.specs.Terms.{Moved, is_moved, numbers_from}
 use Rattle.core_follows.proofs.Moves.{IsMoved, IsNotMoved, moved_or}
-use Rattle.core_typing.specs.Held.{Held, Of, Decided, Turns, Slots, empty, slot, put, type_held, live_in, Has}
+use Rattle.core_typing.specs.Held.{Held, Of, Forming, Decided, Turns, Slots, empty, slot, put, type_held, live_in, Has}
 use Rattle.core_typing.specs.Held.{without, dropped, moved, staying, left_by}
 use Rattle.core_typing.specs.Needs.{IsClean}
 use Rattle.core_typing.proofs.Going.{put_same, put_other, put_long}
@@ -92,44 +92,53 @@ has_stayed v (k ∷ ks) j h = ⊎_elim
 
 pub clean_none : (h : Held) (j : ℕ) → IsClean h → Has (live_in h) j → ⊥
 clean_none (Of t ns) j c h = has_none ns j c h
+clean_none (Forming t v ks us ns) j c h = c
 clean_none (Decided b) j c h = h
 clean_none (Turns rs) j c h = h
 
 pub clean_by : (h : Held) (t : Ty) → type_held h ≡ Some t → ((j : ℕ) → Has (live_in h) j → ⊥) → IsClean h
 clean_by (Of u ns) t e f = none_has ns f
+clean_by (Forming u v ks us ns) t e f = absurd cc
 clean_by (Decided b) t e f = tt
 clean_by (Turns rs) t e f = absurd cc
 
 pub dropped_type : (k : ℕ) (h : Held) → type_held (dropped k h) ≡ type_held h
 dropped_type k (Of t ns) = refl
+dropped_type k (Forming t v ks us ns) = refl
 dropped_type k (Decided b) = refl
 dropped_type k (Turns rs) = refl
 
-pub dropped_live : (k : ℕ) (h : Held) (j : ℕ) → Has (live_in (dropped k h)) j → Has (live_in h) j × (j ≡ k → ⊥)
-dropped_live k (Of t ns) j h = has_without k ns j h
-dropped_live k (Decided b) j h = absurd h
-dropped_live k (Turns rs) j h = absurd h
+pub dropped_live : (k : ℕ) (h : Held) (t : Ty) → type_held h ≡ Some t → (j : ℕ) → Has (live_in (dropped k h)) j
+    → Has (live_in h) j × (j ≡ k → ⊥)
+dropped_live k (Of u ns) t e j h = has_without k ns j h
+dropped_live k (Forming u v ks us ns) t e j h = absurd cc
+dropped_live k (Decided b) t e j h = absurd h
+dropped_live k (Turns rs) t e j h = absurd h
 
 pub live_without : (k : ℕ) (h : Held) (j : ℕ) → Has (live_in h) j → (j ≡ k → ⊥) → Has (live_in (dropped k h)) j
 live_without k (Of t ns) j h n = has_others k ns j h n
+live_without k (Forming t v ks us ns) j h n = h
 live_without k (Decided b) j h n = h
 live_without k (Turns rs) j h n = h
 
 pub dropped_clean : (k : ℕ) (h : Held) → IsClean h → IsClean (dropped k h)
 dropped_clean k (Of t ns) c = ap (without k) c
+dropped_clean k (Forming t v ks us ns) c = c
 dropped_clean k (Decided b) c = tt
 dropped_clean k (Turns rs) c = c
 
 pub left_type : (v : Moved) (h : Held) → type_held (left_by v h) ≡ type_held h
 left_type v (Of t ns) = refl
+left_type v (Forming t x ks us ns) = refl
 left_type v (Decided b) = refl
 left_type v (Turns rs) = refl
 
-pub left_live : (v : Moved) (h : Held) (j : ℕ) → Has (live_in (left_by v h)) j
+pub left_live : (v : Moved) (h : Held) (t : Ty) → type_held h ≡ Some t → (j : ℕ) → Has (live_in (left_by v h)) j
     → Has (live_in h) j × (v.first ≤ j → j < v.first + v.count → ⊥)
-left_live v (Of t ns) j h = has_stayed v ns j h
-left_live v (Decided b) j h = absurd h
-left_live v (Turns rs) j h = absurd h
+left_live v (Of u ns) t e j h = has_stayed v ns j h
+left_live v (Forming u x ks us ns) t e j h = absurd cc
+left_live v (Decided b) t e j h = absurd h
+left_live v (Turns rs) t e j h = absurd h
 
 pub clean_same : (h h' : Held) → h' ≡ h → IsClean h → IsClean h'
 clean_same h h' e c = subst IsClean (sym e) c

@@ -1,12 +1,14 @@
 -- Which references of slots may name something while the code of small trees runs, and small code that goes well.
-use Rattle.std.proofs.Common.{◌≡◌, ℕ, pos, false, List, [], ◌∷◌, replicate, None, refl, inl, rules, arith}
+use Rattle.std.proofs.Common.{◌≡◌, ℕ, pos, false, List, [], ◌∷◌, replicate, Some, None, refl, inl, rules, arith, take}
 use Rattle.limbo_types.specs.Types as ty
-use Rattle.limbo_types.specs.Types.{Ty, Int, ListOf, Tuple, NoTys, MoreTys}
+use Rattle.limbo_types.specs.Types.{Ty, Int, Chars, ListOf, Tuple, NoTys, MoreTys}
 use Rattle.limbo_layout.specs.Layout.{number, reference, is_alone}
 use Rattle.limbo_values.specs.declared.number.Kind.TheVariants as kind
 use Rattle.limbo_values.specs.declared.operator.Operator.TheVariants as operator
 use Rattle.limbo_typed.specs.Fitting.{IsNumber}
 use Rattle.limbo_typed.specs.declared.operation.Operation.TheVariants as operation
+use Rattle.limbo_typed.specs.declared.print.Hole.TheVariants as hole
+use Rattle.limbo_typed.specs.declared.print.Piece.TheVariants as piece
 use Rattle.limbo_typed.specs.declared.stmt.Constant.TheVariants as constant
 use Rattle.limbo_meaning.specs.Places.{Way, Local}
 use Rattle.limbo_meaning.specs.Trees as tree
@@ -15,13 +17,13 @@ use Rattle.limbo_meaning.specs.Program.{Routine}
 use Rattle.limbo_kept.specs.Operating.{HasRoom}
 use Rattle.limbo_kept.specs.Permitting.{Anything}
 use Rattle.limbo_kept.specs.Trees.{Scope}
-use Rattle.core_code.specs.Code.{Instr, Give, Call, Drop, Return}
+use Rattle.core_code.specs.Code.{Instr, Give, Place, Call, Drop, Return}
 use Rattle.core_code.specs.Terms.{lower}
 use Rattle.core_code.specs.Statements.{whole, function_of}
-use Rattle.core_typing.specs.Held.{Of, Slots, empty}
+use Rattle.core_typing.specs.Held.{Held, Of, Forming, Slots, empty}
 use Rattle.core_typing.specs.Going.{Stand, behind, Goes}
 use Rattle.core_typing.proofs.Going.{goes_next}
-use Rattle.core_typing.proofs.Standing.{itself}
+use Rattle.core_typing.proofs.Standing.{itself, tuple_room}
 
 -- ---- what is known behind code that goes one way
 
@@ -65,6 +67,17 @@ row_known = refl
 row_clean : behind_all (whole [] row) (replicate 4 empty) ≡ empty ∷ empty ∷ empty ∷ Of three [] ∷ []
 row_clean = refl
 
+-- A list without items is held as nil, also in a tuple where a list is asked for.
+abbrev single : Ty
+single = Tuple (MoreTys list NoTys)
+
+abbrev no_items : Term
+no_items = Node single (Operate operation.Tuple) (MoreTerms (Node list tree.Link NoTerms) NoTerms)
+
+items_known : behind_all (take 2 (lower [] 0 no_items).code) (replicate 2 empty)
+    ≡ empty ∷ Forming single None (0 ∷ []) (ty.Nil ∷ []) [] ∷ []
+items_known = refl
+
 -- the second part of what a function gives: its reference goes where the part is, between the others
 abbrev part : Term
 part = Node list (tree.TakePart 1) (MoreTerms (call three) NoTerms)
@@ -77,6 +90,20 @@ part_known = refl
 
 part_clean : behind_all (whole [] part) (replicate 2 empty) ≡ Of three [] ∷ Of list [] ∷ []
 part_clean = refl
+
+-- print("%d", f()): what is printed is the second part of a tuple that begins with a text, and stays there
+abbrev shown : Term
+shown = Node Int (tree.Print (piece.Hole (hole.Decimal kind.Int) ∷ [])) (MoreTerms (call Int) NoTerms)
+
+abbrev text_and_int : Ty
+text_and_int = Tuple (MoreTys Chars (MoreTys Int NoTys))
+
+shown_known : behind_all (take 2 (lower [] 0 shown).code) (replicate 3 empty)
+    ≡ empty ∷ Forming text_and_int None (1 ∷ []) (Int ∷ []) [] ∷ empty ∷ []
+shown_known = refl
+
+shown_clean : behind_all (whole [] shown) (replicate 3 empty) ≡ empty ∷ Of text_and_int [] ∷ Of Int [] ∷ []
+shown_clean = refl
 
 -- ---- f(a) + 1, of a list a, goes well to its end
 
@@ -100,13 +127,17 @@ sum = Node Int (Operate (operation.Arithmetic operator.Add kind.Int))
 abbrev body : Routine
 body = record { variables = list ∷ []; body = Then (Eval sum) Done }
 
+abbrev arguments : Ty
+arguments = Tuple (MoreTys list NoTys)
+
 abbrev codes : List Instr
 codes =
     Give list (tree.Read place) 0 []
-    ∷ Call Int 0 1 (0 ∷ [])
-    ∷ Give Int (tree.Literal (constant.Number (pos 1))) 2 []
-    ∷ Give Int (Operate (operation.Arithmetic operator.Add kind.Int)) 3 (1 ∷ 2 ∷ [])
-    ∷ Drop 0 0
+    ∷ Place arguments None 0 0 1 0
+    ∷ Call Int 0 2 (Some 1)
+    ∷ Give Int (tree.Literal (constant.Number (pos 1))) 3 []
+    ∷ Give Int (Operate (operation.Arithmetic operator.Add kind.Int)) 4 (2 ∷ 3 ∷ [])
+    ∷ Drop 1 0
     ∷ Return None
     ∷ []
 
@@ -125,49 +156,71 @@ int_room = (number 4, is_alone Int (number 4) refl)
 abbrev GoesIn : ℕ → (pc : ℕ) → Slots → Type 0
 GoesIn n pc slots = Goes scope ty.Nothing codes n pc slots
 
--- What is known of the slots: the first has the list, the others come to have numbers.
-abbrev known : List ℕ → (first second third : Ty) → Slots
-known live t u v = Of list live ∷ Of t [] ∷ Of u [] ∷ Of v [] ∷ []
+-- What is known of the slots: the first had the list, which is the call's operand, the others come to have numbers.
+abbrev known : (operands : Held) → (second third fourth : Ty) → Slots
+known h t u v = empty ∷ h ∷ Of t [] ∷ Of u [] ∷ Of v [] ∷ []
+
+abbrev whole_one : List ℕ → Held
+whole_one live = Of arguments live
 
 -- Behind the return there is nothing. In front of it the list's reference goes, and no slot names anything then.
-leaves : (slots : Slots) → GoesIn 3 5 slots
+leaves : (slots : Slots) → GoesIn 3 6 slots
 leaves slots = (Return None, refl, tt, tt, λ k d l. absurd (omega arith))
 
-drops : GoesIn 4 4 (known (0 ∷ []) Int Int Int)
+drops : GoesIn 4 5 (known (whole_one (0 ∷ [])) Int Int Int)
 drops =
-    goes_next scope ty.Nothing codes 3 4 5 (known (0 ∷ []) Int Int Int) (known [] Int Int Int) (Drop 0 0) refl (list, refl, omega arith)
-    (list, refl, refl) refl (leaves (known [] Int Int Int))
+    goes_next scope ty.Nothing codes 3 5 6 (known (whole_one (0 ∷ [])) Int Int Int) (known (whole_one []) Int Int Int) (Drop 1 0) refl
+    (arguments, refl, omega arith) (arguments, refl, refl) refl (leaves (known (whole_one []) Int Int Int))
 
-adds : GoesIn 5 3 (known (0 ∷ []) Int Int ty.Nothing)
+adds : GoesIn 5 4 (known (whole_one (0 ∷ [])) Int Int ty.Nothing)
 adds =
-    goes_next scope ty.Nothing codes 4 3 4 (known (0 ∷ []) Int Int ty.Nothing) (known (0 ∷ []) Int Int Int)
-    (Give Int (Operate (operation.Arithmetic operator.Add kind.Int)) 3 (1 ∷ 2 ∷ [])) refl
+    goes_next scope ty.Nothing codes 4 4 5 (known (whole_one (0 ∷ [])) Int Int ty.Nothing) (known (whole_one (0 ∷ [])) Int Int Int)
+    (Give Int (Operate (operation.Arithmetic operator.Add kind.Int)) 4 (2 ∷ 3 ∷ [])) refl
     (Int ∷ Int ∷ [], ((Int, refl, itself Int), ((Int, refl, itself Int), tt)), ((refl, refl), int_room, int_room, inl refl), refl) tt refl
     drops
 
-counts : GoesIn 6 2 (known (0 ∷ []) Int ty.Nothing ty.Nothing)
+counts : GoesIn 6 3 (known (whole_one (0 ∷ [])) Int ty.Nothing ty.Nothing)
 counts =
-    goes_next scope ty.Nothing codes 5 2 3 (known (0 ∷ []) Int ty.Nothing ty.Nothing) (known (0 ∷ []) Int Int ty.Nothing)
-    (Give Int (tree.Literal (constant.Number (pos 1))) 2 []) refl ([], tt, (one_in_range, tt, int_room, inl refl), refl) tt refl adds
+    goes_next scope ty.Nothing codes 5 3 4 (known (whole_one (0 ∷ [])) Int ty.Nothing ty.Nothing)
+    (known (whole_one (0 ∷ [])) Int Int ty.Nothing)
+    (Give Int (tree.Literal (constant.Number (pos 1))) 3 []) refl ([], tt, (one_in_range, tt, int_room, inl refl), refl) tt refl adds
 
-calls : GoesIn 7 1 (known (0 ∷ []) ty.Nothing ty.Nothing ty.Nothing)
+abbrev operand : Held
+operand = Forming arguments None (0 ∷ []) (list ∷ []) (0 ∷ [])
+
+calls : GoesIn 7 2 (known operand ty.Nothing ty.Nothing ty.Nothing)
 calls =
-    goes_next scope ty.Nothing codes 6 1 2 (known (0 ∷ []) ty.Nothing ty.Nothing ty.Nothing) (known (0 ∷ []) Int ty.Nothing ty.Nothing)
-    (Call Int 0 1 (0 ∷ [])) refl (
+    goes_next scope ty.Nothing codes 6 2 3 (known operand ty.Nothing ty.Nothing ty.Nothing)
+    (known (whole_one (0 ∷ [])) Int ty.Nothing ty.Nothing) (Call Int 0 2 (Some 1)) refl (
       list ∷ [],
-      ((list, refl, itself list), tt),
       (record { takes = list ∷ []; answer = Int; variables = list ∷ [] }, refl, (inl refl, tt), refl, inl refl),
+      (list ∷ [], (itself list, tt), (0 ∷ [], refl)),
       refl,
     )
     tt refl counts
 
-eight_go : GoesIn 8 0 (replicate 4 empty)
-eight_go =
-    goes_next scope ty.Nothing codes 7 0 1 (replicate 4 empty) (known (0 ∷ []) ty.Nothing ty.Nothing ty.Nothing)
+abbrev read : Slots
+read = Of list (0 ∷ []) ∷ empty ∷ empty ∷ empty ∷ empty ∷ []
+
+places : GoesIn 8 1 read
+places =
+    goes_next scope ty.Nothing codes 7 1 2 read (known operand ty.Nothing ty.Nothing ty.Nothing) (Place arguments None 0 0 1 0) refl (
+      list,
+      refl,
+      tuple_room [] (list ∷ []) (list_room, tt),
+      (list, refl, itself list),
+      (λ e. absurd cc),
+      inl (refl, refl),
+    )
+    tt refl calls
+
+nine_go : GoesIn 9 0 (replicate 5 empty)
+nine_go =
+    goes_next scope ty.Nothing codes 8 0 1 (replicate 5 empty) read
     (Give list (tree.Read place) 0 []) refl (
       [],
       tt,
       (record { root = list; room = list_room; begins = refl; inner = list; leads = refl; ends = refl }, list_room, inl refl),
       refl,
     )
-    tt refl calls
+    tt refl places

@@ -13,15 +13,16 @@ use Rattle.limbo_typed.specs.declared.operation.Given.TheVariants as given
 use Rattle.limbo_meaning.specs.Operations.{item_of}
 use Rattle.limbo_meaning.specs.Places.{Way}
 use Rattle.limbo_meaning.specs.Trees as tree
-use Rattle.limbo_meaning.specs.Trees.{Work, Operate, Node, Terms}
+use Rattle.limbo_meaning.specs.Trees.{Work, Operate, Node, Terms, NoTerms, MoreTerms}
 use Rattle.limbo_meaning.specs.Evaluation.{work_refers}
 use Rattle.limbo_kept.specs.Operating.{HasRoom}
+use Rattle.limbo_kept.specs.Processes.{AllHaveRooms}
 use Rattle.limbo_kept.specs.Trees.{Scope, WayIs, WorkIs}
 use Rattle.core_code.specs.Code.{Instr, Give, Write, Skip, Truth, Mirror}
-use Rattle.core_code.specs.Naming.{AllDiffer}
-use Rattle.core_code.specs.Terms.{Lowered, LoweredAll, count_of, drops_from, drops_if, gives, gathers, node, type_of, type_at, given_slot}
+use Rattle.core_code.specs.Terms.{Lowered, LoweredAll, count_of, drops_from, drops_if, gives, gathers, node, type_of, type_at, types_in}
+use Rattle.core_code.specs.Terms.{first_of, picks, given_slot}
 use Rattle.core_follows.specs.Drops.{Between, Beside, AllTouch, HasAt}
-use Rattle.core_follows.specs.Handled.{Suits, types_in, count}
+use Rattle.core_follows.specs.Handled.{Suits, count}
 use Rattle.core_follows.proofs.Drops.{touch_more}
 use Rattle.core_follows.proofs.Holding.{has_front, has_back}
 use Rattle.core_follows.proofs.Static.{touch_if, touch_wide}
@@ -35,9 +36,10 @@ use Rattle.core_typing.proofs.Telling.{Gave, gave, gave_to, none_into, told_same
 use Rattle.core_typing.proofs.Going.{put_same, put_other, put_long, same_place, goes_one, goes_to, two_places}
 use Rattle.core_typing.proofs.Cleaning.{clean_same, put_clean}
 use Rattle.core_typing.proofs.Drops.{Lets, none, enters, passes, lets_same, lets_wide, lets_more, lets_from, lets_if}
-use Rattle.core_typing.proofs.Standing.{itself, is_on, these_on, these_same}
-use Rattle.core_typing.proofs.Nodes.{GoesBy, AllBy, lets_put, lets_up, got_none, got_below, touch_row, gives_goes, call_goes, print_goes}
-use Rattle.core_typing.proofs.Nodes.{channel_goes, assign_goes, copy_goes, link_goes, gather_goes, pick_goes}
+use Rattle.core_typing.proofs.Standing.{itself, is_on, these_on, these_same, all_stand_on}
+use Rattle.core_typing.proofs.Nodes.{GoesBy, AllBy, lets_put, lets_up, got_none, got_below, touch_row, gives_goes}
+use Rattle.core_typing.proofs.Nodes.{channel_goes, assign_goes, copy_goes, link_goes, pick_goes}
+use Rattle.core_typing.proofs.Placing.{EachBy, gather_goes, call_goes, print_goes}
 
 -- ---- what was decided
 
@@ -77,46 +79,52 @@ mirror_enters defs lo hi tells true slots d ds e f x = enters d (length ds) (e r
 mirror_enters defs lo hi tells false slots d ds e f x = subst (Lets defs lo hi tells slots) (f refl) x
 
 module _ (s : Scope) (answer : Ty) (code : List Instr) where
+  first_at : (ts : Terms) → type_at s.adts 0 ts ≡ first_of s.adts (types_in s.adts ts)
+  first_at NoTerms = refl
+  first_at (MoreTerms t ts) = refl
+
   pub node_goes : (lo : ℕ) (t : Ty) (o : Work) (ts : Terms) (us : List Ty) (u : Ty) (l : LoweredAll) → lo ≤ l.free
-      → AllTouch (Between lo l.free) l.drops → AllValued lo l.free l.drops l.values → AllDiffer l.values → length l.values ≡ count ts
+      → AllTouch (Between lo l.free) l.drops → AllValued lo l.free l.drops l.values → length l.values ≡ count ts
       → Suits s.adts t o ts → WorkIs s t o us u → AllStand (types_in s.adts ts) us → TakesSo (types_in s.adts ts) o
-      → AllBy s answer code lo l (types_in s.adts ts)
-      → GoesBy s answer code lo (node s.adts (type_at s.adts 0 ts) t o l) (type_of s.adts (Node t o ts))
-  node_goes lo t (Operate o) ts us u l p w vd df c (inl h) is st f all =
+      → AllBy s answer code lo l (types_in s.adts ts) → EachBy s answer code lo l.free l.each l.drops l.values (types_in s.adts ts)
+      → AllHaveRooms s.adts (types_in s.adts ts)
+      → GoesBy s answer code lo (node s.adts (types_in s.adts ts) t o l) (type_of s.adts (Node t o ts))
+  node_goes lo t (Operate o) ts us u l p w vd c (inl h) is st f all each rooms =
       subst (λ (b : Bool). GoesBy s answer code lo (if b then gathers s.adts t o l else gives s.adts t (Operate o) l) t) (sym h)
       (gives_goes s answer code lo t (Operate o) l (types_in s.adts ts) p w
       (λ after a c. (us, these_on after l.values (types_in s.adts ts) us a st, (is.0, is.1, is.2, inl refl), c)) all)
-  node_goes lo t (Operate o) ts us u l p w vd df c (inr h) is st f all =
+  node_goes lo t (Operate o) ts us u l p w vd c (inr h) is st f all each rooms =
       subst (λ (b : Bool). GoesBy s answer code lo (if b then gathers s.adts t o l else gives s.adts t (Operate o) l) t) (sym h.0)
-      (gather_goes s answer code lo t o l (types_in s.adts ts) us p w vd df h.1 st (is.0, is.1, is.2, inl refl) all)
-  node_goes lo t (tree.Literal k) ts us u l p w vd df c h is st f all =
+      (gather_goes s answer code lo t o l (types_in s.adts ts) us p w vd h.1 st (is.0, is.1, is.2, inl refl) each)
+  node_goes lo t (tree.Literal k) ts us u l p w vd c h is st f all each rooms =
       gives_goes s answer code lo t (tree.Literal k) l (types_in s.adts ts) p w
       (λ after a c. (us, these_on after l.values (types_in s.adts ts) us a st, (is.0, is.1, is.2, inl refl), c)) all
-  node_goes lo t tree.Nil ts us u l p w vd df c h is st f all =
+  node_goes lo t tree.Nil ts us u l p w vd c h is st f all each rooms =
       gives_goes s answer code lo t tree.Nil l (types_in s.adts ts) p w
       (λ after a c. (us, these_on after l.values (types_in s.adts ts) us a st, (is.0, is.1, inl refl), c)) all
-  node_goes lo t (tree.Read r) ts us u l p w vd df c h is st f all =
+  node_goes lo t (tree.Read r) ts us u l p w vd c h is st f all each rooms =
       gives_goes s answer code lo t (tree.Read r) l (types_in s.adts ts) p w
       (λ after a c. (us, these_on after l.values (types_in s.adts ts) us a st, (is.0, is.1, inl refl), c)) all
-  node_goes lo t (tree.Sprint ps) ts us u l p w vd df c h is st f all =
+  node_goes lo t (tree.Sprint ps) ts us u l p w vd c h is st f all each rooms =
       gives_goes s answer code lo t (tree.Sprint ps) l (types_in s.adts ts) p w
       (λ after a c. (us, these_on after l.values (types_in s.adts ts) us a st, (is.0, is.1, inl refl), c)) all
-  node_goes lo t (tree.Assign aims) ts us u l p w vd df c h is st f all =
-      assign_goes s answer code lo (type_at s.adts 0 ts) t aims ts us is.0 l p h st is.1 is.2 is.3 all
-  node_goes lo t (tree.TakePart k) ts us u l p w vd df c h is st f all =
-      pick_goes s answer code lo t is.0 k ts l us p w vd c h st is.1 is.2 is.3 all
-  node_goes lo t tree.Copy ts us u l p w vd df c h is st f all =
-      copy_goes s answer code lo (type_at s.adts 0 ts) t ts us is.0 l p h st is.1 is.2 f all
-  node_goes lo t tree.Link ts us u l p w vd df c h is st f all =
-      link_goes s answer code lo (type_at s.adts 0 ts) t is.0 l (types_in s.adts ts) us p w vd is.1 is.2 st is.3 all
-  node_goes lo t tree.NewChannel ts us u l p w vd df c h is st f all =
-      channel_goes s answer code lo (type_at s.adts 0 ts) t l (types_in s.adts ts) is.0 p w is.1 all
-  node_goes lo t (tree.Call k) ts us u l p w vd df c h is st f all =
-      call_goes s answer code lo t k l (types_in s.adts ts) p w
-      (λ after a c. (us, these_on after l.values (types_in s.adts ts) us a st, (is.0, is.1, is.2, is.3, inl refl), c)) all
-  node_goes lo t (tree.Print ps) ts us u l p w vd df c h is st f all =
-      subst (λ (x : Ty). GoesBy s answer code lo (node s.adts (type_at s.adts 0 ts) x (tree.Print ps) l) x) (sym h)
-      (print_goes s answer code lo (type_at s.adts 0 ts) ps l (types_in s.adts ts) p w f all)
+  node_goes lo t (tree.Assign aims) ts us u l p w vd c h is st f all each rooms =
+      assign_goes s answer code lo (types_in s.adts ts) t aims ts us is.0 l p h st is.1 is.2 is.3 all
+  node_goes lo t (tree.TakePart k) ts us u l p w vd c h is st f all each rooms =
+      subst (λ (x : Ty). GoesBy s answer code lo (picks s.adts x t k l) t) (first_at ts)
+      (pick_goes s answer code lo t is.0 k ts l us p w vd c h st is.1 is.2 is.3 all)
+  node_goes lo t tree.Copy ts us u l p w vd c h is st f all each rooms =
+      copy_goes s answer code lo (types_in s.adts ts) t ts us is.0 l p h st is.1 is.2 f all
+  node_goes lo t tree.Link ts us u l p w vd c h is st f all each rooms =
+      link_goes s answer code lo (types_in s.adts ts) t is.0 l (types_in s.adts ts) us p w vd is.1 is.2 st is.3 all
+  node_goes lo t tree.NewChannel ts us u l p w vd c h is st f all each rooms =
+      channel_goes s answer code lo (types_in s.adts ts) t l (types_in s.adts ts) is.0 p w is.1 all
+  node_goes lo t (tree.Call k) ts us u l p w vd c h is st f all each rooms =
+      call_goes s answer code lo t k l.free l.code l.each l.drops l.values (types_in s.adts ts) p w vd each rooms
+      (is.0, is.1, all_stand_on (types_in s.adts ts) us is.0.takes st is.2, is.3, inl refl)
+  node_goes lo t (tree.Print ps) ts us u l p w vd c h is st f all each rooms =
+      subst (λ (x : Ty). GoesBy s answer code lo (node s.adts (types_in s.adts ts) x (tree.Print ps) l) x) (sym h)
+      (print_goes s answer code lo ps l.free l.code l.each l.drops l.values (types_in s.adts ts) p w vd each rooms f)
 
   -- ---- connectives
 

@@ -26,7 +26,7 @@ use Rattle.core_typing.specs.Needs.{IsA, Finds, IsClean, AllClean}
 use Rattle.core_typing.specs.Going as going
 use Rattle.core_typing.specs.Going.{Stand, stand, Agrees, Goes}
 use Rattle.core_typing.specs.Trees.{HasValue, Formed, FormedIf, TestFormed, LoopFormed, BlockFormed}
-use Rattle.core_typing.specs.Functions.{TreesGoWell, ValuesGoWell, FunctionsGoWell}
+use Rattle.core_typing.specs.Functions.{AnswersAreLaid, TreesGoWell, ValuesGoWell, FunctionsGoWell}
 use Rattle.core_typing.proofs.Standing.{is_on, term_stands}
 use Rattle.core_typing.proofs.Loops.{joined_formed, entered_formed, behind_formed, at_turn_formed, tested_has_back, tested_has_next}
 use Rattle.core_typing.proofs.Loops.{tested_has_condition, tested_has_test, tested_has_rest, entered_has_back, entered_has_next}
@@ -59,7 +59,8 @@ module _ (s : Scope) (answer : Ty) (code : List Instr) where
   two_go m pc pc' slots g h (suc zero) d l = h
   two_go m pc pc' slots g h (suc (suc k)) d l = absurd (omega arith)
 
-module _ (trees : TreesGoWell) (values : ValuesGoWell) (s : Scope) (answer : Ty) (code : List Instr) (size : ℕ) where
+module _ (trees : TreesGoWell) (values : ValuesGoWell) (s : Scope) (answers : AnswersAreLaid s) (answer : Ty) (code : List Instr)
+    (size : ℕ) where
   abbrev D : ℕ → Block → Type 0
   D pc b = Does s.adts code size pc b
 
@@ -126,7 +127,7 @@ module _ (trees : TreesGoWell) (values : ValuesGoWell) (s : Scope) (answer : Ty)
         → G n (pc + length (whole s.adts t)) after)
         → G n pc slots
     expression_well t u is r f pc has slots long clean k =
-        trees s answer code t u is r.0 f pc slots has (let l = r.1 in omega arith) clean n (λ after e a c. k after (e ∙ long) a c)
+        trees s answers answer code t u is r.0 f pc slots has (let l = r.1 in omega arith) clean n (λ after e a c. k after (e ∙ long) a c)
 
     -- A test, and both ways on.
     test_well : (t : Term) → GoodTest t → Ready s.adts code size t → (pc k : ℕ) → HasAt code pc (test s.adts (Some t) k)
@@ -244,7 +245,8 @@ module _ (trees : TreesGoWell) (values : ValuesGoWell) (s : Scope) (answer : Ty)
     place_well pc todo (returns {t = t} {rest = rest} r has) g slots long clean =
         let x = lower s.adts 0 t in
         let last = Return (Some x.value) ∷ [] in
-        values s answer code t answer g.0.0 r.0 g.1.0.1 pc slots (has_front code pc x.code last has) (let l = r.1 in omega arith) clean n
+        values s answers answer code t answer g.0.0 r.0 g.1.0.1 pc slots (has_front code pc x.code last has) (let l = r.1 in omega arith)
+        clean n
         (λ after e a. goes_by s answer code n (pc + length x.code) after (Return (Some x.value)) (has_back code pc x.code last has).0
         (is_on after x.value (type_of s.adts t) answer a (term_stands s t answer g.0.0 r.0 g.1.0.0 g.1.0.1)) tt
         (λ m q. none_go s answer code m))
@@ -275,10 +277,10 @@ all_empty (suc n) zero = refl
 all_empty (suc n) (suc r) = all_empty n r
 
 pub functions_go_well : TreesGoWell → ValuesGoWell → FunctionsGoWell
-functions_go_well trees values o g r is h f n =
+functions_go_well trees values o g r is h f answers n =
     let s = scope_of o r.variables in
     let fun = function_of o.adts r in
-    all_well trees values s g.answer fun.code fun.slots n 0 r.body
+    all_well trees values s answers g.answer fun.code fun.slots n 0 r.body
     (subst (Does o.adts fun.code fun.slots 0) (join_done o.adts 0 r.body h)
     (body_does o.adts fun.code fun.slots r.body h (omega arith) (has_all [] fun.code)))
     (is.body, f) (replicate fun.slots empty) (length-replicate fun.slots empty) (all_empty fun.slots)

@@ -5,6 +5,7 @@ pub mod Drops
 pub mod Standing
 pub mod Moving
 pub mod Nodes
+pub mod Placing
 pub mod Expressions
 pub mod Filling
 pub mod Trees

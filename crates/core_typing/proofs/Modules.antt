@@ -26,13 +26,13 @@ use Rattle.limbo_meaning.specs.Program.{terms_before, only_term, aims_in, node_o
 use Rattle.limbo_meaning.specs.Program.{as_printed, operands_at, operands_to, operands_among, operating, evaluated, optional}
 use Rattle.limbo_meaning.specs.Program.{local, declared_value, before, all_before, Routine, routine_of, program_of}
 use Rattle.limbo_kept.specs.Permitting.{Anything}
-use Rattle.limbo_kept.specs.Trees.{Scope}
+use Rattle.limbo_kept.specs.Trees.{Signature, Scope}
 use Rattle.limbo_kept.specs.Processes.{scope_of, ProgramIs}
-use Rattle.limbo_kept.specs.Modules.{AdtsAreLaid, outline_of}
+use Rattle.limbo_kept.specs.Modules.{AdtsAreLaid, signature_of, outline_of}
 use Rattle.limbo_kept.proofs.Modules.{declares_all}
 use Rattle.limbo_kept.proofs.Opening.{modules_keep_types}
 use Rattle.core_code.specs.Terms.{type_of}
-use Rattle.core_follows.specs.Handled.{types_in}
+use Rattle.core_code.specs.Terms.{types_in}
 use Rattle.core_follows.specs.Modules.{IsPart, AllPart, ItemsPart, PartIf, StmPart, BlockPart}
 use Rattle.core_follows.proofs.Modules.{part_front, part_back, node_type, operated_part, printed_part, load_or, modules_are_handled}
 use Rattle.core_typing.specs.Needs.{printed}
@@ -407,9 +407,16 @@ functions_formed m laid (f ∷ fs) x zero r e h =
     (λ p. stmts_formed m laid f x.0.named [] f.body Done x.0.body p (λ q. tt)) h
 functions_formed m laid (f ∷ fs) x (suc k) r e h = functions_formed m laid fs x.1 k r e h
 
+routine_there : (fs : List typed.Function) (k : ℕ) (g : Signature) → slice_get (map signature_of fs) k ≡ Some g
+    → (r : Routine) × (slice_get (map routine_of fs) k ≡ Some r)
+routine_there [] k g e = absurd cc
+routine_there (f ∷ fs) zero g e = (routine_of f, refl)
+routine_there (f ∷ fs) (suc k) g e = routine_there fs k g e
+
 pub sound_modules_go_well : TreesGoWell → ValuesGoWell → SoundModulesGoWell
 sound_modules_go_well trees values m x laid written part f g r there e n =
     let is : ProgramIs (outline_of m) (program_of m) =
     modules_keep_types.programs Anything m x laid written (modules_keep_types.anything m) in
     functions_go_well trees values (outline_of m) g r (is.routines f g r there e) (modules_are_handled m x laid part f r e)
-    (functions_formed m laid m.functions x.functions f r e (part f r e)) n
+    (functions_formed m laid m.functions x.functions f r e (part f r e))
+    (λ k h q. let a = routine_there m.functions k h q in (is.routines k h a.0 q a.1).answer) n

@@ -1,6 +1,6 @@
 -- Drops of references that moved into another slot go well.
-use Rattle.std.proofs.Common.{◌≡◌, ℕ, zero, suc, ◌+◌, ◌-◌, ◌<◌, ◌≤◌, List, [], ◌∷◌, ◌++◌, length, Option, Some}
-use Rattle.std.proofs.Common.{refl, sym, ap, subst, ◌∙◌, arith, inl, inr, ⊎_elim, ◌⊎◌, take, length-append, append-nil, append_assoc}
+use Rattle.std.proofs.Common.{◌≡◌, ◌≢◌, ℕ, zero, suc, ◌+◌, ◌-◌, ◌<◌, ◌≤◌, List, [], ◌∷◌, ◌++◌, length, Option, Some}
+use Rattle.std.proofs.Common.{refl, sym, ap, subst, ◌∙◌, arith, inl, inr, ⊎_elim, ◌⊎◌, take, append-nil, append_assoc}
 use Rattle.std.proofs.lemmas.Bool.{cases_eq}
 use Rattle.std.specs.Prelude.{slice_set, slice_index_or}
 use Rattle.limbo_types.specs.Types as ty
@@ -8,27 +8,22 @@ use Rattle.limbo_types.specs.Types.{Ty}
 use Rattle.limbo_layout.specs.Adts.{Def}
 use Rattle.limbo_typed.specs.declared.operation.Operation.{Operation}
 use Rattle.limbo_typed.specs.declared.operation.Operation.TheVariants as operation
-use Rattle.limbo_meaning.specs.Values.{Value, Parts, row, nothing, fitted, all_fitted, references, references_in}
+use Rattle.limbo_meaning.specs.Values.{nothing, fitted}
 use Rattle.core_code.specs.Code.{Instr, Back}
-use Rattle.core_code.specs.Naming.{DiffersFrom, AllDiffer}
 use Rattle.core_code.specs.Terms.{Moved, drops_after, drops_after_all, moves_into, moves_out, count_of, count_all, part_types}
-use Rattle.core_code.specs.Terms.{part_numbers}
-use Rattle.core_code.proofs.Names.{row_references}
+use Rattle.core_code.proofs.Whole.{values_are_whole}
 use Rattle.core_follows.specs.Drops.{Between, Apart, AllSpare}
-use Rattle.core_follows.specs.Handled.{AllFit, StandsFor, HasLayout, Makes, Takes}
+use Rattle.core_follows.specs.Handled.{StandsFor, HasLayout, Makes, Takes}
 use Rattle.core_follows.proofs.Static.{after_touch}
 use Rattle.core_follows.proofs.Moves.{IsMoved, IsNotMoved, moved_or, to_moved, to_same, after_more, after_long, after_apart, spare_tail}
-use Rattle.core_follows.proofs.Gathers.{SpareEach, spare_each_after, Segments, Made, made_segments, made_tuple, made_adt, made_references}
 use Rattle.core_follows.proofs.Valued.{spare_after_one}
 use Rattle.core_follows.proofs.Given.{counted}
-use Rattle.core_typing.specs.Held.{Held, Of, Slots, empty, slot, put, emptied, type_held, live_in, Has, dropped, moved, left_by}
-use Rattle.core_typing.specs.Held.{all_moved}
-use Rattle.core_typing.specs.Needs.{AreThese, IsClean}
+use Rattle.core_typing.specs.Held.{Held, Of, Slots, empty, slot, put, type_held, live_in, Has, dropped, moved, left_by}
+use Rattle.core_typing.specs.Needs.{IsClean}
 use Rattle.core_typing.proofs.Cleaning.{Came, has_moved, has_either, clean_by, clean_none, clean_same, dropped_type, dropped_live}
 use Rattle.core_typing.proofs.Cleaning.{live_without, left_type, left_live, put_equal, drop_equal}
 use Rattle.core_typing.proofs.Going.{put_same, put_other, put_long}
 use Rattle.core_typing.proofs.Drops.{Lets, none, one, enters, passes, takes}
-use Rattle.core_typing.proofs.Standing.{count_as}
 
 -- ---- one move
 
@@ -55,7 +50,7 @@ module _ (defs : List Def) (v : Moved) (t : Ty) (from into from' into' : Held) (
   moved_goes k p q = record {
     there = dropped_type (v.at + (k - v.first)) into' ∙ m.there;
     moved = m.moved;
-    came = λ j h. let x = dropped_live (v.at + (k - v.first)) into' j h in elim (m.came j x.0) [
+    came = λ j h. let x = dropped_live (v.at + (k - v.first)) into' t m.there j h in elim (m.came j x.0) [
       | inl y ↦ inl y
       | inr y ↦ inr (y.0, live_without k from y.0 y.1 (λ e. x.1 (y.4 ∙ ap (λ (z : ℕ). v.at + (z - v.first)) e)), y.2, y.3, y.4)
     ];
@@ -86,7 +81,7 @@ module _ (defs : List Def) (v : Moved) (t : Ty) (from into from' into' : Held) (
     ];
     left = λ i u o e l. dropped_type k from' ∙ m.left i u o (sym (dropped_type k from) ∙ e) l;
     held = (m.held.0, dropped_type k from' ∙ m.held.1);
-    stays = λ j h. let x = dropped_live k from' j h in let y = m.stays j x.0 in (live_without k from j y.0 x.1, y.1);
+    stays = λ j h. let x = dropped_live k from' m.held.0 m.held.1 j h in let y = m.stays j x.0 in (live_without k from j y.0 x.1, y.1);
   }
 
   -- One of those that were there goes.
@@ -94,7 +89,7 @@ module _ (defs : List Def) (v : Moved) (t : Ty) (from into from' into' : Held) (
   old_goes k = record {
     there = dropped_type k into' ∙ m.there;
     moved = m.moved;
-    came = λ j h. let x = dropped_live k into' j h in elim (m.came j x.0) [
+    came = λ j h. let x = dropped_live k into' t m.there j h in elim (m.came j x.0) [
       | inl y ↦ inl (live_without k into j y x.1)
       | inr y ↦ inr y
     ];
@@ -277,12 +272,12 @@ module _ (defs : List Def) (tells : ℕ → Option Ty) where
 
 -- ---- slots that are emptied
 
-set_again : (xs : Slots) (s : ℕ) (a b : Held) → slice_set (slice_set xs s a) s b ≡ slice_set xs s b
+pub set_again : (xs : Slots) (s : ℕ) (a b : Held) → slice_set (slice_set xs s a) s b ≡ slice_set xs s b
 set_again [] s a b = refl
 set_again (x ∷ xs) zero a b = refl
 set_again (x ∷ xs) (suc s) a b = ap (λ (ys : Slots). x ∷ ys) (set_again xs s a b)
 
-set_itself : (xs : Slots) (s : ℕ) → put xs s (slot xs s) ≡ xs
+pub set_itself : (xs : Slots) (s : ℕ) → put xs s (slot xs s) ≡ xs
 set_itself [] s = refl
 set_itself (x ∷ xs) zero = refl
 set_itself (x ∷ xs) (suc s) = ap (λ (ys : Slots). x ∷ ys) (set_itself xs s)
@@ -294,6 +289,19 @@ set_apart (x ∷ xs) zero (suc r) a b n = refl
 set_apart (x ∷ xs) (suc s) zero a b n = refl
 set_apart (x ∷ xs) (suc s) (suc r) a b n = ap (λ (ys : Slots). x ∷ ys) (set_apart xs s r a b (λ e. n (ap suc e)))
 
+-- None of the slots is another one of them.
+abbrev pub DiffersFrom : ℕ → List ℕ → Type 0
+DiffersFrom s [] = Unit {0}
+DiffersFrom s (d ∷ ds) = (s ≢ d) × DiffersFrom s ds
+
+abbrev pub AllDiffer : List ℕ → Type 0
+AllDiffer [] = Unit {0}
+AllDiffer (s ∷ ss) = DiffersFrom s ss × AllDiffer ss
+
+abbrev pub emptied : Slots → List ℕ → Slots
+emptied slots [] = slots
+emptied slots (s ∷ ss) = put (emptied slots ss) s empty
+
 pub emptied_put : (slots : Slots) (s : ℕ) (h : Held) (ss : List ℕ) → DiffersFrom s ss
     → emptied (put slots s h) ss ≡ put (emptied slots ss) s h
 emptied_put slots s h [] d = refl
@@ -304,7 +312,25 @@ pub emptied_other : (slots : Slots) (ss : List ℕ) (d : ℕ) → DiffersFrom d 
 emptied_other slots [] d h = refl
 emptied_other slots (s ∷ ss) d h = put_other (emptied slots ss) s d empty h.0 ∙ emptied_other slots ss d h.1
 
+pub long_emptied : (slots : Slots) (ss : List ℕ) → length (emptied slots ss) ≡ length slots
+long_emptied slots [] = refl
+long_emptied slots (s ∷ ss) = put_long (emptied slots ss) s empty ∙ long_emptied slots ss
+
 -- ---- all moves, one after the other
+
+-- All that move from slots into one.
+abbrev pub all_moved : List Moved → Slots → List ℕ
+all_moved [] slots = []
+all_moved (v ∷ vs) slots = moved v (live_in (slot slots v.slot)) ++ all_moved vs slots
+
+-- No drop brings anything back into one of these slots.
+abbrev pub SpareEach : List ℕ → List Instr → Type 0
+SpareEach [] ds = Unit {0}
+SpareEach (s ∷ ss) ds = AllSpare s ds × SpareEach ss ds
+
+spare_each_after : (v : Moved) (ss : List ℕ) (ds : List Instr) → SpareEach ss ds → SpareEach ss (drops_after v ds)
+spare_each_after v [] ds h = tt
+spare_each_after v (s ∷ ss) ds h = (spare_after_one s v ds h.0, spare_each_after v ss ds h.1)
 
 abbrev pub EachIn : (lo hi : ℕ) → List ℕ → Type 0
 EachIn lo hi [] = Unit {0}
@@ -327,7 +353,7 @@ module _ (defs : List Def) (P : List Ty) where
     suit_put slots s h ns ss d.1 f.1,
   )
 
-  moved_same : (slots : Slots) (d into : ℕ) (h : Held) (ns ss : List ℕ) → DiffersFrom d ss
+  pub moved_same : (slots : Slots) (d into : ℕ) (h : Held) (ns ss : List ℕ) → DiffersFrom d ss
       → all_moved (moves_into defs P into ns ss) (put slots d h) ≡ all_moved (moves_into defs P into ns ss) slots
   moved_same slots d into h [] ss f = refl
   moved_same slots d into h (n ∷ ns) [] f = refl
@@ -432,73 +458,15 @@ module _ (defs : List Def) where
   part_below (t ∷ P) zero = omega arith
   part_below (t ∷ P) (suc n) = let a = part_below P n in omega arith
 
-  none_counted : (P : List Ty) → length (references_in (all_fitted defs P [])) ≡ count_all defs P
-  none_counted [] = refl
-  none_counted (t ∷ P) =
-      let a = none_counted P in
-      let b = length-append (references (fitted defs t nothing)) (references_in (all_fitted defs P [])) in
-      omega arith
-
   pub whole_counted : (t : Ty) → HasLayout defs t → count_of defs t ≡ count_all defs (part_types defs t)
-  whole_counted t h = ap length (made_references defs t [] h) ∙ none_counted (part_types defs t)
-
-  zeros : List Ty → List Value
-  zeros [] = []
-  zeros (t ∷ ts) = fitted defs t nothing ∷ zeros ts
-
-  zeros_fit : (ts : List Ty) → AllFit defs ts (zeros ts)
-  unfolding zeros
-  zeros_fit [] = tt
-  zeros_fit (t ∷ ts) = (inl (nothing, refl), zeros_fit ts)
-
-  these_long : (slots : Slots) (ss : List ℕ) (ts : List Ty) → AreThese slots ss ts → length ss ≡ length (zeros ts)
-  unfolding zeros
-  these_long slots [] [] a = refl
-  these_long slots [] (t ∷ ts) a = absurd a
-  these_long slots (s ∷ ss) [] a = absurd a
-  these_long slots (s ∷ ss) (t ∷ ts) a = ap suc (these_long slots ss ts a.1)
-
-  segments_suit : (P : List Ty) (u : Value) (b : ℕ) (slots : Slots) (ns ss : List ℕ) (ts : List Ty)
-      → Segments defs P u b ns ss (zeros ts) → AreThese slots ss ts → Suit defs P slots ns ss
-  unfolding zeros
-  segments_suit P u b slots [] [] [] g a = tt
-  segments_suit P u b slots [] [] (t ∷ ts) g a = absurd g
-  segments_suit P u b slots [] (s ∷ ss) ts g a = absurd g
-  segments_suit P u b slots (n ∷ ns) [] ts g a = absurd g
-  segments_suit P u b slots (n ∷ ns) (s ∷ ss) [] g a = absurd g
-  segments_suit P u b slots (n ∷ ns) (s ∷ ss) (t ∷ ts) g a =
-      let x = count_as defs a.0.0 t a.0.2 in
-      let y = g.2 in (
-        (a.0.0, a.0.1, omega (arith, x, y)),
-        segments_suit P u (count_all defs (take n P) + count_of defs (slice_index_or P n ty.Int)) slots ns ss ts g.3 a.1,
-      )
-
-  suit_made : (P : List Ty) (full : List Value) (slots : Slots) (ns ss : List ℕ) (ts : List Ty) → Made defs 0 P full ns (zeros ts)
-      → AreThese slots ss ts → Suit defs P slots ns ss
-  suit_made P full slots ns ss ts m a =
-      let u : Value = Parts (row (all_fitted defs P full)) in
-      segments_suit P u 0 slots ns ss ts
-      (made_segments defs u 0 P full ns (zeros ts) ss [] [] 0 m refl (row_references (all_fitted defs P full)) refl
-      (these_long slots ss ts a) (omega arith)) a
+  whole_counted (ty.Tuple us) h = values_are_whole.counts_of_tuples defs us
+  whole_counted (ty.Adt n) h = values_are_whole.counts_of_adts defs n h.2.0 h.2.1
+  whole_counted _ h = absurd h
 
   pub made_laid : (t : Ty) (o : Operation) (ts : List Ty) → Makes defs t o ts → HasLayout defs t
   made_laid (ty.Tuple us) operation.Tuple ts m = tt
   made_laid (ty.Adt k) (operation.Adt n v) ts m = (m.1.0, m.1.1, m.1.2)
   made_laid _ _ ts m = absurd m
-
-  -- What goes into a tuple or an adt's value suits its parts.
-  pub suits_parts : (t : Ty) (o : Operation) (slots : Slots) (ss : List ℕ) (ts : List Ty) → Makes defs t o ts → AreThese slots ss ts
-      → Suit defs (part_types defs t) slots (part_numbers defs o (length ss)) ss
-  suits_parts (ty.Tuple us) operation.Tuple slots ss ts m a =
-      subst (λ (n : ℕ). Suit defs (part_types defs (ty.Tuple us)) slots (part_numbers defs operation.Tuple n) ss)
-      (sym (these_long slots ss ts a))
-      (suit_made _ _ slots _ ss ts (made_tuple defs us ts (zeros ts) m (zeros_fit ts)) a)
-  suits_parts (ty.Adt k) (operation.Adt n v) slots ss ts m a =
-      subst (λ (j : ℕ). Suit defs (part_types defs (ty.Adt k)) slots (part_numbers defs (operation.Adt j v) (length ss)) ss) m.0
-      (subst (λ (n : ℕ). Suit defs (part_types defs (ty.Adt k)) slots (part_numbers defs (operation.Adt k v) n) ss)
-      (sym (these_long slots ss ts a))
-      (suit_made _ _ slots _ ss ts (made_adt defs k m.1.0 v ts (zeros ts) m.1.1 m.1.3 (zeros_fit ts)) a))
-  suits_parts _ _ slots ss ts m a = absurd m
 
   -- ---- a part that is taken out
 
@@ -540,7 +508,7 @@ module _ (defs : List Def) where
               came = λ j y. inr (has_moved m (live_in h) j y);
               left = λ j w p z c. left_type m h ∙ z;
               held = (v, left_type m h ∙ e);
-              stays = λ j y. left_live m h j y;
+              stays = λ j y. left_live m h v e j y;
             });
         others = λ r p q. put_other out mid r now q ∙ put_other slots from r (left_by m h) p ∙ sym (put_other slots mid r (Of t []) q);
       } in

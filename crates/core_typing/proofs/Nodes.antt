@@ -8,8 +8,6 @@ use Rattle.limbo_types.specs.Types as ty
 use Rattle.limbo_types.specs.Types.{Ty}
 use Rattle.limbo_layout.specs.Adts.{Def}
 use Rattle.limbo_typed.specs.Fitting.{HasPart, Stands, AllStand, EachStands}
-use Rattle.limbo_typed.specs.declared.operation.Operation.{Operation}
-use Rattle.limbo_typed.specs.declared.print.Piece.{Piece}
 use Rattle.limbo_meaning.specs.Values.{Ref}
 use Rattle.limbo_meaning.specs.Places.{operands_of}
 use Rattle.limbo_meaning.specs.Trees as tree
@@ -17,31 +15,29 @@ use Rattle.limbo_meaning.specs.Trees.{Aim, Work, Operate, Node, Terms}
 use Rattle.limbo_meaning.specs.Evaluation.{work_refers, operands_for}
 use Rattle.limbo_kept.specs.Operating.{HasRoom}
 use Rattle.limbo_kept.specs.Places.{Leads}
-use Rattle.limbo_kept.specs.Trees.{Scope, AimsAre, DeclaresAll, WorkIs}
-use Rattle.core_code.specs.Code.{Instr, Give, Gather, Pick, Known, Write, CopyInto, Cell, Call, Print, Drop}
-use Rattle.core_code.specs.Naming.{DiffersFrom, AllDiffer}
+use Rattle.limbo_kept.specs.Trees.{Scope, AimsAre, DeclaresAll}
+use Rattle.core_code.specs.Code.{Instr, Give, Pick, Known, Write, CopyInto, Cell, Drop}
 use Rattle.core_code.specs.Terms.{Lowered, LoweredAll, count_of, slot_at, drops_from, drops_if, drops_after}
-use Rattle.core_code.specs.Terms.{drops_after_all, gives, gathers}
-use Rattle.core_code.specs.Terms.{writes, cells, cell_drops, list_code, picks, moves_out, moves_into, node, type_at}
-use Rattle.core_code.specs.Terms.{part_types, part_numbers}
+use Rattle.core_code.specs.Terms.{gives}
+use Rattle.core_code.specs.Terms.{writes, cells, cell_drops, list_code, picks, moves_out, node, type_at}
+use Rattle.core_code.specs.Terms.{types_in}
 use Rattle.core_follows.specs.Drops.{Between, Beside, AllTouch, HasAt}
-use Rattle.core_follows.specs.Handled.{Suits, Makes, types_in, count}
+use Rattle.core_follows.specs.Handled.{Suits, count}
 use Rattle.core_follows.proofs.Drops.{touch_others}
 use Rattle.core_follows.proofs.Holding.{has_front, has_back}
 use Rattle.core_follows.proofs.Static.{touch_if, touch_wide}
-use Rattle.core_follows.proofs.Gathers.{SpareEach}
 use Rattle.core_follows.proofs.Valued.{AllValued, valued_at, spare_outside}
-use Rattle.core_typing.specs.Held.{Held, Of, Slots, empty, slot, put, emptied, type_held, live_in, Has, moved, left_by, all_moved}
-use Rattle.core_typing.specs.Needs.{StandsAs, IsA, AreThese, IsAIf, Fills, Finds, printed, IsClean, AreClean}
+use Rattle.core_typing.specs.Held.{Held, Of, Slots, slot, put, type_held, live_in, Has, moved, left_by}
+use Rattle.core_typing.specs.Needs.{StandsAs, IsA, AreThese, IsAIf, Fills, Finds, IsClean, AreClean}
 use Rattle.core_typing.specs.Written.{told}
 use Rattle.core_typing.specs.Going.{stand, behind, IsTold, Agrees, Goes, all_of, got_by, picked, out_of}
 use Rattle.core_typing.proofs.Telling.{Gave, gave, told_same, told_over, told_at, writes_quiet, cells_quiet, cells_told}
 use Rattle.core_typing.proofs.Going.{put_same, put_other, put_long, same_place, goes_to}
 use Rattle.core_typing.proofs.Cleaning.{clean_same, has_number}
 use Rattle.core_typing.proofs.Drops.{Lets, none, lets_same, lets_told, lets_wide, lets_more, lets_from, lets_if}
-use Rattle.core_typing.proofs.Standing.{as_on, itself, solid_part, exactly, room_as, is_on, is_same, these_on, these_same}
+use Rattle.core_typing.proofs.Standing.{as_on, itself, solid_part, exactly, room_as, is_on, is_same, these_on}
 use Rattle.core_typing.proofs.Standing.{these_at, these_take, these_drop, type_at_in, type_at_stands}
-use Rattle.core_typing.proofs.Moving.{emptied_other, EachIn, gather_lets, part_below, whole_counted, made_laid, suits_parts, pick_lets}
+use Rattle.core_typing.proofs.Moving.{pick_lets}
 
 -- What is told of values in slots, one after the other.
 abbrev pub AllTold : (tells : ℕ → Option Ty) → Slots → List ℕ → Type 0
@@ -166,25 +162,6 @@ got_if defs t false j h = absurd h
 pub got_below : (defs : List Def) (t : Ty) (o : Work) (j : ℕ) → Has (got_by defs t o) j → j < count_of defs t
 got_below defs t o j h = got_if defs t (work_refers defs t o) j h
 
-each_in : (lo hi : ℕ) (ds : List Instr) (ss : List ℕ) → AllValued lo hi ds ss → EachIn lo (suc hi) ss
-each_in lo hi ds [] v = tt
-each_in lo hi ds (s ∷ ss) v = ((v.0.0.0, let x = v.0.0.1 in omega (arith, x)), each_in lo hi ds ss v.1)
-
-spare_each : (lo hi : ℕ) (ds : List Instr) (ss : List ℕ) → AllValued lo hi ds ss → SpareEach ss ds
-spare_each lo hi ds [] h = tt
-spare_each lo hi ds (s ∷ ss) h = (h.0.1, spare_each lo hi ds ss h.1)
-
-pub apart_from : (lo hi d : ℕ) (ds : List Instr) (ss : List ℕ) → Beside lo hi d → AllValued lo hi ds ss → DiffersFrom d ss
-apart_from lo hi d ds [] b v = tt
-apart_from lo hi d ds (s ∷ ss) b v = (
-  λ e. absurd (let x = v.0.0.0 in let y = v.0.0.1 in elim b [ inl z ↦ omega (arith, z, e, x) | inr z ↦ omega (arith, z, e, y) ]),
-  apart_from lo hi d ds ss b v.1,
-)
-
-long_emptied : (slots : Slots) (ss : List ℕ) → length (emptied slots ss) ≡ length slots
-long_emptied slots [] = refl
-long_emptied slots (s ∷ ss) = put_long (emptied slots ss) s empty ∙ long_emptied slots ss
-
 -- ---- items of a list
 
 EachIs : (mid : ℕ) → Ty → Slots → List ℕ → Type 0
@@ -304,37 +281,8 @@ module _ (s : Scope) (answer : Ty) (code : List Instr) where
       (got_none s.adts t o) (got_below s.adts t o) g p
       (let q = left.long in omega arith) w left.lets)))
 
-  pub call_goes : (lo : ℕ) (t : Ty) (f : ℕ) (l : LoweredAll) (ts : List Ty) → lo ≤ l.free → AllTouch (Between lo l.free) l.drops
-      → ((after : Slots) → AreThese after l.values ts → IsClean (slot after l.free) → Finds s answer after (Call t f l.free l.values))
-      → AllBy lo l ts
-      → GoesBy lo (node s.adts ty.Nothing t (tree.Call f) l) t
-  call_goes lo t f l ts p w h all =
-      behind_all lo t l ts (Call t f l.free l.values ∷ []) _ l.free (suc l.free) p (omega arith) all
-      (λ pc before after left fits clean.
-      one_leaves pc before after (put after l.free (Of t (all_of s.adts t))) lo (suc l.free) l.free _ _ t
-      (h after left.these (clean l.free (omega arith) (omega arith)))
-      tt refl
-      (λ e. let g = gave code pc l.free t (Call t f l.free l.values) e (λ r. refl) in
-      left_put s.adts (told code pc) (told code (suc pc)) before after lo l.free l.values l.drops _ ts t (all_of s.adts t) g p (omega arith)
-      left
-      (lets_own s.adts (told code pc) (told code (suc pc)) after lo l.free t true (all_of s.adts t) l.drops
-      (λ e. absurd cc) (all_below s.adts t) g p
-      (let q = left.long in omega arith) w left.lets)))
-
-  pub print_goes : (lo : ℕ) (u : Ty) (ps : List Piece) (l : LoweredAll) (ts : List Ty) → lo ≤ l.free → AllTouch (Between lo l.free) l.drops
-      → ts ≡ printed ps → AllBy lo l ts → GoesBy lo (node s.adts u ty.Int (tree.Print ps) l) ty.Int
-  print_goes lo u ps l ts p w e all =
-      behind_all lo ty.Int l ts (Print ps l.free l.values ∷ []) l.drops l.free (suc l.free) p (omega arith) all
-      (λ pc before after left fits clean. one_leaves pc before after (put after l.free (Of ty.Int [])) lo (suc l.free) l.free _ _ ty.Int
-      (subst (AreThese after l.values) e left.these, clean l.free (omega arith) (omega arith))
-      tt refl
-      (λ h. let g = gave code pc l.free ty.Int (Print ps l.free l.values) h (λ r. refl) in
-      left_put s.adts (told code pc) (told code (suc pc)) before after lo l.free l.values l.drops l.drops ts ty.Int [] g p
-      (omega arith) left
-      (lets_up s.adts (told code pc) (told code (suc pc)) after lo l.free ty.Int l.drops g (let q = left.long in omega arith) w left.lets)))
-
-  pub channel_goes : (lo : ℕ) (u t : Ty) (l : LoweredAll) (ts : List Ty) (i : Ty) → lo ≤ l.free → AllTouch (Between lo l.free) l.drops
-      → t ≡ ty.ChanOf i → AllBy lo l ts → GoesBy lo (node s.adts u t tree.NewChannel l) t
+  pub channel_goes : (lo : ℕ) (u : List Ty) (t : Ty) (l : LoweredAll) (ts : List Ty) (i : Ty) → lo ≤ l.free
+      → AllTouch (Between lo l.free) l.drops → t ≡ ty.ChanOf i → AllBy lo l ts → GoesBy lo (node s.adts u t tree.NewChannel l) t
   channel_goes lo u t l ts i p w e all =
       behind_all lo t l ts (Give t tree.NewChannel l.free [] ∷ []) _ l.free (suc l.free) p (omega arith) all
       (λ pc before after left fits clean.
@@ -389,7 +337,7 @@ module _ (s : Scope) (answer : Ty) (code : List Instr) where
       (told_same code pc value (Write x.type x.way (take (operands_of x.way) ss) x.part value) has.0 refl ∙ z) w.1 has.1
       (same_place s answer code n (pc + suc (length rest)) (suc pc + length rest) slots (omega arith) k))
 
-  pub assign_goes : (lo : ℕ) (u t : Ty) (aims : List Aim) (ts : Terms) (us : List Ty) (v : Ty) (l : LoweredAll)
+  pub assign_goes : (lo : ℕ) (u : List Ty) (t : Ty) (aims : List Aim) (ts : Terms) (us : List Ty) (v : Ty) (l : LoweredAll)
       → lo ≤ l.free → operands_for aims < count ts → AllStand (types_in s.adts ts) us → slice_get us (operands_for aims) ≡ Some v
       → HasRoom s.adts v
       → AimsAre s aims us v → AllBy lo l (types_in s.adts ts)
@@ -412,7 +360,7 @@ module _ (s : Scope) (answer : Ty) (code : List Instr) where
         agrees = agrees;
       }))))
 
-  pub copy_goes : (lo : ℕ) (u t : Ty) (ts : Terms) (us : List Ty) (i : Ty) (l : LoweredAll) → lo ≤ l.free → 2 < count ts
+  pub copy_goes : (lo : ℕ) (u : List Ty) (t : Ty) (ts : Terms) (us : List Ty) (i : Ty) (l : LoweredAll) → lo ≤ l.free → 2 < count ts
       → AllStand (types_in s.adts ts) us → slice_get us 0 ≡ Some (ty.ArrayOf i) → slice_get us 2 ≡ Some (ty.ArrayOf i)
       → slice_get (types_in s.adts ts) 1 ≡ Some ty.Int → AllBy lo l (types_in s.adts ts)
       → GoesBy lo (node s.adts u t tree.Copy l) (type_at s.adts 2 ts)
@@ -552,8 +500,9 @@ module _ (s : Scope) (answer : Ty) (code : List Instr) where
         );
       }))
 
-  pub link_goes : (lo : ℕ) (u t : Ty) (i : Ty) (l : LoweredAll) (ts us : List Ty) → lo ≤ l.free → AllTouch (Between lo l.free) l.drops
-      → AllValued lo l.free l.drops l.values → t ≡ ty.ListOf i → HasRoom s.adts i → AllStand ts us → EachStands us i → AllBy lo l ts
+  pub link_goes : (lo : ℕ) (u : List Ty) (t : Ty) (i : Ty) (l : LoweredAll) (ts us : List Ty) → lo ≤ l.free
+      → AllTouch (Between lo l.free) l.drops → AllValued lo l.free l.drops l.values
+      → t ≡ ty.ListOf i → HasRoom s.adts i → AllStand ts us → EachStands us i → AllBy lo l ts
       → GoesBy lo (node s.adts u t tree.Link l) t
   link_goes lo u t i l ts us p w v e r st each all =
       subst (λ (x : Ty). GoesBy lo (node s.adts u x tree.Link l) x) (sym e)
@@ -563,51 +512,6 @@ module _ (s : Scope) (answer : Ty) (code : List Instr) where
       (each_these lo l.free l.drops i after l.values us v (these_on after l.values ts us left.these st) each) fits clean))
 
   -- ---- parts that move
-
-  pub gather_goes : (lo : ℕ) (t : Ty) (o : Operation) (l : LoweredAll) (ts us : List Ty) → lo ≤ l.free
-      → AllTouch (Between lo l.free) l.drops → AllValued lo l.free l.drops l.values → AllDiffer l.values → Makes s.adts t o ts
-      → AllStand ts us → WorkIs s t (Operate o) us t → AllBy lo l ts → GoesBy lo (gathers s.adts t o l) t
-  gather_goes lo t o l ts us p w v differ m st work all =
-      let mid = l.free in
-      let ss = l.values in
-      let P = part_types s.adts t in
-      let ns = part_numbers s.adts o (length ss) in
-      let es = drops_after_all (moves_into s.adts P mid ns ss) l.drops in
-      behind_all lo t l ts (Gather t (Operate o) mid ss ∷ []) es mid (suc mid) p (omega arith) all
-      (λ pc before after left fits clean.
-      let inside : mid < length after = let q = left.long in omega arith in
-      let placed = put after mid (Of t []) in
-      let now = Of t (all_moved (moves_into s.adts P mid ns ss) after) in
-      let last = put (emptied after ss) mid now in
-      let apart = apart_from lo mid mid l.drops ss (inr (omega arith)) v in
-      let those : AreThese placed ss ts = these_same after placed lo mid l.drops ss ts v
-      (λ r a b. put_other after mid r (Of t []) (λ e. absurd (omega (arith, e, b)))) left.these in
-      let counts = whole_counted s.adts t (made_laid s.adts t o ts m) in
-      let there = put_same (emptied after ss) mid now (let q = long_emptied after ss in omega arith) in
-      one_leaves pc before after last lo (suc mid) mid _ es t (
-        us,
-        these_on after ss ts us left.these st,
-        work,
-        clean_same (slot after mid) (slot (emptied after ss) mid) (emptied_other after ss mid apart)
-            (clean mid (omega arith) (omega arith)),
-      ) tt refl
-      (λ h.
-      let g = gave code pc mid t (Gather t (Operate o) mid ss) h (λ r. refl) in
-      let tells = told code (suc pc) in
-      record {
-        long = put_long (emptied after ss) mid now ∙ long_emptied after ss ∙ left.long;
-        same = λ r b. put_other (emptied after ss) mid r now
-            (λ e. absurd (elim b [ inl y ↦ omega (arith, y, e, p) | inr y ↦ omega (arith, y, e) ]))
-            ∙ emptied_other after ss r (apart_from lo mid r l.drops ss (elim b [ inl y ↦ inl y | inr y ↦ inr (omega arith) ]) v)
-            ∙ left.same r (elim b [ inl y ↦ inl y | inr y ↦ inr (omega arith) ]);
-        lets = gather_lets s.adts P tells lo mid t ns ss after l.drops
-            (λ n. let b = part_below s.adts P n in omega (arith, b, counts)) inside g.there
-            (suits_parts s.adts t o placed ss ts m those) (each_in lo mid l.drops ss v) differ apart (spare_each lo mid l.drops ss v)
-            (spare_outside lo mid mid l.drops (inr (omega arith)) w)
-            (lets_up s.adts (told code pc) tells after lo mid t l.drops g inside w left.lets);
-        is = (t, ap type_held there, itself t);
-        agrees = (t, ap type_held there, g.there);
-      }))
 
   pub pick_goes : (lo : ℕ) (t v : Ty) (k : ℕ) (ts : Terms) (l : LoweredAll) (us : List Ty) → lo ≤ l.free
       → AllTouch (Between lo l.free) l.drops → AllValued lo l.free l.drops l.values → length l.values ≡ count ts

@@ -1,11 +1,12 @@
 -- Which types stand where others are asked for, and of which type the value of a tree is.
-use Rattle.std.proofs.Common.{◌≡◌, ℕ, zero, suc, ◌<◌, ◌≤◌, List, [], ◌∷◌, Some, None, refl, sym, ap, subst}
+use Rattle.std.proofs.Common.{◌≡◌, ℕ, zero, suc, ◌<◌, ◌≤◌, List, [], ◌∷◌, length, Some, None, refl, sym, ap, subst}
 use Rattle.std.proofs.Common.{◌∙◌, arith, inl, inr, ⊎_elim, take, drop}
 use Rattle.std.specs.Prelude.{slice_get}
 use Rattle.limbo_types.specs.Types as ty
 use Rattle.limbo_types.specs.Types.{Ty}
-use Rattle.limbo_layout.specs.Adts.{Def}
-use Rattle.limbo_layout.specs.Layout.{reference, is_alone}
+use Rattle.limbo_types.specs.View.{tys_of}
+use Rattle.limbo_layout.specs.Adts.{Def, listed}
+use Rattle.limbo_layout.specs.Layout.{Room, number, reference, in_order, is_alone, of_tuple, AllLaid, none_laid, more_laid}
 use Rattle.limbo_typed.specs.Fitting.{HasPart, Stands, AllStand}
 use Rattle.limbo_meaning.specs.Trees as tree
 use Rattle.limbo_meaning.specs.Trees.{Work, Operate, Term, Evaluated, Awaiting, Missing, Node, Lazy, Deciding, Update, Change, Put, Linking}
@@ -13,13 +14,16 @@ use Rattle.limbo_meaning.specs.Trees.{Fill, Filling, Turning, Repeating, Terms, 
 use Rattle.limbo_meaning.specs.Evaluation.{operands_for}
 use Rattle.limbo_kept.specs.Operating.{HasRoom}
 use Rattle.limbo_kept.specs.Trees.{Scope, WorkIs, DeclaresFor, TermIs, TermsAre}
+use Rattle.limbo_kept.specs.Processes.{AllHaveRooms}
+use Rattle.limbo_kept.proofs.Fitted.{room_of_part}
 use Rattle.core_code.specs.Code.{Instr}
-use Rattle.core_code.specs.Terms.{count_of, slot_at, type_of, type_at}
-use Rattle.core_follows.specs.Handled.{HasLayout, Suits, Declares, Handled, AllHandled, types_in, count}
+use Rattle.core_code.specs.Terms.{count_of, slot_at, type_of, type_at, types_in}
+use Rattle.core_follows.specs.Handled.{HasLayout, Suits, Declares, Handled, AllHandled, count}
 use Rattle.core_follows.proofs.Valued.{AllValued}
 use Rattle.core_typing.specs.Held.{Slots, slot, type_held}
-use Rattle.core_typing.specs.Needs.{MayBeNil, StandsAs, IsA, AreThese}
+use Rattle.core_typing.specs.Needs.{MayBeNil, StandsAs, AllStandAs, IsA, AreThese}
 use Rattle.core_typing.specs.Trees.{HasValue, Formed, AllFormed}
+use Rattle.core_typing.specs.Functions.{AnswersAreLaid}
 
 -- ---- types
 
@@ -208,3 +212,97 @@ module _ (s : Scope) where
     terms_stand NoTerms (u ∷ us) is h f = absurd is
     terms_stand (MoreTerms t ts) [] is h f = absurd is
     terms_stand (MoreTerms t ts) (u ∷ us) is h f = (term_stands t u is.0 h.0 f.0 f.1, terms_stand ts us is.1 h.1 f.2)
+
+-- ---- what stands in a row
+
+pub all_stand_itself : (ts : List Ty) → AllStand ts ts
+all_stand_itself [] = tt
+all_stand_itself (t ∷ ts) = (inl refl, all_stand_itself ts)
+
+pub all_stand_on : (ts us vs : List Ty) → AllStand ts us → AllStand us vs → AllStand ts vs
+all_stand_on [] [] [] a b = tt
+all_stand_on [] [] (v ∷ vs) a b = absurd b
+all_stand_on [] (u ∷ us) vs a b = absurd a
+all_stand_on (t ∷ ts) [] vs a b = absurd a
+all_stand_on (t ∷ ts) (u ∷ us) [] a b = absurd b
+all_stand_on (t ∷ ts) (u ∷ us) (v ∷ vs) a b = (stands_on t u v a.0 b.0, all_stand_on ts us vs a.1 b.1)
+
+pub all_as_on : (ws ts us : List Ty) → AllStandAs ws ts → AllStand ts us → AllStandAs ws us
+all_as_on [] [] [] a b = tt
+all_as_on [] [] (u ∷ us) a b = absurd b
+all_as_on [] (t ∷ ts) us a b = absurd a
+all_as_on (w ∷ ws) [] us a b = absurd a
+all_as_on (w ∷ ws) (t ∷ ts) [] a b = absurd b
+all_as_on (w ∷ ws) (t ∷ ts) (u ∷ us) a b = (as_on w t u a.0 b.0, all_as_on ws ts us a.1 b.1)
+
+pub all_stand_long : (ts us : List Ty) → AllStand ts us → length us ≡ length ts
+all_stand_long [] [] a = refl
+all_stand_long [] (u ∷ us) a = absurd a
+all_stand_long (t ∷ ts) [] a = absurd a
+all_stand_long (t ∷ ts) (u ∷ us) a = ap suc (all_stand_long ts us a.1)
+
+-- ---- the type of a tree's value has a layout
+
+module _ (s : Scope) (answers : AnswersAreLaid s) where
+  list_room : (t : Ty) → HasRoom s.adts (ty.ListOf t)
+  list_room t = (reference, is_alone (ty.ListOf t) reference refl)
+
+  array_room : (t : Ty) → HasRoom s.adts (ty.ArrayOf t)
+  array_room t = (reference, is_alone (ty.ArrayOf t) reference refl)
+
+  int_room : HasRoom s.adts ty.Int
+  int_room = (number 4, is_alone ty.Int (number 4) refl)
+
+  room_at : (ts : Terms) (k : ℕ) → k < count ts → AllHaveRooms s.adts (types_in s.adts ts) → HasRoom s.adts (type_at s.adts k ts)
+  room_at NoTerms k l r = absurd (omega arith)
+  room_at (MoreTerms t ts) zero l r = r.0
+  room_at (MoreTerms t ts) (suc k) l r = room_at ts k (omega arith) r.1
+
+  node_room : (t : Ty) (o : Work) (ts : Terms) (us : List Ty) (u : Ty) → WorkIs s t o us u → Suits s.adts t o ts
+      → AllHaveRooms s.adts (types_in s.adts ts) → HasRoom s.adts (type_of s.adts (Node t o ts))
+  node_room t (tree.Literal c) ts us u w h r = w.2
+  node_room t tree.Nil ts us u w h r = w.1
+  node_room t (Operate o) ts us u w h r = w.1
+  node_room t (tree.Read x) ts us u w h r = w.1
+  node_room t (tree.Assign aims) ts us u w h r = room_at ts (operands_for aims) h r
+  node_room t (tree.TakePart n) ts us u w h r = room_of_part s.adts [] w.0 n t w.2 w.3
+  node_room t tree.Copy ts us u w h r = room_at ts 2 h r
+  node_room t tree.Link ts us u w h r = subst (HasRoom s.adts) (sym w.1) (list_room w.0)
+  node_room t tree.NewChannel ts us u w h r =
+      subst (HasRoom s.adts) (sym w.1) (reference, is_alone (ty.ChanOf w.0) reference refl)
+  node_room t (tree.Call f) ts us u w h r = subst (HasRoom s.adts) w.3 (answers f w.0 w.1)
+  node_room t (tree.Print ps) ts us u w h r = subst (HasRoom s.adts) (sym h) int_room
+  node_room t (tree.Sprint ps) ts us u w h r = subst (HasRoom s.adts) (sym w.1) (reference, is_alone ty.Chars reference refl)
+
+  mutual
+    term_room : (t : Term) (u : Ty) → TermIs s [] None t u → Handled s.adts t → HasValue t → Formed s t → HasRoom s.adts (type_of s.adts t)
+    term_room (Node t o ts) u is h v f = ⊎_elim
+        (λ (x : Suits s.adts t o ts × AllHandled s.adts ts). ⊎_elim
+        (λ (w : WorkIs s t o is.0 u). node_room t o ts is.0 u w x.0 (terms_room ts is.0 is.1 x.1 f.2))
+        (λ (w : DeclaresFor s o ts u). absurd (declared_none s t o ts u v w)) is.2)
+        (λ (x : Declares o ts). absurd (declares_none s t o ts v x)) h
+    term_room (Lazy c l r) u is h v f = int_room
+    term_room (Update o g t w ts us) u is h v f = is.7
+    term_room (Fill t l items rest) u is h v f = array_room t
+    term_room _ u is h v f = absurd h
+
+    pub terms_room : (ts : Terms) (us : List Ty) → TermsAre s [] None ts us → AllHandled s.adts ts → AllFormed s ts
+        → AllHaveRooms s.adts (types_in s.adts ts)
+    terms_room NoTerms us is h f = tt
+    terms_room (MoreTerms t ts) [] is h f = absurd is
+    terms_room (MoreTerms t ts) (u ∷ us) is h f = (term_room t u is.0 h.0 f.0 f.1, terms_room ts us is.1 h.1 f.2)
+
+-- ---- the layout of what is put together of operands
+
+pub listed_types : (us : List Ty) → listed (tys_of us) ≡ us
+listed_types [] = refl
+listed_types (u ∷ us) = ap (λ (ts : List Ty). u ∷ ts) (listed_types us)
+
+all_laid : (defs : List Def) (us : List Ty) → AllHaveRooms defs us → (rs : List Room) × AllLaid defs (listed (tys_of us)) rs
+all_laid defs [] r = ([], none_laid)
+all_laid defs (u ∷ us) r =
+    let a = all_laid defs us r.1 in
+    (r.0.0 ∷ a.0, more_laid u (listed (tys_of us)) r.0.0 a.0 r.0.1 a.1)
+
+pub tuple_room : (defs : List Def) (us : List Ty) → AllHaveRooms defs us → HasRoom defs (ty.Tuple (tys_of us))
+tuple_room defs us r = let a = all_laid defs us r in (in_order a.0, of_tuple (tys_of us) a.0 a.1)

@@ -6,6 +6,7 @@ use Rattle.std.proofs.lemmas.List.{length-reverse}
 use Rattle.std.specs.Prelude.{slice_get, nat_eq, if◌then◌else◌, reverse}
 use Rattle.limbo_types.specs.Types as ty
 use Rattle.limbo_types.specs.Types.{Ty}
+use Rattle.limbo_types.specs.View.{tys_of}
 use Rattle.limbo_layout.specs.Adts.{Def}
 use Rattle.limbo_typed.specs.declared.operation.Operation.TheVariants as operation
 use Rattle.process_model.specs.Choice.{or_else}
@@ -14,12 +15,13 @@ use Rattle.limbo_meaning.specs.Trees.{Aim, Work, Operate, Term, Evaluated, Node,
 use Rattle.limbo_meaning.specs.Trees.{NoItems, MoreItems}
 use Rattle.limbo_meaning.specs.Evaluation.{passes_on, may_hold, work_refers, operands_for}
 use Rattle.limbo_meaning.specs.Operations.{item_of}
-use Rattle.core_code.specs.Code.{Instr, Give, Cell, Skip, Element, Other, Keep, Drop}
+use Rattle.core_code.specs.Code.{Instr, Give, Place, Cell, Skip, Element, Other, Keep, Drop}
 use Rattle.core_code.specs.Terms.{LoweredAll, Moved, is_moved, drop_after, drops_after, drops_after_all, drops_from, drops_if}
-use Rattle.core_code.specs.Terms.{count_of, gives, gathers, writes, cells, list_code, cell_drops, slot_at, moves_out, type_at, node, others}
+use Rattle.core_code.specs.Terms.{count_of, gives, gathers, writes, cells, list_code, cell_drops, slot_at, moves_out, first_of, types_in}
+use Rattle.core_code.specs.Terms.{node, others}
 use Rattle.core_code.specs.Terms.{lower, lower_all, lower_items, lower_rest, named, items_end, rest_end, part_types, part_numbers}
-use Rattle.core_code.specs.Terms.{moves_into}
-use Rattle.core_code.proofs.Used.{either_up, end_up, node_up, term_up, terms_up, items_up, rest_up}
+use Rattle.core_code.specs.Terms.{moves_into, numbers_from, placed, variant_of, together, together_drops, value_slot}
+use Rattle.core_code.proofs.Used.{value_from, either_up, end_up, node_up, term_up, terms_up, items_up, rest_up}
 use Rattle.core_follows.specs.Drops.{Beside, HasAt}
 use Rattle.core_typing.specs.Written.{given_to, told}
 
@@ -91,6 +93,10 @@ pub quiet_back : (r : ℕ) (is js : List Instr) → Quiet r (is ++ js) → Quiet
 quiet_back r [] js h = h
 quiet_back r (i ∷ is) js h = quiet_back r is js h.1
 
+abbrev pub EachQuiet : (r : ℕ) → List (List Instr) → Type 0
+EachQuiet r [] = Unit {0}
+EachQuiet r (is ∷ more) = Quiet r is × EachQuiet r more
+
 pub told_over : (code : List Instr) (pc r : ℕ) (is : List Instr) → HasAt code pc is → Quiet r is
     → told code (pc + length is) r ≡ told code pc r
 told_over code pc r [] h q = let e : pc + 0 ≡ pc = omega arith in ap (λ (k : ℕ). told code k r) e
@@ -141,23 +147,28 @@ module _ (defs : List Def) (r : ℕ) where
   gives_still : (t : Ty) (o : Work) (l : LoweredAll) → Quiet r l.drops → Quiet r (gives defs t o l).drops
   gives_still t o l h = quiet_more r l.drops _ h (quiet_if r (work_refers defs t o) _ (quiet_from r l.free 0 (count_of defs t)))
 
-  node_still : (u t : Ty) (o : Work) (l : LoweredAll) → Quiet r l.drops → Quiet r (node defs u t o l).drops
-  node_still u t (Operate o) l h = go (passes_on o)
+  together_still : (front us : List Ty) (l : LoweredAll) → Quiet r l.drops → Quiet r (together_drops defs front us l)
+  together_still front us l h =
+      quiet_all r (moves_into defs (front ++ us) l.free (numbers_from defs (length front) (length l.values)) l.values) l.drops h
+
+  node_still : (us : List Ty) (t : Ty) (o : Work) (l : LoweredAll) → Quiet r l.drops → Quiet r (node defs us t o l).drops
+  node_still us t (Operate o) l h = go (passes_on o)
     where
       go : (b : Bool) → Quiet r (if b then gathers defs t o l else gives defs t (Operate o) l).drops
       go true = quiet_all r (moves_into defs (part_types defs t) l.free (part_numbers defs o (length l.values)) l.values) l.drops h
       go false = gives_still t (Operate o) l h
-  node_still u t (tree.Assign aims) l h = h
-  node_still u t (tree.TakePart k) l h = quiet_after r (moves_out defs u k (slot_at 0 l.values) l.free) l.drops h
-  node_still u t tree.Copy l h = h
-  node_still u t tree.Link l h = quiet_more r l.drops _ h (cells_still (length l.values) l.free)
-  node_still u t (tree.Call f) l h = quiet_more r l.drops _ h (quiet_from r l.free 0 (count_of defs t))
-  node_still u t (tree.Print ps) l h = h
-  node_still u t tree.NewChannel l h = quiet_more r l.drops _ h (refl, tt)
-  node_still u t (tree.Literal c) l h = gives_still t (tree.Literal c) l h
-  node_still u t tree.Nil l h = gives_still t tree.Nil l h
-  node_still u t (tree.Read w) l h = gives_still t (tree.Read w) l h
-  node_still u t (tree.Sprint ps) l h = gives_still t (tree.Sprint ps) l h
+  node_still us t (tree.Assign aims) l h = h
+  node_still us t (tree.TakePart k) l h = quiet_after r (moves_out defs (first_of defs us) k (slot_at 0 l.values) l.free) l.drops h
+  node_still us t tree.Copy l h = h
+  node_still us t tree.Link l h = quiet_more r l.drops _ h (cells_still (length l.values) l.free)
+  node_still us t (tree.Call f) l h =
+      quiet_more r (together_drops defs [] us l) _ (together_still [] us l h) (quiet_from r (value_slot defs l) 0 (count_of defs t))
+  node_still us t (tree.Print ps) l h = together_still (ty.Chars ∷ []) us l h
+  node_still us t tree.NewChannel l h = quiet_more r l.drops _ h (refl, tt)
+  node_still us t (tree.Literal c) l h = gives_still t (tree.Literal c) l h
+  node_still us t tree.Nil l h = gives_still t tree.Nil l h
+  node_still us t (tree.Read w) l h = gives_still t (tree.Read w) l h
+  node_still us t (tree.Sprint ps) l h = gives_still t (tree.Sprint ps) l h
 
   others_still : (h : Bool) (t : Ty) (a : ℕ) (zs : List ℤ) (lo s : ℕ) (e : Term)
       → Quiet r (lower defs (if h then suc lo else s) e).drops
@@ -168,7 +179,7 @@ module _ (defs : List Def) (r : ℕ) where
   mutual
     pub drops_still : (lo : ℕ) (t : Term) → Quiet r (lower defs lo t).drops
     drops_still lo (Evaluated v) = tt
-    drops_still lo (Node t o ts) = node_still (type_at defs 0 ts) t o (lower_all defs lo ts) (all_still lo ts)
+    drops_still lo (Node t o ts) = node_still (types_in defs ts) t o (lower_all defs lo ts) (all_still lo ts)
     drops_still lo (Lazy c l e) =
         quiet_more r (lower defs lo l).drops _ (drops_still lo l)
         (quiet_if r (may_hold defs e) _ (refl, drops_still (suc (lower defs lo l).free) e))
@@ -231,32 +242,62 @@ module _ (defs : List Def) (r : ℕ) where
       cells_quiet t items None free
       (narrow r free (free + length items) free (suc (free + (suc (length ss) - 1))) (omega arith) (omega arith) d)
 
+  -- what is put together of operands
+  pub placed_quiet : (t : Ty) (v : Option ℕ) (into n : ℕ) (ks : List ℕ) (cs : List (List Instr)) (ss : List ℕ) → (into ≡ r → ⊥)
+      → EachQuiet r cs → Quiet r (placed defs t v into n ks cs ss)
+  placed_quiet t v into n [] cs ss e q = tt
+  placed_quiet t v into n (k ∷ ks) [] ss e q = tt
+  placed_quiet t v into n (k ∷ ks) (c ∷ cs) [] e q = tt
+  placed_quiet t v into n (k ∷ ks) (c ∷ cs) (s ∷ ss) e q =
+      quiet_more r c (Place t v n k into s ∷ placed defs t v into (suc n) ks cs ss) q.0
+      (none_into into r t e, placed_quiet t v into (suc n) ks cs ss e q.1)
+
+  together_quiet : (lo : ℕ) (front us : List Ty) (l : LoweredAll) → lo ≤ l.free → EachQuiet r l.each
+      → Beside lo (suc (value_slot defs l)) r → Quiet r (together defs front us l)
+  together_quiet lo front us l p q d =
+      let v = value_from defs l in
+      placed_quiet (ty.Tuple (tys_of (front ++ us))) None l.free 0 (numbers_from defs (length front) (length l.values)) l.each l.values
+      (other r lo (suc (value_slot defs l)) l.free p (omega arith) d) q
+
+  value_quiet : (lo : ℕ) (t : Ty) (l : LoweredAll) → lo ≤ l.free → Beside lo (suc (value_slot defs l)) r
+      → (if nat_eq (value_slot defs l) r then Some t else None) ≡ None
+  value_quiet lo t l p d =
+      let v = value_from defs l in
+      none_into (value_slot defs l) r t (other r lo (suc (value_slot defs l)) (value_slot defs l) (omega arith) (omega arith) d)
+
   one_quiet : (lo : ℕ) (t : Ty) (l : LoweredAll) → lo ≤ l.free → Beside lo (suc l.free) r
       → (if nat_eq l.free r then Some t else None) ≡ None
   one_quiet lo t l p d = none_into l.free r t (other r lo (suc l.free) l.free p (omega arith) d)
 
-  node_quiet : (lo : ℕ) (u t : Ty) (o : Work) (l : LoweredAll) → lo ≤ l.free → Quiet r l.code → Beside lo (node defs u t o l).free r
-      → Quiet r (node defs u t o l).code
-  node_quiet lo u t (Operate o) l p q d = go (passes_on o) d
+  node_quiet : (lo : ℕ) (us : List Ty) (t : Ty) (o : Work) (l : LoweredAll) → lo ≤ l.free → Quiet r l.code → EachQuiet r l.each
+      → Beside lo (node defs us t o l).free r
+      → Quiet r (node defs us t o l).code
+  node_quiet lo us t (Operate o) l p q e d = go (passes_on o) d
     where
       go : (b : Bool) → Beside lo (if b then gathers defs t o l else gives defs t (Operate o) l).free r
           → Quiet r (if b then gathers defs t o l else gives defs t (Operate o) l).code
-      go true d = quiet_more r l.code _ q (one_quiet lo t l p d, tt)
+      go true d = quiet_more r (placed defs t (variant_of defs o) l.free 0 (part_numbers defs o (length l.values)) l.each l.values) _
+          (placed_quiet t (variant_of defs o) l.free 0 (part_numbers defs o (length l.values)) l.each l.values
+          (other r lo (suc l.free) l.free p (omega arith) d) e)
+          (one_quiet lo t l p d, tt)
       go false d = quiet_more r l.code _ q (one_quiet lo t l p d, tt)
-  node_quiet lo u t (tree.Assign aims) l p q d =
+  node_quiet lo us t (tree.Assign aims) l p q e d =
       quiet_more r l.code _ q (writes_quiet aims l.values (slot_at (operands_for aims) l.values))
-  node_quiet lo u t (tree.TakePart k) l p q d = quiet_more r l.code _ q (one_quiet lo t l p d, tt)
-  node_quiet lo u t tree.Copy l p q d = quiet_more r l.code _ q (refl, tt)
-  node_quiet lo u t tree.Link l p q d =
+  node_quiet lo us t (tree.TakePart k) l p q e d = quiet_more r l.code _ q (one_quiet lo t l p d, tt)
+  node_quiet lo us t tree.Copy l p q e d = quiet_more r l.code _ q (refl, tt)
+  node_quiet lo us t tree.Link l p q e d =
       quiet_more r l.code _ q (list_quiet (item_of t) l.values l.free
       (narrow r l.free (suc (l.free + (length l.values - 1))) lo (suc (l.free + (length l.values - 1))) p (omega arith) d))
-  node_quiet lo u t (tree.Call f) l p q d = quiet_more r l.code _ q (one_quiet lo t l p d, tt)
-  node_quiet lo u t (tree.Print ps) l p q d = quiet_more r l.code _ q (one_quiet lo ty.Int l p d, tt)
-  node_quiet lo u t tree.NewChannel l p q d = quiet_more r l.code _ q (one_quiet lo t l p d, tt)
-  node_quiet lo u t (tree.Literal c) l p q d = quiet_more r l.code _ q (one_quiet lo t l p d, tt)
-  node_quiet lo u t tree.Nil l p q d = quiet_more r l.code _ q (one_quiet lo t l p d, tt)
-  node_quiet lo u t (tree.Read w) l p q d = quiet_more r l.code _ q (one_quiet lo t l p d, tt)
-  node_quiet lo u t (tree.Sprint ps) l p q d = quiet_more r l.code _ q (one_quiet lo t l p d, tt)
+  node_quiet lo us t (tree.Call f) l p q e d =
+      quiet_more r (together defs [] us l) _ (together_quiet lo [] us l p e d) (value_quiet lo t l p d, tt)
+  node_quiet lo us t (tree.Print ps) l p q e d =
+      quiet_more r (together defs (ty.Chars ∷ []) us l) _ (together_quiet lo (ty.Chars ∷ []) us l p e d)
+      (value_quiet lo ty.Int l p d, tt)
+  node_quiet lo us t tree.NewChannel l p q e d = quiet_more r l.code _ q (one_quiet lo t l p d, tt)
+  node_quiet lo us t (tree.Literal c) l p q e d = quiet_more r l.code _ q (one_quiet lo t l p d, tt)
+  node_quiet lo us t tree.Nil l p q e d = quiet_more r l.code _ q (one_quiet lo t l p d, tt)
+  node_quiet lo us t (tree.Read w) l p q e d = quiet_more r l.code _ q (one_quiet lo t l p d, tt)
+  node_quiet lo us t (tree.Sprint ps) l p q e d = quiet_more r l.code _ q (one_quiet lo t l p d, tt)
 
   -- an element's slots are its own or shared
   beside_base : (h : Bool) (lo s from hi : ℕ) (e : Term) → (if h then (lower defs (if h then lo else s) e).free else lo) ≤ hi
@@ -294,9 +335,9 @@ module _ (defs : List Def) (r : ℕ) where
     term_quiet lo (Evaluated v) d = (none_into lo r _ (other r lo (suc lo) lo (omega arith) (omega arith) d), tt)
     term_quiet lo (Node t o ts) d =
         let l = lower_all defs lo ts in
-        let u = type_at defs 0 ts in
-        node_quiet lo u t o l (terms_up defs lo ts)
-        (terms_quiet lo ts (narrow r lo l.free lo (node defs u t o l).free (omega arith) (node_up defs u t o l) d)) d
+        let us = types_in defs ts in
+        let own : Beside lo l.free r = narrow r lo l.free lo (node defs us t o l).free (omega arith) (node_up defs us t o l) d in
+        node_quiet lo us t o l (terms_up defs lo ts) (terms_quiet lo ts own) (each_quiet lo ts own) d
     term_quiet lo (Lazy c l e) d =
         let a = lower defs lo l in
         let b = lower defs (suc a.free) e in
@@ -352,6 +393,17 @@ module _ (defs : List Def) (r : ℕ) where
         let q = terms_up defs a.free ts in
         quiet_more r a.code b.code (term_quiet lo t (narrow r lo a.free lo b.free (omega arith) q d))
         (terms_quiet a.free ts (narrow r a.free b.free lo b.free p (omega arith) d))
+
+    each_quiet : (lo : ℕ) (ts : Terms) → Beside lo (lower_all defs lo ts).free r → EachQuiet r (lower_all defs lo ts).each
+    each_quiet lo NoTerms d = tt
+    each_quiet lo (MoreTerms t ts) d =
+        let a = lower defs lo t in
+        let b = lower_all defs a.free ts in
+        let p = term_up defs lo t in
+        let q = terms_up defs a.free ts in (
+          term_quiet lo t (narrow r lo a.free lo b.free (omega arith) q d),
+          each_quiet a.free ts (narrow r a.free b.free lo b.free p (omega arith) d),
+        )
 
     pub items_quiet : (t : Ty) (a s from lo : ℕ) (is : Items) → s ≤ from → items_end defs s is ≤ from → from ≤ lo → Beside s from r
         → Beside lo (lower_items defs t a s lo is).free r → Quiet r (lower_items defs t a s lo is).code

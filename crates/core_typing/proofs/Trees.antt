@@ -13,31 +13,32 @@ use Rattle.limbo_kept.specs.Operating.{HasRoom}
 use Rattle.limbo_kept.specs.Trees.{Scope, WorkIs, DeclaresFor, TermIs, TermsAre, ItemsAre, RestIs}
 use Rattle.core_code.specs.Code.{Instr, Known, Element}
 use Rattle.core_code.specs.Terms.{lower, lower_all, lower_items, lower_rest, items_end, rest_end, named, slot_at, writes, type_of}
-use Rattle.core_code.specs.Terms.{type_at}
+use Rattle.core_code.specs.Terms.{type_at, types_in}
 use Rattle.core_code.specs.Statements.{whole}
 use Rattle.core_code.proofs.Used.{term_up, terms_up, items_up, rest_up, end_up}
 use Rattle.core_follows.specs.Drops.{Between}
 use Rattle.core_follows.specs.Handled as handled
-use Rattle.core_follows.specs.Handled.{Suits, Declares, Handled, AllHandled, HandledItems, HandledRest, types_in}
+use Rattle.core_follows.specs.Handled.{Suits, Declares, Handled, AllHandled, HandledItems, HandledRest}
 use Rattle.core_follows.proofs.Holding.{has_front, has_back}
 use Rattle.core_follows.proofs.Static.{drops_within, all_within, items_within, rest_within, values_counted, no_drops}
-use Rattle.core_follows.proofs.Valued.{value_stands, values_stand, values_differ}
+use Rattle.core_follows.proofs.Valued.{value_stands, values_stand}
 use Rattle.core_typing.specs.Held.{Of, slot, put, type_held}
 use Rattle.core_typing.specs.Needs.{StandsAs, NamesNothing, IsKnown, AreClean}
 use Rattle.core_typing.specs.Written.{type_known, told}
 use Rattle.core_typing.specs.Trees.{HasValue, LengthSo, DeclaresSo, Formed, AllFormed, ItemsFormed}
-use Rattle.core_typing.specs.Functions.{TreesGoWell, ValuesGoWell}
+use Rattle.core_typing.specs.Functions.{AnswersAreLaid, TreesGoWell, ValuesGoWell}
 use Rattle.core_typing.proofs.Going.{put_same, put_other, put_long, same_place, goes_to}
 use Rattle.core_typing.proofs.Telling.{gave, gave_to, told_same, told_over, told_at, writes_quiet, drops_still, term_quiet, terms_quiet}
 use Rattle.core_typing.proofs.Telling.{items_quiet, rest_quiet}
 use Rattle.core_typing.proofs.Cleaning.{clean_same, put_clean}
 use Rattle.core_typing.proofs.Drops.{none, lets_same, lets_told, lets_more, drops_go}
-use Rattle.core_typing.proofs.Standing.{itself, is_on, is_same, is_kept, term_stands, terms_stand}
+use Rattle.core_typing.proofs.Standing.{itself, is_on, is_same, is_kept, term_stands, terms_stand, terms_room}
 use Rattle.core_typing.proofs.Nodes.{GoesBy, AllBy, told_on, all_told_on, declares_go}
+use Rattle.core_typing.proofs.Placing.{EachBy}
 use Rattle.core_typing.proofs.Expressions.{node_goes, lazy_goes, update_goes}
 use Rattle.core_typing.proofs.Filling.{grown_none, grown_on, grown_more, sides, others_go, ElementsGo, fill_goes}
 
-module _ (s : Scope) (answer : Ty) (code : List Instr) where
+module _ (s : Scope) (answers : AnswersAreLaid s) (answer : Ty) (code : List Instr) where
   -- ---- what is known
 
   known_goes : (lo : ℕ) (v : Value) → IsKnown v → NamesNothing v → GoesBy s answer code lo (lower s.adts lo (Evaluated v)) (type_known v)
@@ -115,8 +116,9 @@ module _ (s : Scope) (answer : Ty) (code : List Instr) where
     term_goes (Node t o ts) u is h f lo = ⊎_elim
         (λ (x : Suits s.adts t o ts × AllHandled s.adts ts). ⊎_elim
         (λ (w : WorkIs s t o is.0 u). node_goes s answer code lo t o ts is.0 u (lower_all s.adts lo ts) (terms_up s.adts lo ts)
-        (all_within s.adts lo ts) (values_stand s.adts ts x.1 lo) (values_differ s.adts ts x.1 lo) (values_counted s.adts lo ts) x.0 w
-        (terms_stand s ts is.0 is.1 x.1 f.2) f.0 (terms_go ts is.0 is.1 x.1 f.2 lo))
+        (all_within s.adts lo ts) (values_stand s.adts ts x.1 lo) (values_counted s.adts lo ts) x.0 w
+        (terms_stand s ts is.0 is.1 x.1 f.2) f.0 (terms_go ts is.0 is.1 x.1 f.2 lo) (operands_go ts is.0 is.1 x.1 f.2 lo)
+        (terms_room s answers ts is.0 is.1 x.1 f.2))
         (λ (w : DeclaresFor s o ts u). absurd (declares_not o ts u w x.1)) is.2)
         (λ (x : Declares o ts). declared_goes lo t o ts x f.1) h
     term_goes (Lazy c l r) u is h f lo =
@@ -208,6 +210,31 @@ module _ (s : Scope) (answer : Ty) (code : List Instr) where
           );
         }))))
 
+    -- and of each of them alone
+    operands_go : (ts : Terms) (us : List Ty) → TermsAre s [] None ts us → AllHandled s.adts ts → AllFormed s ts → (lo : ℕ)
+        → EachBy s answer code lo (lower_all s.adts lo ts).free (lower_all s.adts lo ts).each (lower_all s.adts lo ts).drops
+        (lower_all s.adts lo ts).values (types_in s.adts ts)
+    operands_go NoTerms us is h f lo = (omega arith, refl)
+    operands_go (MoreTerms t ts) [] is h f lo = absurd is
+    operands_go (MoreTerms t ts) (u ∷ us) is h f lo =
+        let a = lower s.adts lo t in
+        let b = lower_all s.adts a.free ts in (
+          a.free,
+          a.drops,
+          b.drops,
+          refl,
+          term_up s.adts lo t,
+          terms_up s.adts a.free ts,
+          all_within s.adts a.free ts,
+          record {
+            between = (value_stands s.adts t h.0 lo).between;
+            touch = drops_within s.adts lo t;
+            quiet = λ r d. term_quiet s.adts r lo t d;
+            goes = term_goes t u is.0 h.0 f.1 lo;
+          },
+          operands_go ts us is.1 h.1 f.2 a.free,
+        )
+
     items_go : (items : Items) (t : Ty) (a shared from : ℕ) → HasRoom s.adts t → ItemsAre s [] None items t
         → HandledItems s.adts items → ItemsFormed s items → a < shared → shared ≤ from → items_end s.adts shared items ≤ from
         → (lo : ℕ) → from ≤ lo → ElementsGo s answer code t a shared from lo (lower_items s.adts t a shared lo items)
@@ -277,10 +304,10 @@ module _ (s : Scope) (answer : Ty) (code : List Instr) where
 -- ---- the whole
 
 pub trees_go_well : TreesGoWell
-trees_go_well s answer code t u is h f pc slots has fits clean n k =
+trees_go_well s answers answer code t u is h f pc slots has fits clean n k =
     let l = lower s.adts 0 t in
     let v = value_stands s.adts t h 0 in
-    term_goes s answer code t u is h f 0 pc slots n (has_front code pc l.code l.drops has) fits (λ r p q. clean r)
+    term_goes s answers answer code t u is h f 0 pc slots n (has_front code pc l.code l.drops has) fits (λ r p q. clean r)
     (λ one left. drops_go s answer code n n 0 l.free (pc + length l.code) (told code (pc + length l.code)) one l.drops (omega arith)
     left.lets
     (λ r. refl) (λ r. drops_still s.adts r 0 t) (drops_within s.adts 0 t)
@@ -294,5 +321,5 @@ trees_go_well s answer code t u is h f pc slots has fits clean n k =
     (cases_lt r l.free)))))
 
 pub values_go_well : ValuesGoWell
-values_go_well s answer code t u is h f pc slots has fits clean n k =
-    term_goes s answer code t u is h f 0 pc slots n has fits (λ r p q. clean r) (λ one left. k one left.long left.is)
+values_go_well s answers answer code t u is h f pc slots has fits clean n k =
+    term_goes s answers answer code t u is h f 0 pc slots n has fits (λ r p q. clean r) (λ one left. k one left.long left.is)

@@ -5,6 +5,7 @@ use Rattle.limbo_typed.specs.Typed as typed
 use Rattle.limbo_typed.specs.Sound.{IsSound}
 use Rattle.limbo_meaning.specs.Trees.{Term}
 use Rattle.limbo_meaning.specs.Program.{Routine, program_of}
+use Rattle.limbo_kept.specs.Operating.{HasRoom}
 use Rattle.limbo_kept.specs.Trees.{Signature, Scope, TermIs}
 use Rattle.limbo_kept.specs.Processes.{Outline, scope_of, RoutineIs}
 use Rattle.limbo_kept.specs.Modules.{TextsAreWritten, AdtsAreLaid, outline_of}
@@ -19,20 +20,26 @@ use Rattle.core_typing.specs.Needs.{IsA, AllClean}
 use Rattle.core_typing.specs.Going.{Goes}
 use Rattle.core_typing.specs.Trees.{Formed, BlockFormed}
 
+-- What functions answer has a layout, so that it may be put together with other operands.
+abbrev pub AnswersAreLaid : Scope → Type 0
+AnswersAreLaid s = (f : ℕ) (g : Signature) → slice_get s.signatures f ≡ Some g → HasRoom s.adts g.answer
+
 -- The code of a typed tree, with its drops, goes well where no slot names anything, in front of what goes well behind it: as many slots as
 -- before, in that of the tree's value one of its type, and no slot names anything again.
 abbrev pub TreesGoWell : Type 0
 TreesGoWell =
-    (s : Scope) (answer : Ty) (code : List Instr) (t : Term) (u : Ty) → TermIs s [] None t u → Handled s.adts t → Formed s t →
-    (pc : ℕ) (slots : Slots) → HasAt code pc (whole s.adts t) → (lower s.adts 0 t).free ≤ length slots → AllClean slots → (n : ℕ) →
+    (s : Scope) → AnswersAreLaid s → (answer : Ty) (code : List Instr) (t : Term) (u : Ty) → TermIs s [] None t u → Handled s.adts t →
+    Formed s t → (pc : ℕ) (slots : Slots) → HasAt code pc (whole s.adts t) → (lower s.adts 0 t).free ≤ length slots → AllClean slots →
+    (n : ℕ) →
     ((after : Slots) → length after ≡ length slots → IsA after (lower s.adts 0 t).value (type_of s.adts t) → AllClean after →
     Goes s answer code n (pc + length (whole s.adts t)) after) → Goes s answer code n pc slots
 
 -- The same of its code without its drops, in front of a return.
 abbrev pub ValuesGoWell : Type 0
 ValuesGoWell =
-    (s : Scope) (answer : Ty) (code : List Instr) (t : Term) (u : Ty) → TermIs s [] None t u → Handled s.adts t → Formed s t →
-    (pc : ℕ) (slots : Slots) → HasAt code pc (lower s.adts 0 t).code → (lower s.adts 0 t).free ≤ length slots → AllClean slots → (n : ℕ) →
+    (s : Scope) → AnswersAreLaid s → (answer : Ty) (code : List Instr) (t : Term) (u : Ty) → TermIs s [] None t u → Handled s.adts t →
+    Formed s t → (pc : ℕ) (slots : Slots) → HasAt code pc (lower s.adts 0 t).code → (lower s.adts 0 t).free ≤ length slots →
+    AllClean slots → (n : ℕ) →
     ((after : Slots) → length after ≡ length slots → IsA after (lower s.adts 0 t).value (type_of s.adts t) →
     Goes s answer code n (pc + length (lower s.adts 0 t).code) after) → Goes s answer code n pc slots
 
@@ -40,7 +47,7 @@ ValuesGoWell =
 abbrev pub FunctionsGoWell : Type 0
 FunctionsGoWell =
     (o : Outline) (g : Signature) (r : Routine) → RoutineIs o g r → HandledBlock o.adts 0 r.body →
-    BlockFormed (scope_of o r.variables) r.body → (n : ℕ) →
+    BlockFormed (scope_of o r.variables) r.body → AnswersAreLaid (scope_of o r.variables) → (n : ℕ) →
     Goes (scope_of o r.variables) g.answer (function_of o.adts r).code n 0 (replicate (function_of o.adts r).slots empty)
 
 -- So does the code of each function of a sound module of this part of the language, whose adts have layouts and whose texts are written

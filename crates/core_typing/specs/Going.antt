@@ -1,20 +1,21 @@
 -- Where code goes on, and what is known of its slots then; and that wherever it comes to, each instruction finds what it needs, and
 -- the code in front tells of which type a value is whose part is taken or whose reference is dropped.
-use Rattle.std.specs.Prelude.{ℕ, zero, suc, ◌+◌, ◌-◌, ◌≡◌, true, false, List, [], ◌∷◌, length, Option, None, Some, slice_get}
-use Rattle.std.specs.Prelude.{if◌then◌else◌}
+use Rattle.std.specs.Prelude.{ℕ, zero, suc, ◌+◌, ◌-◌, ◌≡◌, true, false, List, [], ◌∷◌, Option, None, Some, slice_get}
+use Rattle.std.specs.Prelude.{if◌then◌else◌, slice_index_or, take}
 use Rattle.std.specs.List.{All}
 use Rattle.limbo_types.specs.Types as ty
 use Rattle.limbo_types.specs.Types.{Ty}
 use Rattle.limbo_layout.specs.Adts.{Def}
-use Rattle.limbo_meaning.specs.Trees.{Work, Operate}
+use Rattle.limbo_meaning.specs.Trees.{Work}
 use Rattle.limbo_meaning.specs.Evaluation.{work_refers}
 use Rattle.limbo_kept.specs.Trees.{Scope}
-use Rattle.core_code.specs.Code.{Instr, Give, Gather, Pick, Known, Write, CopyInto, Cell, Call, Print, Skip, Truth, Element, Start, Next}
+use Rattle.core_code.specs.Code.{Instr, Give, Place, Gather, Pick, Known, Write, CopyInto, Cell, Call, Print, Skip, Truth, Element, Start}
+use Rattle.core_code.specs.Code.{Next}
 use Rattle.core_code.specs.Code.{Other, Keep, Take, Drop, Mirror, Unless, Jump, Back, Return}
-use Rattle.core_code.specs.Terms.{Moved, count_of, numbers_from, part_types, part_numbers, moves_into, moves_out}
-use Rattle.core_typing.specs.Held.{Held, Of, Decided, Turns, Regions, NoRegion, MoreRegions, Slots, empty, slot, put, emptied}
+use Rattle.core_code.specs.Terms.{Moved, count_of, count_all, numbers_from, part_types, moves_out}
+use Rattle.core_typing.specs.Held.{Held, Of, Decided, Turns, Regions, NoRegion, MoreRegions, Slots, empty, slot, put}
 use Rattle.core_typing.specs.Held.{chain_of, region, cleared, placed, chained, noted, type_held, live_in, dropped, moved, left_by}
-use Rattle.core_typing.specs.Held.{all_moved}
+use Rattle.core_typing.specs.Held.{with_operand, live_formed, together, or_nothing}
 use Rattle.core_typing.specs.Needs.{Finds}
 use Rattle.core_typing.specs.Written.{type_known, told}
 
@@ -47,10 +48,15 @@ module _ (defs : List Def) where
   abbrev pub got_by : Ty → Work → List ℕ
   got_by t o = if work_refers defs t o then all_of t else []
 
-  -- What moves into the parts of a tuple and of an adt.
-  abbrev pub parts_moved : Ty → Work → (into : ℕ) → (from : List ℕ) → List Moved
-  parts_moved t (Operate o) into from = moves_into defs (part_types defs t) into (part_numbers defs o (length from)) from
-  parts_moved t o into from = []
+  -- What moves with an operand that comes to a part of what is put together as a value of a type.
+  abbrev pub into_part : Ty → (part into from : ℕ) → Moved
+  into_part t k into from = record {
+    slot = from;
+    first = 0;
+    count = count_of defs (slice_index_or (part_types defs t) k ty.Int);
+    into = into;
+    at = count_all defs (take k (part_types defs t));
+  }
 
   -- What moves with a part that is taken out of a slot.
   abbrev pub out_of : Option Ty → (part from into : ℕ) → Moved
@@ -65,17 +71,24 @@ module _ (defs : List Def) (pc : ℕ) (slots : Slots) where
   abbrev pub picked : Ty → (into from : ℕ) → Moved → List Stand
   picked t into from v = on (put (put slots from (left_by v (slot slots from))) into (Of t (moved v (live_in (slot slots from)))))
 
+  -- An operand of a type is put to the others, and the slot that it comes from is empty.
+  abbrev pub placing : Ty → (variant : Option ℕ) → (part into from : ℕ) → Ty → List Stand
+  placing t v k into from u =
+      on (put (put slots from empty) into
+      (with_operand t v k u (moved (into_part defs t k into from) (live_in (slot slots from))) (slot slots into)))
+
   -- Where it may stand behind an instruction, whatever the values are.
   abbrev pub behind : Instr → List Stand
   behind (Give t o into from) = on (put slots into (Of t (got_by defs t o)))
-  behind (Gather t o into from) = on (put (emptied slots from) into (Of t (all_moved (parts_moved defs t o into from) slots)))
+  behind (Place t v j k into from) = placing t v k into from (or_nothing (type_held (slot slots from)))
+  behind (Gather t o into n) = on (put slots into (Of t (live_formed (slot slots into))))
   behind (Pick t n into from) = picked t into from (out_of defs (type_held (slot slots from)) n from into)
   behind (Known v into) = on (put slots into (Of (type_known v) []))
   behind (Write t way operands part from) = on slots
   behind (CopyInto array start from) = on slots
   behind (Cell t into item back) = on (put slots into (Of (ty.ListOf t) (all_of defs (ty.ListOf t))))
-  behind (Call t f into from) = on (put slots into (Of t (all_of defs t)))
-  behind (Print ps into from) = on (put slots into (Of ty.Int []))
+  behind (Call t f into o) = on (put (together slots o) into (Of t (all_of defs t)))
+  behind (Print ps into o) = on (put (together slots o) into (Of ty.Int []))
   behind (Skip c into decision from n) =
       stand (suc pc + n) (put (noted slots decision true) into (Of ty.Int [])) ∷ stand (suc pc) (noted slots decision false) ∷ []
   behind (Truth into from) = on (put slots into (Of ty.Int []))

@@ -1,5 +1,5 @@
 -- What is known of slots while code runs, whatever values come: of which type a slot's value is and which of its references may name
--- something, how a connective was decided, and what the turns of a loop of an initialiser left in its chain.
+-- something, what is put together there, how a connective was decided, and what the turns of a loop of an initialiser left in its chain.
 use Rattle.std.specs.Prelude.{ℕ, zero, suc, ◌+◌, ◌-◌, ◌≡◌, ◌⊎◌, List, [], ◌∷◌, ◌++◌, Bool, Option, None, Some, nat_eq, if◌then◌else◌}
 use Rattle.std.specs.Prelude.{slice_set, slice_index_or}
 use Rattle.limbo_types.specs.Types as ty
@@ -11,6 +11,9 @@ mutual
     -- a value of a type, of whose references, by their numbers in order, these alone may name something; they go in no fixed order, as a
     -- part may be nil and others may have moved away
     Of : Ty → (live : List ℕ) → Held
+    -- what is put together as a value of a type, of this variant of an adt: operands of these types are there, in order, at the parts of
+    -- these numbers; of the whole value's references, by their numbers in order, these alone may name something
+    Forming : Ty → (variant : Option ℕ) → (parts : List ℕ) → (types : List Ty) → (live : List ℕ) → Held
     -- an int that tells whether the left operand of a connective decided
     Decided : Bool → Held
     Turns : Regions → Held
@@ -36,17 +39,18 @@ slot slots s = slice_index_or slots s empty
 abbrev pub put : Slots → ℕ → Held → Slots
 put slots s h = slice_set slots s h
 
-abbrev pub emptied : Slots → List ℕ → Slots
-emptied slots [] = slots
-emptied slots (s ∷ ss) = put (emptied slots ss) s empty
-
 -- Of which type a slot's value is, and which of its references may name something.
 abbrev pub type_held : Held → Option Ty
 type_held (Of t ns) = Some t
 type_held h = None
 
+abbrev pub or_nothing : Option Ty → Ty
+or_nothing None = ty.Nothing
+or_nothing (Some t) = t
+
 abbrev pub live_in : Held → List ℕ
 live_in (Of t ns) = ns
+live_in (Forming t v ks us ns) = ns
 live_in h = []
 
 abbrev pub chain_of : Held → Regions
@@ -70,6 +74,27 @@ placed slots from (MoreSlots h g) = put (placed slots (suc from) g) from h
 abbrev pub chained : Regions → Region → Regions
 chained NoRegion g = MoreRegions g NoRegion
 chained (MoreRegions h rs) g = MoreRegions h (chained rs g)
+
+-- ---- what is put together
+
+-- An operand of a type more is there, at the part of a number, and of its references these come along.
+abbrev pub with_operand : Ty → (variant : Option ℕ) → (part : ℕ) → (type : Ty) → (live : List ℕ) → Held → Held
+with_operand t v k u ms (Forming w x ks us ns) = Forming t v (ks ++ k ∷ []) (us ++ u ∷ []) (ns ++ ms)
+with_operand t v k u ms h = Forming t v (k ∷ []) (u ∷ []) ms
+
+-- Which references of the whole value may name something, and the whole value.
+abbrev pub live_formed : Held → List ℕ
+live_formed (Forming t v ks us ns) = ns
+live_formed h = []
+
+abbrev pub formed : Held → Held
+formed (Forming t v ks us ns) = Of t ns
+formed h = h
+
+-- The operands of a call and of a print stay in their slot as a whole value, where there are any.
+abbrev pub together : Slots → Option ℕ → Slots
+together slots None = slots
+together slots (Some a) = put slots a (formed (slot slots a))
 
 -- A slot that tells a decision, where there is one.
 abbrev pub noted : Slots → Option ℕ → Bool → Slots
@@ -104,8 +129,3 @@ staying v (k ∷ ks) = if is_moved v v.slot k then staying v ks else k ∷ stayi
 abbrev pub left_by : Moved → Held → Held
 left_by v (Of t ns) = Of t (staying v ns)
 left_by v h = h
-
--- All that move from slots into one.
-abbrev pub all_moved : List Moved → Slots → List ℕ
-all_moved [] slots = []
-all_moved (v ∷ vs) slots = moved v (live_in (slot slots v.slot)) ++ all_moved vs slots

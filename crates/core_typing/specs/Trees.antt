@@ -8,7 +8,7 @@ use Rattle.limbo_meaning.specs.Trees.{Work, Assign, Copy, Print, Term, Evaluated
 use Rattle.limbo_meaning.specs.Trees.{Items, NoItems, MoreItems}
 use Rattle.limbo_meaning.specs.Trees.{Stm, Eval, If, While, Enter, Return, Loop, Looping, Block, Then, Turn, Again}
 use Rattle.limbo_kept.specs.Trees.{Scope, DeclaresAll}
-use Rattle.core_follows.specs.Handled.{types_in}
+use Rattle.core_code.specs.Terms.{types_in}
 use Rattle.core_typing.specs.Needs.{printed}
 
 abbrev pub TakesSo : List Ty → Work → Type 0

@@ -38,7 +38,7 @@ aims_on types ns i n aims next a below at e ea =
     ∙ ap (λ (x : Aim). map view_aim aims ++ x ∷ left) ea)
 
 pub declared_is : (defs : List Def) (aims : List Aim) (v : Term) (a l : Lowered) (all : LoweredAll) → a ≡ lower defs 0 v
-    → all ≡ added (none_from 0) a → l ≡ node defs Int Int (Assign aims) all
+    → all ≡ added (none_from 0) a → l ≡ node defs [] Int (Assign aims) all
     → l ≡ lower defs 0 (Node Int (Assign aims) (only_term v))
 declared_is defs aims v a l all ea eall el =
     rw (el, eall, ea, append-nil (lower defs 0 v).code, append-nil (lower defs 0 v).drops) refl

@@ -1,7 +1,6 @@
 -- What is lowered, piece by piece.
-use Rattle.std.proofs.Common.{◌≡◌, ℕ, suc, ◌≤◌, ◌<◌, ◌+◌, Bool, true, false, List, [], ◌∷◌, drop, length, get_or, refl, sym, ap, ◌∙◌}
-use Rattle.std.proofs.Common.{arith, add-one, append_assoc}
-use Rattle.std.proofs.Math.Seq.{drop-cons}
+use Rattle.std.proofs.Common.{◌≡◌, ℕ, suc, ◌≤◌, ◌<◌, ◌+◌, Bool, true, false, List, [], ◌∷◌, drop, length, get_or, refl, sym, ap}
+use Rattle.std.proofs.Common.{arith, append_assoc}
 use Rattle.std.proofs.lemmas.List.{append-nil}
 use Rattle.limbo_types.specs.declared.ty.Ty as code_ty
 use Rattle.limbo_types.specs.declared.ty.Ty.TheVariants as make_ty
@@ -29,22 +28,24 @@ use Rattle.core_writing.specs.Completed.{continued, widened, got}
 use Rattle.core_writing.specs.declared.operands.Operand.{Operand}
 use Rattle.core_writing.specs.Operands.{view_operand, terms_in, operands_size, printed, term_as}
 use Rattle.core_writing.proofs.Nodes.{held_drops}
+use Rattle.core_writing.proofs.Typing.{operand_next}
 
 -- ---- operands in a row
 
 pub continued_none : (defs : List Def) (l : LoweredAll) → continued defs l NoTerms ≡ l
-continued_none defs l = rw (append-nil l.code, append-nil l.drops, append-nil l.values) refl
+continued_none defs l = rw (append-nil l.each, append-nil l.code, append-nil l.drops, append-nil l.values) refl
 
 pub continued_more : (defs : List Def) (l : LoweredAll) (t : Term) (ts : Terms)
     → continued defs (added l (lower defs l.free t)) ts ≡ continued defs l (MoreTerms t ts)
 continued_more defs l t ts =
     let a = lower defs l.free t in
     let b = lower_all defs a.free ts in
-    rw (append_assoc l.code a.code b.code, append_assoc l.drops a.drops b.drops, append_assoc l.values (a.value ∷ []) b.values) refl
-
-operand_next : (os : List Operand) (i : ℕ) (o : Operand) → i < length os → o ≡ get_or os i o → drop i os ≡ o ∷ drop (i + 1) os
-operand_next os i o below at =
-    drop-cons os i o below ∙ ap (λ x. x ∷ drop (suc i) os) (sym at) ∙ ap (λ k. o ∷ drop k os) (sym (add-one i))
+    rw (
+      append_assoc l.each (a.code ∷ []) b.each,
+      append_assoc l.code a.code b.code,
+      append_assoc l.drops a.drops b.drops,
+      append_assoc l.values (a.value ∷ []) b.values,
+    ) refl
 
 pub operands_on : (defs : List Def) (os : List Operand) (i : ℕ) (o : Operand) (l next : LoweredAll) (a : Lowered) → i < length os
     → o ≡ get_or os i o → a ≡ lower defs l.free (view_operand o) → next ≡ added l a

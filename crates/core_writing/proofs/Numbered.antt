@@ -1,20 +1,21 @@
 -- Numbers in a row, and the fields of variants.
 use Rattle.std.proofs.Common.{◌≡◌, ℕ, zero, suc, ◌+◌, ◌<◌, List, [], ◌∷◌, ◌++◌, map, take, drop, length, get_or, refl, sym, ap, ◌∙◌}
 use Rattle.std.proofs.Common.{◌-◌, arith, add-zero, add-one, append_assoc}
-use Rattle.std.proofs.Common.{Option, Some}
+use Rattle.std.proofs.Common.{Option, Some, None}
 use Rattle.std.proofs.Math.Seq.{drop-cons}
 use Rattle.std.proofs.lemmas.List.{map-append, length-append}
-use Rattle.limbo_layout.specs.Adts.{Def, types_of, variant_types}
+use Rattle.limbo_layout.specs.Adts.{Def, listed, types_of, variant_types}
 use Rattle.limbo_layout.specs.View.{view_fields, view_variant}
 use Rattle.limbo_layout.specs.declared.def.Field as code_field
 use Rattle.limbo_layout.specs.declared.def.Variant as code_variant
-use Rattle.limbo_types.specs.Types.{Ty}
+use Rattle.limbo_types.specs.Types.{Ty, Tuple}
+use Rattle.limbo_types.specs.View.{tys_of}
 use Rattle.limbo_typed.specs.declared.operation.Operation.{Operation}
 use Rattle.limbo_typed.specs.declared.operation.Operation.TheVariants as operation
 use Rattle.core_parts.specs.declared.drops.Moved as code_moved
 use Rattle.core_parts.specs.Nodes.{view_moved}
-use Rattle.core_writing.specs.Gathering.{move_into}
-use Rattle.core_code.specs.Terms.{Moved, numbers_from, moves_into, adt_numbers, part_numbers}
+use Rattle.core_writing.specs.Gathering.{move_into, tuple_of, whole_of}
+use Rattle.core_code.specs.Terms.{Moved, numbers_from, moves_into, adt_numbers, part_numbers, variant_of}
 
 numbers_more : (defs : List Def) (from n : ℕ) → numbers_from defs from (suc n) ≡ numbers_from defs from n ++ (from + n) ∷ []
 numbers_more defs from zero = ap (λ k. k ∷ []) (sym (add-zero from))
@@ -59,6 +60,10 @@ pub no_adt : (defs : List Def) (o : Operation) (k : ℕ) → ((n : ℕ) (v : Opt
 no_adt defs (operation.Adt n v) k h = absurd (h n v refl)
 no_adt defs _ k h = refl
 
+pub no_variant : (defs : List Def) (o : Operation) → ((n : ℕ) (v : Option ℕ) → o ≡ operation.Adt n v → ⊥) → None ≡ variant_of defs o
+no_variant defs (operation.Adt n v) h = absurd (h n v refl)
+no_variant defs _ h = refl
+
 -- ---- operands that move
 
 pub moves_on : (defs : List Def) (ts : List Ty) (into : ℕ) (ns : List ℕ) (i : ℕ) (n s : ℕ) (rest more : List ℕ)
@@ -80,3 +85,13 @@ pub variant_is : (defs : List Def) (d : Def) (v k common from rest : ℕ) (one t
     → from ≡ (1 + length d.fields) + length (variant_types (take v d.picks)) → rest ≡ k - common
     → two ≡ adt_numbers defs (Some d) (Some v) k
 variant_is defs d v k common from rest one two eo et ec ef er = rw (et, eo, ef, er, ec) refl
+
+-- ---- operands that are a tuple
+
+listed_tys : (ts : List Ty) → listed (tys_of ts) ≡ ts
+listed_tys [] = refl
+listed_tys (t ∷ ts) = ap (λ us. t ∷ us) (listed_tys ts)
+
+pub tuple_is : (defs : List Def) (from : ℕ) (ts : List Ty) (into : ℕ) (ss ns : List ℕ) (t : Ty) → t ≡ Tuple (tys_of ts)
+    → ns ≡ numbers_from defs from (length ss) → whole_of defs t None ns into ss ≡ tuple_of defs from ts into ss
+tuple_is defs from ts into ss ns t et en = rw (et, en, listed_tys ts) refl

@@ -1,14 +1,19 @@
 -- As of which type values stand in their slots.
-use Rattle.std.proofs.Common.{◌≡◌, ℕ, zero, suc, ◌≤◌, List, [], ◌∷◌, drop, refl, sym, ap, ◌∙◌, arith}
+use Rattle.std.proofs.Common.{◌≡◌, ℕ, zero, suc, ◌+◌, ◌<◌, ◌≤◌, List, [], ◌∷◌, ◌++◌, map, drop, length, get_or, refl, sym, ap, ◌∙◌, arith}
+use Rattle.std.proofs.Common.{add-one, append_assoc}
+use Rattle.std.proofs.Math.Seq.{drop-cons}
+use Rattle.std.proofs.lemmas.List.{map-append}
 use Rattle.limbo_layout.specs.Adts.{Def}
 use Rattle.limbo_types.specs.Types.{Nothing}
+use Rattle.limbo_types.specs.View.{view_ty}
+use Rattle.limbo_types.specs.declared.ty.Ty as code_ty
 use Rattle.limbo_typed.specs.declared.expr.TExpr as code_expr
 use Rattle.limbo_typed.specs.declared.expr.TNode.TheVariants as make
 use Rattle.limbo_typed.specs.View.{view_expr, view_pattern}
 use Rattle.limbo_meaning.specs.Evaluation.{operands_for}
 use Rattle.limbo_meaning.specs.Program.{term_of, aims_in}
 use Rattle.core_frames.specs.Sizes.{expr_size}
-use Rattle.core_code.specs.Terms.{type_of, type_at}
+use Rattle.core_code.specs.Terms.{type_of, type_at, types_in}
 use Rattle.core_writing.specs.declared.operands.Operand.{Operand}
 use Rattle.core_writing.specs.Operands.{terms_in, operands_in, operands_size, view_operand}
 use Rattle.core_writing.proofs.Forms.{Boxed, PatternIn, seen_assign, seen_copy}
@@ -47,3 +52,17 @@ size_first defs n os rest more o e first =
     let a = size_behind defs n os in
     let b = ap (operands_size defs) (sym e ∙ first) in
     omega (arith, a, b)
+
+-- ---- operands in a row
+
+pub operand_next : (os : List Operand) (i : ℕ) (o : Operand) → i < length os → o ≡ get_or os i o → drop i os ≡ o ∷ drop (i + 1) os
+operand_next os i o below at =
+    drop-cons os i o below ∙ ap (λ x. x ∷ drop (suc i) os) (sym at) ∙ ap (λ k. o ∷ drop k os) (sym (add-one i))
+
+pub types_on : (defs : List Def) (os : List Operand) (i : ℕ) (o : Operand) (ts next : List code_ty.Ty) (t : code_ty.Ty) → i < length os
+    → o ≡ get_or os i o → view_ty t ≡ type_of defs (view_operand o) → next ≡ ts ++ t ∷ []
+    → map view_ty next ++ types_in defs (terms_in (drop (i + 1) os)) ≡ map view_ty ts ++ types_in defs (terms_in (drop i os))
+types_on defs os i o ts next t below at et en =
+    let left = types_in defs (terms_in (drop (i + 1) os)) in
+    rw (en, operand_next os i o below at, ← et) (ap (λ us. us ++ left) (map-append view_ty ts (t ∷ []))
+    ∙ append_assoc (map view_ty ts) (view_ty t ∷ []) left)

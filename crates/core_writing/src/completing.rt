@@ -1,6 +1,6 @@
 //! Nodes behind their operands.
 
-ghost use Rattle.std.specs.Prelude.{◌≡◌, ◌+◌, ◌<◌, ◌≤◌, ◌^◌, [], IfOk, List, vec_len};
+ghost use Rattle.std.specs.Prelude.{◌≡◌, ◌+◌, ◌<◌, ◌≤◌, ◌^◌, [], ◌∷◌, IfOk, List, vec_len};
 ghost use Rattle.limbo_types.specs.Types.{Ty as Typed};
 ghost use Rattle.limbo_types.specs.View.{view_ty};
 ghost use Rattle.limbo_layout.specs.Adts.{Def};
@@ -8,7 +8,7 @@ ghost use Rattle.limbo_layout.specs.Layout.{limit};
 ghost use Rattle.limbo_layout.specs.View.{view_defs};
 ghost use Rattle.limbo_typed.specs.View.{view_expr, view_optional, view_pattern, view_place_node};
 ghost use Rattle.limbo_meaning.specs.Operations.{size_of};
-ghost use Rattle.limbo_meaning.specs.Trees.{Assign, Call, Literal, Read, TakePart, Terms};
+ghost use Rattle.limbo_meaning.specs.Trees.{Assign, Call, Literal, Print, Read, TakePart, Terms};
 ghost use Rattle.limbo_meaning.specs.Program.{aims_in, operating, term_of, way_of};
 ghost use Rattle.limbo_typed.specs.declared.stmt.Constant.TheVariants.{Chars, Number};
 ghost use Rattle.core_data.specs.View.{view_work};
@@ -17,14 +17,14 @@ ghost use Rattle.core_frames.specs.Sizes.{expr_size};
 ghost use Rattle.core_parts.specs.Lowered.{view_lowered, view_lowered_all};
 ghost use Rattle.core_parts.specs.Nodes as nodes;
 ghost use Rattle.core_writing.specs.Completed.{channelled, completed, unlowered};
-ghost use Rattle.core_writing.specs.Operands.{printing_node};
+ghost use Rattle.core_writing.specs.Operands.{operands_in, printing_node};
 
-use crate::moves::{move_out, moves_into, part_numbers};
-use crate::types::type_of;
+use crate::moves::{move_out, tuple_of, value_of};
+use crate::types::{operand_types, printed_types, type_of};
 use core_data::Work;
 use core_parts::{
-    Lowered, LoweredAll, add_aims, assign, call, copy_into, copy_pieces, gather, give, link, pick,
-    print, slot_in, way_of,
+    Lowered, LoweredAll, add_aims, assign, call, copy_into, copy_pieces, gather, give, join, link,
+    pick, print, slot_in, way_of,
 };
 use inf_text::Text;
 use limbo_typed::{Operation, Pattern, Piece, Place, Printed, TExpr, TNode};
@@ -44,27 +44,28 @@ fn give_copy(
     ensures { IfOk result (λ l. view_lowered l ≡ nodes.gave (view_ty ty.now) (view_work work) references (view_lowered_all all)) }
 {
     let ty = copy(alloc, ty)?;
-    let l = give(all, ty, work, references)?;
+    let l = give(alloc, all, ty, work, references)?;
     Ok(l)
 }
 
 // What isn't of this part of the language.
-fn skip(all: LoweredAll) -> Lowered
+fn skip(alloc: Global, all: LoweredAll) -> Result<Lowered, AllocError>
     requires { all.free + 1 < 2 ^ 32 }
-    ensures { view_lowered result ≡ unlowered (view_lowered_all all) }
+    ensures { IfOk result (λ l. view_lowered l ≡ unlowered (view_lowered_all all)) }
 {
     let LoweredAll {
-        code,
+        each,
         drops,
         values: _,
         free,
     } = all;
-    Lowered {
+    let code = join(alloc, each)?;
+    Ok(Lowered {
         code,
         drops,
         value: free,
         free: free + 1,
-    }
+    })
 }
 
 // A read.
@@ -76,7 +77,7 @@ fn complete_read(
 ) -> Result<Lowered, AllocError>
     requires free { all.free + 1 < 2 ^ 32 }
     requires size { size_of (view_defs extents.now) (view_ty place.now.ty) ≤ limit }
-    ensures { IfOk result (λ l. (u : Typed) → view_lowered l ≡ terms.node (view_defs extents.now) u (view_ty place.now.ty)
+    ensures { IfOk result (λ l. (us : List Typed) → view_lowered l ≡ terms.node (view_defs extents.now) us (view_ty place.now.ty)
         (Read (way_of (view_place_node place.now.at))) (view_lowered_all all)) }
 {
     let way = way_of(alloc, &place.at)?;
@@ -96,13 +97,14 @@ fn complete_part(
 ) -> Result<Lowered, AllocError>
     requires { all.free + 1 < 2 ^ 32 }
     ensures { IfOk result (λ l. view_lowered l ≡ terms.node (view_defs extents.now)
-        (terms.type_of (view_defs extents.now) (term_of (view_expr whole.now))) (view_ty ty.now) (TakePart part) (view_lowered_all all)) }
+        (terms.type_of (view_defs extents.now) (term_of (view_expr whole.now)) ∷ []) (view_ty ty.now) (TakePart part)
+        (view_lowered_all all)) }
 {
     let whole = type_of(alloc, whole)?;
     let from = slot_in(&all.values, 0);
     let moved = move_out(extents, &whole, part, from, all.free)?;
     let ty = copy(alloc, ty)?;
-    let l = pick(all, ty, part, moved)?;
+    let l = pick(alloc, all, ty, part, moved)?;
     Ok(l)
 }
 
@@ -114,13 +116,12 @@ fn complete_parts(
     operation: Operation,
     all: LoweredAll,
 ) -> Result<Lowered, AllocError>
-    requires { all.free + 1 < 2 ^ 32 }
+    requires { all.free + vec_len all.values + 1 < 2 ^ 32 }
     ensures { IfOk result (λ l. view_lowered l ≡ terms.gathers (view_defs extents.now) (view_ty ty.now) operation (view_lowered_all all)) }
 {
-    let numbers = part_numbers(alloc, extents, operation, all.values.len())?;
-    let moves = moves_into(alloc, extents, ty, all.free, &numbers, &all.values)?;
     let ty = copy(alloc, ty)?;
-    let l = gather(all, ty, operation, &moves)?;
+    let whole = value_of(alloc, extents, ty, operation, all.free, &all.values)?;
+    let l = gather(alloc, all, operation, whole)?;
     Ok(l)
 }
 
@@ -134,8 +135,8 @@ fn complete_operation(
 ) -> Result<Lowered, AllocError>
     requires room { all.free + vec_len all.values + 1 < 2 ^ 32 }
     requires size { size_of (view_defs extents.now) (view_ty ty.now) ≤ limit }
-    ensures { IfOk result (λ l. (u : Typed) → view_lowered l
-        ≡ terms.node (view_defs extents.now) u (view_ty ty.now) (operating operation) (view_lowered_all all)) }
+    ensures { IfOk result (λ l. (us : List Typed) → view_lowered l
+        ≡ terms.node (view_defs extents.now) us (view_ty ty.now) (operating operation) (view_lowered_all all)) }
 {
     match operation {
         Operation::List => {
@@ -164,8 +165,8 @@ fn complete_assignment(
     pattern: &Pattern,
     all: LoweredAll,
 ) -> Result<Lowered, AllocError>
-    ensures { IfOk result (λ l. (defs : List Def) (u t : Typed) → view_lowered l
-        ≡ terms.node defs u t (Assign (aims_in [] (view_pattern pattern.now))) (view_lowered_all all)) }
+    ensures { IfOk result (λ l. (defs : List Def) (us : List Typed) (t : Typed) → view_lowered l
+        ≡ terms.node defs us t (Assign (aims_in [] (view_pattern pattern.now))) (view_lowered_all all)) }
 {
     let mut aims = Vec::new(alloc);
     add_aims(alloc, &mut aims, &[], pattern)?;
@@ -188,13 +189,13 @@ fn complete_channel(
     match size {
         None => {
             let LoweredAll {
-                code,
+                each,
                 drops,
                 values: _,
                 free,
             } = all;
             let bare = LoweredAll {
-                code,
+                each,
                 drops,
                 values: Vec::new(alloc),
                 free,
@@ -202,7 +203,7 @@ fn complete_channel(
             let l = give_copy(alloc, bare, ty, Work::Channel, 1)?;
             Ok(l)
         }
-        Some(_) => Ok(skip(all)),
+        Some(_) => skip(alloc, all),
     }
 }
 
@@ -210,18 +211,40 @@ fn complete_channel(
 fn complete_call(
     alloc: Global,
     extents: &Extents<'_>,
-    ty: &Ty,
+    e: &TExpr,
     function: u32,
     all: LoweredAll,
 ) -> Result<Lowered, AllocError>
-    requires free { all.free + 1 < 2 ^ 32 }
-    requires size { size_of (view_defs extents.now) (view_ty ty.now) ≤ limit }
-    ensures { IfOk result (λ l. (u : Typed) → view_lowered l
-        ≡ terms.node (view_defs extents.now) u (view_ty ty.now) (Call function) (view_lowered_all all)) }
+    requires room { all.free + vec_len all.values + 1 < 2 ^ 32 }
+    requires size { size_of (view_defs extents.now) (view_ty e.now.ty) ≤ limit }
+    ensures { IfOk result (λ l. view_lowered l ≡ terms.node (view_defs extents.now)
+        (terms.types_in (view_defs extents.now) (operands_in (term_of (view_expr e.now)))) (view_ty e.now.ty) (Call function)
+        (view_lowered_all all)) }
 {
-    let references = extents.count(ty);
-    let ty = copy(alloc, ty)?;
-    let l = call(all, ty, function, references)?;
+    let types = operand_types(alloc, e)?;
+    let whole = tuple_of(alloc, extents, 0, types, all.free, &all.values)?;
+    let references = extents.count(&e.ty);
+    let ty = copy(alloc, &e.ty)?;
+    let l = call(alloc, all, ty, function, references, &whole)?;
+    Ok(l)
+}
+
+// A print whose text is written: its operands stand behind another text.
+fn complete_written(
+    alloc: Global,
+    extents: &Extents<'_>,
+    e: &TExpr,
+    format: &[Piece],
+    all: LoweredAll,
+) -> Result<Lowered, AllocError>
+    requires { all.free + vec_len all.values + 1 < 2 ^ 32 }
+    ensures { IfOk result (λ l. (t : Typed) → view_lowered l ≡ terms.node (view_defs extents.now)
+        (terms.types_in (view_defs extents.now) (operands_in (term_of (view_expr e.now)))) t (Print format.now) (view_lowered_all all)) }
+{
+    let types = printed_types(alloc, e)?;
+    let whole = tuple_of(alloc, extents, 1, types, all.free, &all.values)?;
+    let pieces = copy_pieces(alloc, format)?;
+    let l = print(alloc, all, pieces, &whole)?;
     Ok(l)
 }
 
@@ -229,29 +252,32 @@ fn complete_call(
 #[tactic(auto, using(limbo_typed::proofs::View::the_exprs))]
 fn complete_print(
     alloc: Global,
-    ty: &Ty,
+    extents: &Extents<'_>,
+    e: &TExpr,
     printed: Printed,
     file: &Option<Box<TExpr>>,
     format: &[Piece],
     all: LoweredAll,
 ) -> Result<Lowered, AllocError>
-    requires { all.free + 1 < 2 ^ 32 }
-    ensures { IfOk result (λ l. (defs : List Def) (ts : Terms) → view_lowered l
-        ≡ completed defs (printing_node printed (view_ty ty.now) format.now (view_optional file.now) ts) (view_lowered_all all)) }
+    requires { all.free + vec_len all.values + 1 < 2 ^ 32 }
+    ensures { IfOk result (λ l. (ts : Terms)
+        → operands_in (term_of (view_expr e.now))
+        ≡ operands_in (printing_node printed (view_ty e.now.ty) format.now (view_optional file.now) ts)
+        → view_lowered l ≡ completed (view_defs extents.now)
+        (printing_node printed (view_ty e.now.ty) format.now (view_optional file.now) ts) (view_lowered_all all)) }
 {
     match (printed, file) {
         (Printed::Print, None) => {
-            let pieces = copy_pieces(alloc, format)?;
-            let l = print(all, pieces)?;
+            let l = complete_written(alloc, extents, e, format, all)?;
             Ok(l)
         }
         (Printed::Sprint, None) => {
             let pieces = copy_pieces(alloc, format)?;
-            let l = give_copy(alloc, all, ty, Work::Sprint(pieces), 0)?;
+            let l = give_copy(alloc, all, &e.ty, Work::Sprint(pieces), 0)?;
             Ok(l)
         }
-        (Printed::Fprint, _) => Ok(skip(all)),
-        (_, Some(_)) => Ok(skip(all)),
+        (Printed::Fprint, _) => skip(alloc, all),
+        (_, Some(_)) => skip(alloc, all),
     }
 }
 
@@ -263,8 +289,8 @@ fn complete_number(
     all: LoweredAll,
 ) -> Result<Lowered, AllocError>
     requires { all.free + 1 < 2 ^ 32 }
-    ensures { IfOk result (λ l. (defs : List Def) (u : Typed) → view_lowered l
-        ≡ terms.node defs u (view_ty ty.now) (Literal (Number value.now)) (view_lowered_all all)) }
+    ensures { IfOk result (λ l. (defs : List Def) (us : List Typed) → view_lowered l
+        ≡ terms.node defs us (view_ty ty.now) (Literal (Number value.now)) (view_lowered_all all)) }
 {
     let l = give_copy(alloc, all, ty, Work::Number(*value), 0)?;
     Ok(l)
@@ -278,8 +304,8 @@ fn complete_chars(
     all: LoweredAll,
 ) -> Result<Lowered, AllocError>
     requires { all.free + 1 < 2 ^ 32 }
-    ensures { IfOk result (λ l. (defs : List Def) (u : Typed) → view_lowered l
-        ≡ terms.node defs u (view_ty ty.now) (Literal (Chars text.now)) (view_lowered_all all)) }
+    ensures { IfOk result (λ l. (defs : List Def) (us : List Typed) → view_lowered l
+        ≡ terms.node defs us (view_ty ty.now) (Literal (Chars text.now)) (view_lowered_all all)) }
 {
     let text = text.clone()?;
     let l = give_copy(alloc, all, ty, Work::Chars(text), 0)?;
@@ -329,7 +355,7 @@ pub(crate) fn complete(
             Ok(l)
         }
         TNode::Copy { .. } => {
-            let l = copy_into(all)?;
+            let l = copy_into(alloc, all)?;
             Ok(l)
         }
         TNode::Channel { size } => {
@@ -337,7 +363,7 @@ pub(crate) fn complete(
             Ok(l)
         }
         TNode::Call { function, .. } => {
-            let l = complete_call(alloc, extents, &e.ty, *function, all)?;
+            let l = complete_call(alloc, extents, e, *function, all)?;
             Ok(l)
         }
         TNode::Print {
@@ -346,9 +372,12 @@ pub(crate) fn complete(
             format,
             ..
         } => {
-            let l = complete_print(alloc, &e.ty, *printed, file, format, all)?;
+            let l = complete_print(alloc, extents, e, *printed, file, format, all)?;
             Ok(l)
         }
-        _ => Ok(skip(all)),
+        _ => {
+            let l = skip(alloc, all)?;
+            Ok(l)
+        }
     }
 }

@@ -47,7 +47,7 @@ fn widen(alloc: Global, ty: &Ty, l: Lowered) -> Result<Lowered, AllocError>
                 from: Kind::Byte,
                 to: Kind::Int,
             };
-            let w = give(all, Ty::Int, Work::Operate(convert), 0)?;
+            let w = give(alloc, all, Ty::Int, Work::Operate(convert), 0)?;
             Ok(w)
         }
         _ => Ok(l),

@@ -1,4 +1,4 @@
-//! Where the references of operands go that move.
+//! What operands are put together as, and where the references go of those that move.
 
 ghost use Rattle.std.specs.Prelude.{◌≡◌, ◌+◌, ◌≤◌, ◌^◌, ◌++◌, IfOk, List, OnOk, length, map, take, option_map, Some};
 ghost use Rattle.limbo_types.specs.View.{view_ty};
@@ -6,10 +6,10 @@ ghost use Rattle.limbo_layout.specs.Adts.{Def, variant_types};
 ghost use Rattle.limbo_layout.specs.View.{view_def, view_defs, view_variant};
 ghost use Rattle.core_code.specs.Terms as terms;
 ghost use Rattle.core_code.specs.Terms.{numbers_from, part_types};
-ghost use Rattle.core_parts.specs.Nodes.{view_moved, AllFit};
+ghost use Rattle.core_parts.specs.Nodes.{view_moved, view_whole, AllFit};
 ghost use Rattle.core_writing.specs.Gathering as gathering;
 
-use core_parts::Moved;
+use core_parts::{Moved, Whole};
 use limbo_layout::{AdtDef, Variant};
 use limbo_typed::Operation;
 use limbo_types::Ty;
@@ -63,8 +63,8 @@ fn move_into(
     }
 }
 
-/// Where those of operands go that move into the parts of these numbers.
-pub(crate) fn moves_into(
+// Where those of operands go that move into the parts of these numbers.
+fn moves_into(
     alloc: Global,
     extents: &Extents<'_>,
     whole: &Ty,
@@ -163,12 +163,12 @@ fn variant_numbers(
     Ok(numbers)
 }
 
-// Numbers in a row, from 0 on.
-fn numbers_in(alloc: Global, count: usize) -> Result<Vec<u32>, AllocError>
-    ensures { (defs : List Def) → IfOk result (λ ns. ns.items ≡ numbers_from defs 0 count) }
+// Numbers in a row, from one on.
+fn numbers_in(alloc: Global, from: usize, count: usize) -> Result<Vec<u32>, AllocError>
+    ensures { (defs : List Def) → IfOk result (λ ns. ns.items ≡ numbers_from defs from count) }
 {
     let mut numbers = Vec::new(alloc);
-    add_numbers(&mut numbers, 0, count)?;
+    add_numbers(&mut numbers, from, count)?;
     Ok(numbers)
 }
 
@@ -188,19 +188,19 @@ fn adt_numbers(
             Ok(numbers)
         }
         (Some(_), None) => {
-            let numbers = numbers_in(alloc, operands)?;
+            let numbers = numbers_in(alloc, 0, operands)?;
             Ok(numbers)
         }
         (None, _) => {
-            let numbers = numbers_in(alloc, operands)?;
+            let numbers = numbers_in(alloc, 0, operands)?;
             Ok(numbers)
         }
     }
 }
 
-/// The numbers of the parts that the operands of a tuple and of an adt's value are.
+// The numbers of the parts that the operands of a tuple and of an adt's value are.
 #[tactic(auto, using(crate::proofs::Numbered::no_adt))]
-pub(crate) fn part_numbers(
+fn part_numbers(
     alloc: Global,
     extents: &Extents<'_>,
     operation: Operation,
@@ -214,8 +214,80 @@ pub(crate) fn part_numbers(
             Ok(numbers)
         }
         _ => {
-            let numbers = numbers_in(alloc, operands)?;
+            let numbers = numbers_in(alloc, 0, operands)?;
             Ok(numbers)
         }
     }
+}
+
+// The variant of the adt whose value an operation gives.
+#[tactic(auto, using(crate::proofs::Numbered::no_variant))]
+fn variant_of(operation: Operation) -> Option<u32>
+    ensures { (defs : List Def) → result ≡ terms.variant_of defs operation }
+{
+    match operation {
+        Operation::Adt { variant, .. } => variant,
+        _ => None,
+    }
+}
+
+// What operands are put together as in a slot, of the parts of these numbers.
+fn whole_of(
+    alloc: Global,
+    extents: &Extents<'_>,
+    ty: Ty,
+    variant: Option<u32>,
+    parts: Vec<u32>,
+    into: u32,
+    slots: &[u32],
+) -> Result<Whole, AllocError>
+    ensures exact { IfOk result (λ w. view_whole w
+        ≡ gathering.whole_of (view_defs extents.now) (view_ty ty) variant parts.items into slots.now) }
+    ensures fits { IfOk result (λ w. AllFit w.moves.items) }
+{
+    let moves = moves_into(alloc, extents, &ty, into, &parts, slots)?;
+    Ok(Whole {
+        ty,
+        variant,
+        parts,
+        moves,
+    })
+}
+
+/// What the operands of a tuple and of an adt's value are put together as in a slot.
+pub(crate) fn value_of(
+    alloc: Global,
+    extents: &Extents<'_>,
+    ty: Ty,
+    operation: Operation,
+    into: u32,
+    slots: &[u32],
+) -> Result<Whole, AllocError>
+    ensures exact { IfOk result (λ w. view_whole w ≡ gathering.whole_of (view_defs extents.now) (view_ty ty)
+        (terms.variant_of (view_defs extents.now) operation) (terms.part_numbers (view_defs extents.now) operation (length slots.now))
+        into slots.now) }
+    ensures fits { IfOk result (λ w. AllFit w.moves.items) }
+{
+    let parts = part_numbers(alloc, extents, operation, slots.len())?;
+    let variant = variant_of(operation);
+    let whole = whole_of(alloc, extents, ty, variant, parts, into, slots)?;
+    Ok(whole)
+}
+
+/// What the operands of a call and of a print are put together as in a slot: a tuple of these types, whose parts from one on they are.
+pub(crate) fn tuple_of(
+    alloc: Global,
+    extents: &Extents<'_>,
+    from: usize,
+    types: Vec<Ty>,
+    into: u32,
+    slots: &[u32],
+) -> Result<Whole, AllocError>
+    ensures exact { IfOk result (λ w. view_whole w
+        ≡ gathering.tuple_of (view_defs extents.now) from (map view_ty types.items) into slots.now) }
+    ensures fits { IfOk result (λ w. AllFit w.moves.items) }
+{
+    let parts = numbers_in(alloc, from, slots.len())?;
+    let whole = whole_of(alloc, extents, Ty::Tuple(types), None, parts, into, slots)?;
+    Ok(whole)
 }

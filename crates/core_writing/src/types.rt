@@ -1,15 +1,15 @@
 //! As of which type the value of an expression stands in its slot.
 
-ghost use Rattle.std.specs.Prelude.{◌≡◌, [], IfOk, List};
+ghost use Rattle.std.specs.Prelude.{◌≡◌, ◌∷◌, [], IfOk, List, map};
 ghost use Rattle.limbo_layout.specs.Adts.{Def};
-ghost use Rattle.limbo_types.specs.Types.{ArrayOf};
+ghost use Rattle.limbo_types.specs.Types.{ArrayOf, Chars};
 ghost use Rattle.limbo_types.specs.View.{view_ty};
 ghost use Rattle.limbo_typed.specs.View.{view_expr, view_optional, view_pattern};
 ghost use Rattle.limbo_meaning.specs.Evaluation.{operands_for};
 ghost use Rattle.limbo_meaning.specs.Operations as operations;
 ghost use Rattle.limbo_meaning.specs.Program.{aims_in, term_of};
 ghost use Rattle.core_code.specs.Terms as terms;
-ghost use Rattle.core_writing.specs.Operands.{operands_in, printed, view_operand};
+ghost use Rattle.core_writing.specs.Operands.{operands_in, printed, terms_in, view_operand};
 ghost use Rattle.core_writing.specs.Types as types;
 
 use crate::operands::{Operand, operands_of};
@@ -133,4 +133,37 @@ pub(crate) fn type_of(alloc: Global, e: &TExpr) -> Result<Ty, AllocError>
             Ok(t)
         }
     }
+}
+
+// As of which types the values of operands in a row do.
+fn types_in(alloc: Global, operands: &[Operand<'_>]) -> Result<Vec<Ty>, AllocError>
+    ensures { (defs : List Def) → IfOk result (λ ts. map view_ty ts.items ≡ terms.types_in defs (terms_in operands.now)) }
+{
+    let mut types = Vec::new(alloc);
+    for operand in operands {
+        let t = operand_type(alloc, *operand)?;
+        types.push(t)?;
+    }
+    Ok(types)
+}
+
+/// As of which types the values of its operands do.
+pub(crate) fn operand_types(alloc: Global, e: &TExpr) -> Result<Vec<Ty>, AllocError>
+    ensures { (defs : List Def) → IfOk result (λ ts. map view_ty ts.items ≡ terms.types_in defs (operands_in (term_of (view_expr e.now)))) }
+{
+    let operands = operands_of(alloc, e)?;
+    let types = types_in(alloc, &operands)?;
+    Ok(types)
+}
+
+/// As of which types those of a print do, behind a text.
+pub(crate) fn printed_types(alloc: Global, e: &TExpr) -> Result<Vec<Ty>, AllocError>
+    ensures { (defs : List Def) → IfOk result (λ ts. map view_ty ts.items
+        ≡ Chars ∷ terms.types_in defs (operands_in (term_of (view_expr e.now)))) }
+{
+    let mut types = Vec::new(alloc);
+    types.push(Ty::Chars)?;
+    let mut operands = operand_types(alloc, e)?;
+    types.append(&mut operands)?;
+    Ok(types)
 }

@@ -1,5 +1,5 @@
 //! Instructions as words: the name, then the slot into which one puts something, those from which it takes, and how many instructions are
-//! passed.
+//! passed. Of an operand that comes to its part the numbers of both stand behind them, and of what is made of operands how many these are.
 
 use core_data::{CoreFn, CoreProgram, Inst};
 use std::alloc::{AllocError, Global};
@@ -34,6 +34,19 @@ fn giving(alloc: Global, name: &str, into: u32, from: &[u32]) -> Result<String, 
     word(alloc, name, &numbers)
 }
 
+// A name with the slot of the value, and that of the operands where there are any.
+fn calling(
+    alloc: Global,
+    name: &str,
+    into: u32,
+    operands: Option<u32>,
+) -> Result<String, AllocError> {
+    match operands {
+        Some(from) => word(alloc, name, &[into, from]),
+        None => word(alloc, name, &[into]),
+    }
+}
+
 // How many instructions are passed.
 fn passed(passes: usize) -> u32 {
     u32::try_from(passes).unwrap_or(u32::MAX)
@@ -66,11 +79,27 @@ fn controlling(alloc: Global, inst: &Inst) -> Result<String, AllocError> {
     }
 }
 
+// An instruction of operands that are put together.
+fn making(alloc: Global, inst: &Inst) -> Result<String, AllocError> {
+    match inst {
+        Inst::Place {
+            operand,
+            part,
+            into,
+            from,
+            ..
+        } => word(alloc, "place", &[*into, *from, *operand, *part]),
+        Inst::Gather { into, operands, .. } => word(alloc, "gather", &[*into, *operands]),
+        Inst::Call { into, operands, .. } => calling(alloc, "call", *into, *operands),
+        Inst::Print { into, operands, .. } => calling(alloc, "print", *into, *operands),
+        _ => controlling(alloc, inst),
+    }
+}
+
 // An instruction.
 fn told(alloc: Global, inst: &Inst) -> Result<String, AllocError> {
     match inst {
         Inst::Give { into, from, .. } => giving(alloc, "give", *into, from),
-        Inst::Gather { into, from, .. } => giving(alloc, "gather", *into, from),
         Inst::Known { into, .. } => word(alloc, "known", &[*into]),
         Inst::Write { operands, from, .. } => giving(alloc, "write", *from, operands),
         Inst::Skip {
@@ -80,7 +109,7 @@ fn told(alloc: Global, inst: &Inst) -> Result<String, AllocError> {
             ..
         } => word(alloc, "skip", &[*into, *from, passed(*passes)]),
         Inst::Truth { into, from } => word(alloc, "truth", &[*into, *from]),
-        _ => controlling(alloc, inst),
+        _ => making(alloc, inst),
     }
 }
 

@@ -1,6 +1,6 @@
 //! The bodies of functions that rows speak of. Variables 0 and 1 are ints, 2 and 3 lists of ints, 4 is an array of ints.
 
-use limbo_typed::{Connective, Operation, Pattern, Place, PlaceNode, TExpr, TNode, TStmt};
+use limbo_typed::{Connective, Operation, Pattern, Place, PlaceNode, Printed, TExpr, TNode, TStmt};
 use limbo_types::Ty;
 use limbo_values::{Comparison, Kind, Operator};
 use std::alloc::{AllocError, Global};
@@ -177,6 +177,62 @@ fn both(alloc: Global) -> Result<TStmt, AllocError> {
     set(alloc, 0, TExpr { ty, node })
 }
 
+// `f()`
+fn bare(alloc: Global) -> TExpr {
+    TExpr {
+        ty: Ty::Int,
+        node: TNode::Call {
+            function: 0,
+            args: Vec::new(alloc),
+        },
+    }
+}
+
+// `f(i, list)`, whose answer is a list.
+fn call(alloc: Global, list_given: TExpr) -> Result<TExpr, AllocError> {
+    let mut args = Vec::new(alloc);
+    args.push(read(alloc, 0)?)?;
+    args.push(list_given)?;
+    Ok(TExpr {
+        ty: list(alloc)?,
+        node: TNode::Call { function: 0, args },
+    })
+}
+
+// `l = f(i, f(i, l));`
+fn nested(alloc: Global) -> Result<TStmt, AllocError> {
+    let inner = call(alloc, read(alloc, 2)?)?;
+    set(alloc, 2, call(alloc, inner)?)
+}
+
+// `print` of a format without characters, of these arguments.
+fn print(alloc: Global, args: Vec<TExpr>) -> Result<TStmt, AllocError> {
+    let module = TExpr {
+        ty: Ty::Module(0),
+        node: TNode::Nil,
+    };
+    let node = TNode::Print {
+        printed: Printed::Print,
+        module: Box::new(alloc, module)?,
+        file: None,
+        format: Vec::new(alloc),
+        args,
+    };
+    let ty = Ty::Int;
+    Ok(TStmt::Eval(Box::new(alloc, TExpr { ty, node })?))
+}
+
+// `print` of `byte 5` and of `i`.
+fn printed(alloc: Global) -> Result<TStmt, AllocError> {
+    let mut args = Vec::new(alloc);
+    args.push(TExpr {
+        ty: Ty::Byte,
+        node: TNode::Number(5),
+    })?;
+    args.push(read(alloc, 0)?)?;
+    print(alloc, args)
+}
+
 /// The statement of this name, or an empty one.
 ///
 /// # Errors
@@ -190,6 +246,11 @@ pub fn statement(alloc: Global, name: &str) -> Result<TStmt, AllocError> {
         "swap" => swapped(alloc),
         "choose" => chosen(alloc),
         "both" => both(alloc),
+        "bare" => set(alloc, 0, bare(alloc)),
+        "call" => set(alloc, 2, call(alloc, read(alloc, 2)?)?),
+        "nested" => nested(alloc),
+        "print" => print(alloc, Vec::new(alloc)),
+        "printed" => printed(alloc),
         _ => Ok(TStmt::Empty),
     }
 }

@@ -165,7 +165,7 @@ module _ (m : typed.Module) (k : Facts) (i : ℕ) (w : Shared) (x : World) (p : 
         let memory = code.memory_of w p.frame in
         let read = (places_change.global m.adts memory t v part (core.values_of p.frame.slots from) is.values is.value is.instance is.there).0 in
         ap (code.next frames_limit (program m) w p) here
-        ∙ ap (λ (r : Raising Value). code.gives frames_limit (program m) w p into p.frame.slots
+        ∙ ap (λ (r : Raising Value). code.gives frames_limit (program m) w p into
         (evaluation.unless_raised r (evaluation.gets m.adts memory t))) read
         ∙ ap (λ (u : Value). code.goes_on w p (core.put p.frame.slots into (Holds u)))
         (sym (stands_whole m.adts k is.words place t (part_at part is.value) is.stands))

@@ -58,7 +58,7 @@ module _ (m : typed.Module) (w : Shared) (p : code.Process) (t : Ty) (v : ℕ) (
   reads old there whole =
       let read = (places_change.local m.adts (code.memory_of w p.frame) t v part (core.values_of p.frame.slots from) old there).0 in
       ap (code.next frames_limit (program m) w p) here
-      ∙ ap (λ (r : Raising Value). code.gives frames_limit (program m) w p into p.frame.slots
+      ∙ ap (λ (r : Raising Value). code.gives frames_limit (program m) w p into
       (evaluation.unless_raised r (evaluation.gets m.adts (code.memory_of w p.frame) t))) read
       ∙ ap (λ (u : Value). code.goes_on w p (core.put p.frame.slots into (Holds u))) (sym whole)
 

@@ -19,7 +19,7 @@ use Rattle.core_code.specs.Slots as core
 use Rattle.core_code.specs.Slots.{Slot, Holds}
 use Rattle.core_code.proofs.Rounds.{rounds_give_rooms}
 use Rattle.core_typing.specs.Held as held
-use Rattle.core_typing.specs.Held.{Held, Of, Decided, Turns, type_held}
+use Rattle.core_typing.specs.Held.{Held, Of, Forming, Decided, Turns, type_held}
 use Rattle.core_typing.specs.Needs.{StandsAs, MayBeNil}
 use Rattle.dis_isa.specs.declared.inst.Operand as isa
 use Rattle.dis_isa.specs.declared.inst.Operand.TheVariants as operand
@@ -52,6 +52,7 @@ use Rattle.rows_moving.proofs.Variables.{has_path}
 
 pub of_type : (h : Held) (u : Ty) → type_held h ≡ Some u → (live : List ℕ) × (h ≡ Of u live)
 of_type (Of t ns) u e = (ns, ap (λ v. Of v ns) (same_some t u e))
+of_type (Forming t v ks us ns) u e = absurd cc
 of_type (Decided b) u e = absurd cc
 of_type (Turns rs) u e = absurd cc
 

@@ -36,7 +36,7 @@ module _ (m : typed.Module) (answer : Ty) (g : Function) (entries : ℕ → ℕ)
   as_long : (pc at : ℕ) (i : Instr) → size_at m answer g pc (Some i) ≡ length (code_of (made pc at) i)
   as_long pc at i =
       sizes_agree (blank_site m answer g pc) (made pc at) i
-      (record { scene = refl; parameters = refl; answer = refl; told = refl })
+      (record { scene = refl; answer = refl; told = refl })
 
   pub size_next : (pc at : ℕ) (i : Instr) → slice_get g.code pc ≡ Some i → size (suc pc) ≡ size pc + length (code_of (made pc at) i)
   size_next pc at i e = ap (λ o. size pc + size_at m answer g pc o) e ∙ ap (λ n. size pc + n) (as_long pc at i)

@@ -70,7 +70,6 @@ numbers t = 3
 abbrev site : (told : ℕ → Ty) → Site
 site told = record {
   scene = scene;
-  parameters = λ f. ty.Int ∷ [];
   entries = λ f. 500;
   answer = ty.Int;
   type_number = numbers;
@@ -165,7 +164,7 @@ goes_far : code_of (site an_array) (core.Next 0 1 (pos 536870911 ∷ pos 5368709
     ∷ []
 goes_far = refl
 
-far_data : data_of [] (λ f. []) ty.Int an_array (core.Next 0 1 (pos 536870911 ∷ pos 536870912 ∷ []) 5)
+far_data : data_of [] ty.Int an_array (core.Next 0 1 (pos 536870911 ∷ pos 536870912 ∷ []) 5)
     ≡ Word (pos 536870911) ∷ Word (pos 536870912) ∷ []
 far_data = refl
 
@@ -181,11 +180,30 @@ fills_near : code_of (site an_array) (core.Element ty.Int 0 (pos 4) 2)
     ≡ three op.Indx (fp 44) (in_fp 24) (imm 4) ∷ two op.Movw (fp 56) (at 24 0) ∷ []
 fills_near = refl
 
--- A call of function 5 with an int: the frame is of type 7, the argument at 32, and the answer goes to slot 1.
-calls : code_of (site ints) (core.Call ty.Int 5 1 (0 ∷ []))
+-- An int in slot 0 comes to the record of slot 1, which is made with it; a list in slot 0 comes behind it, and its slot is let go.
+abbrev int_alone : ty.Ty
+int_alone = ty.Tuple (ty.MoreTys ty.Int ty.NoTys)
+
+places_first : code_of (site ints) (core.Place int_alone None 0 0 1 0) ≡ two op.New (imm 3) (fp 52) ∷ two op.Movw (fp 40) (at 52 0) ∷ []
+places_first = refl
+
+places_second :
+    code_of (site ints) (core.Place (ty.Tuple (ty.MoreTys ty.Int (ty.MoreTys (ty.ListOf ty.Int) ty.NoTys))) None 1 1 1 0)
+    ≡ two op.Movp (fp 44) (at 52 4) ∷ two op.Movp (mp 4) (fp 44) ∷ []
+places_second = refl
+
+-- The tuple is whole then; one without operands begins here.
+gathers : code_of (site ints) (core.Gather int_alone (tree.Operate operation.Tuple) 1 1) ≡ three op.Jmp operand.None middle.None (imm 200) ∷ []
+gathers = refl
+
+gathers_none : code_of (site ints) (core.Gather (ty.Tuple ty.NoTys) (tree.Operate operation.Tuple) 1 0) ≡ two op.New (imm 3) (fp 52) ∷ []
+gathers_none = refl
+
+-- A call of function 5 with an int: the frame is of type 7, the argument at 32, and the answer goes to slot 2.
+calls : code_of (site (λ r. int_alone)) (core.Call ty.Int 5 2 (Some 1))
     ≡ two op.Frame (imm 7) (fp 28)
-    ∷ two op.Movw (fp 40) (at 28 32)
-    ∷ two op.Lea (fp 48) (at 28 16)
+    ∷ three op.Movm (at 52 0) (middle.Imm (pos 4)) (at 28 32)
+    ∷ two op.Lea (fp 56) (at 28 16)
     ∷ two op.Call (fp 28) (imm 500)
     ∷ []
 calls = refl
@@ -224,15 +242,17 @@ takes : code_of (site ints) (core.Take 0 1 2 3)
     ∷ []
 takes = refl
 
--- print("n=%d", n): the format is at 64 in the data, and the number of bytes goes to slot 1, which has Sys until then.
-prints : code_of (site ints) (core.Print (piece.Chars (codes "n=") ∷ piece.Hole (hole.Decimal kind.Int) ∷ []) 1 (0 ∷ []))
-    ≡ three op.Load (mp 0) (middle.Imm (pos 0)) (fp 52)
+-- print("n=%d", n): the format is at 64 in the data, and the number of bytes goes to slot 2, which has Sys until then.
+prints : code_of (site (λ r. ty.Tuple (ty.MoreTys ty.Chars (ty.MoreTys ty.Int ty.NoTys))))
+    (core.Print (piece.Chars (codes "n=") ∷ piece.Hole (hole.Decimal kind.Int) ∷ []) 2 (Some 1))
+    ≡ three op.Load (mp 0) (middle.Imm (pos 0)) (fp 60)
     ∷ two op.Frame (imm 6) (fp 28)
+    ∷ three op.Movmp (at 52 0) (middle.Imm (pos 3)) (at 28 32)
+    ∷ three op.Movm (at 52 4) (middle.Imm (pos 4)) (at 28 36)
     ∷ two op.Movp (mp 64) (at 28 32)
-    ∷ two op.Movw (fp 40) (at 28 36)
-    ∷ two op.Lea (fp 48) (at 28 16)
-    ∷ three op.Mcall (fp 28) (middle.Imm (pos 16)) (fp 52)
-    ∷ two op.Movp (mp 4) (fp 52)
+    ∷ two op.Lea (fp 56) (at 28 16)
+    ∷ three op.Mcall (fp 28) (middle.Imm (pos 16)) (fp 60)
+    ∷ two op.Movp (mp 4) (fp 60)
     ∷ []
 prints = refl
 

@@ -1,5 +1,5 @@
 -- How many instructions of the machine one of three-address code becomes doesn't depend on where it stands, nor on numbers of types.
-use Rattle.std.proofs.Common.{◌≡◌, ℕ, suc, ◌+◌, ℤ, Bool, true, false, List, [], ◌∷◌, ◌++◌, length, Option, None, Some, refl, ap, arith}
+use Rattle.std.proofs.Common.{◌≡◌, ℕ, zero, suc, ◌+◌, ℤ, Bool, true, false, List, [], ◌∷◌, ◌++◌, length, Option, None, Some, refl, ap, arith}
 use Rattle.std.proofs.Common.{length-append, pos, ◌∙◌}
 use Rattle.std.specs.Prelude.{slice_index_or}
 use Rattle.limbo_types.specs.Types as ty
@@ -26,15 +26,14 @@ use Rattle.dis_isa.specs.declared.op.Op.{Op}
 use Rattle.dis_isa.specs.declared.op.Op.TheVariants as op
 use Rattle.core_code.specs.Code as core
 use Rattle.core_code.specs.Code.{Instr}
-use Rattle.core_code.specs.Terms.{part_numbers, part_types}
-use Rattle.core_typing.specs.Needs.{printed}
+use Rattle.core_code.specs.Terms.{part_types}
 use Rattle.value_frames.specs.Frames.{Form, AsReference, Boxed, form_of, names_at, made_place}
 use Rattle.value_moves.specs.Operands.{Code, has_references, moved, moved_by, inst, sized, size_middle, own, behind}
 use Rattle.value_code.specs.Data.{Named, OfValue, OfRecord, nil_word}
 use Rattle.value_code.specs.Operands.{Scene, in_slot, part_in_slot, reference}
 use Rattle.value_code.specs.Works.{cons_op, element_middle, element_sized, prepared, calculated, compared, operated}
-use Rattle.value_code.specs.Code.{Site, zeroed, literal, known, gathered, passed, compared_all, searched, read, put, put_or_zero, written, given}
-use Rattle.value_code.specs.Code.{skipped, called, changed_box, let_one_go, returned, code_of, tagged, emptied, answer_to, spare, offset_at}
+use Rattle.value_code.specs.Code.{Site, zeroed, literal, known, begun, begun_first, placed, front_of, front_moved, arguments, compared_all, searched, read, put, put_or_zero, written, given}
+use Rattle.value_code.specs.Code.{skipped, called, changed_box, let_one_go, returned, at_least, code_of, emptied, answer_to, spare, offset_at}
 use Rattle.value_code.specs.Laws.{SeeTheSame}
 
 record AsLong (xs ys : Code) : Type 0 where
@@ -147,15 +146,25 @@ searched_long s [] at at' here here' l next next' = even refl
 searched_long s (z ∷ zs) at at' here here' l next next' = join (compared_all_long (z ∷ zs) at at' _ _) (even refl)
 
 module _ (s : Scene) (types types' : Named → ℕ) where
-  gathered_long : (t : Ty) (ks rs : List ℕ) (into : ℕ) → AsLong (gathered s types t ks rs into) (gathered s types' t ks rs into)
-  gathered_long t (k ∷ ks) (r ∷ rs) into =
-      let u = slice_index_or (part_types s.adts t) k ty.Nothing in
-      join (moved_long s.adts u _ _ _ _ _ _) (join {xs = emptied s (form_of u) r} same (gathered_long t ks rs into))
-  gathered_long t ks rs into = even refl
+  begun_long : (n n' : ℕ) (v : Option ℕ) (into : ℕ) → AsLong (begun s n v into) (begun s n' v into)
+  begun_long n n' v into = join (prepared_long Boxed n n' (reference s into)) (even refl)
 
-  passed_long : (all : List Ty) (k : ℕ) (ts : List Ty) (rs : List ℕ) → AsLong (passed s types all k ts rs) (passed s types' all k ts rs)
-  passed_long all k (t ∷ ts) (r ∷ rs) = join (moved_long s.adts t _ _ _ _ _ _) (passed_long all (suc k) ts rs)
-  passed_long all k ts rs = even refl
+  begun_first_long : (n n' : ℕ) (v : Option ℕ) (j into : ℕ) → AsLong (begun_first s n v j into) (begun_first s n' v j into)
+  begun_first_long n n' v zero into = begun_long n n' v into
+  begun_first_long n n' v (suc j) into = even refl
+
+  placed_long : (t : Ty) (v : Option ℕ) (j k into from : ℕ) → AsLong (placed s types t v j k into from) (placed s types' t v j k into from)
+  placed_long t v j k into from =
+      let u = slice_index_or (part_types s.adts t) k ty.Nothing in
+      join (begun_first_long _ _ v j into) (join (moved_long s.adts u _ _ _ _ _ _) (same {xs = emptied s (form_of u) from}))
+
+  front_long : (n n' w a : ℕ) → AsLong (front_moved s n w a) (front_moved s n' w a)
+  front_long n n' zero a = even refl
+  front_long n n' (suc w) a = even refl
+
+  arguments_long : (told : ℕ → Ty) (o : Option ℕ) → AsLong (arguments s types told o) (arguments s types' told o)
+  arguments_long told None = even refl
+  arguments_long told (Some a) = join (front_long _ _ (front_of s.adts (part_types s.adts (told a))) a) same
 
 -- ---- the code of an instruction, at two sites
 
@@ -206,11 +215,17 @@ module _ (c : Site) (entries : ℕ → ℕ) (types : Named → ℕ) (frames : �
   skipped_long k into None from p p' = even refl
   skipped_long k into (Some r) from p p' = even refl
 
-  called_long : (t : Ty) (f into : ℕ) (rs : List ℕ) → AsLong (called c t f into rs) (called d t f into rs)
-  called_long t f into rs =
+  called_long : (t : Ty) (f into : ℕ) (o : Option ℕ) → AsLong (called c t f into o) (called d t f into o)
+  called_long t f into o =
       let call : ℕ → Inst = λ pc. inst op.Call (own made_place) middle.None (operand.Imm (pos pc)) in
-      more (join (passed_long c.scene c.type_number types (c.parameters f) 0 (c.parameters f) rs)
+      more (join (arguments_long c.scene c.type_number types c.told o)
       (join (prepared_at t (reference c.scene into)) (last (answer_to c.scene (form_of t) into) (call (c.entries f)) (call (entries f)))))
+
+  at_least_long : (xs ys : Code) → AsLong xs ys → AsLong (at_least c xs) (at_least d ys)
+  at_least_long [] [] e = even refl
+  at_least_long [] (y ∷ ys) e = absurd (let g = e.is in cc)
+  at_least_long (x ∷ xs) [] e = absurd (let g = e.is in cc)
+  at_least_long (x ∷ xs) (y ∷ ys) e = e
 
   changed_box_long : (t : Ty) (r : ℕ) (change change' : Code) → AsLong change change'
       → AsLong (changed_box c t r change) (changed_box d t r change')
@@ -229,9 +244,9 @@ module _ (c : Site) (entries : ℕ → ℕ) (types : Named → ℕ) (frames : �
 
   code_long : (i : Instr) → AsLong (code_of c i) (code_of d i)
   code_long (core.Give t o into from) = given_long t o into from
-  code_long (core.Gather t (tree.Operate o) into from) =
-      more (join {xs = tagged c.scene o into} same (gathered_long c.scene c.type_number types t (part_numbers c.scene.adts o (length from)) from into))
-  code_long (core.Gather t o into from) = even refl
+  code_long (core.Place t v j k into from) = at_least_long _ _ (placed_long c.scene c.type_number types t v j k into from)
+  code_long (core.Gather t o into zero) = begun_long c.scene c.type_number types _ _ _ into
+  code_long (core.Gather t o into (suc n)) = even refl
   code_long (core.Pick t k into from) =
       join (prepared_at t _) (join (moved_long c.scene.adts t _ _ _ _ _ _)
       (changed_box_long (c.told from) from _ _ (zeroed_long c.scene.adts t _ _ _ _ _)))
@@ -242,8 +257,8 @@ module _ (c : Site) (entries : ℕ → ℕ) (types : Named → ℕ) (frames : �
       let cons : ℕ → Inst = λ n.
       inst (cons_op (has_references c.scene.adts t) t) (in_slot c.scene t item) (element_middle c.scene.adts t n) (reference c.scene into) in
       more (last (element_sized c.scene.adts t) (cons (c.type_number (OfValue t))) (cons (types (OfValue t))))
-  code_long (core.Call t f into from) = called_long t f into from
-  code_long (core.Print ps into from) = more (more (more (join (passed_long c.scene c.type_number types (ty.Chars ∷ printed ps) 1 (printed ps) from) same)))
+  code_long (core.Call t f into o) = called_long t f into o
+  code_long (core.Print ps into o) = more (more (join (arguments_long c.scene c.type_number types c.told o) (even refl)))
   code_long (core.Skip k into decision from n) = skipped_long k into decision from _ _
   code_long (core.Truth into from) = even refl
   code_long (core.Element t array index from) = more (moved_long c.scene.adts t _ _ _ _ _ _)
@@ -263,4 +278,4 @@ pub sizes_agree : (c d : Site) (i : Instr) → SeeTheSame c d → length (code_o
 sizes_agree c d i s =
     (code_long c d.entries d.type_number d.frame_number d.here d.past d.back d.at i).is
     ∙ λ j. length (code_of
-    (record d { scene = s.scene j; parameters = s.parameters j; answer = s.answer j; told = s.told j }) i)
+    (record d { scene = s.scene j; answer = s.answer j; told = s.told j }) i)

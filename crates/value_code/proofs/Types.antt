@@ -12,7 +12,7 @@ use Rattle.dis_memory.specs.Arrays.{are_alike}
 use Rattle.core_code.specs.Code.{Instr, Function}
 use Rattle.value_code.specs.Data.{Named}
 use Rattle.value_code.specs.Code.{named_by}
-use Rattle.value_code.specs.Objects.{is_known, distinct_from, number_among, adts, parameters, desc_of, frame_desc, told_at, all_named, of_function}
+use Rattle.value_code.specs.Objects.{is_known, distinct_from, number_among, adts, desc_of, frame_desc, told_at, all_named, of_function}
 use Rattle.value_code.specs.Objects.{function_named, in_all, named_descs, type_number, frame_number, object_of}
 use Rattle.value_code.specs.Laws.{instruction_at, names_at}
 use Rattle.value_code.proofs.Lists.{get_more, get_behind, get_map, has_map}
@@ -98,7 +98,7 @@ module _ (m : typed.Module) where
 
   module _ (answer : Ty) (g : Function) where
     abbrev names : (pc : ℕ) → Instr → List Named
-    names pc i = named_by (adts m) (parameters m) answer (told_at m answer g pc) i
+    names pc i = named_by (adts m) answer (told_at m answer g pc) i
 
     named_there : (from : ℕ) (is : List Instr) (k : ℕ) (i : Instr) (d : Named) → slice_get is k ≡ Some i → Has (names (from + k) i) d
         → Has (all_named m answer g from is) d

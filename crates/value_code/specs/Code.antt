@@ -1,13 +1,11 @@
 -- The machine's code of each instruction of three-address code, by the types of the values that its slots have.
-use Rattle.std.specs.Prelude.{ℕ, suc, ℤ, pos, ◌+◌, Bool, true, false, List, [], ◌∷◌, ◌++◌, length, map, Option, None}
+use Rattle.std.specs.Prelude.{ℕ, zero, suc, ℤ, pos, ◌+◌, ◌-◌, max, Bool, true, false, List, [], ◌∷◌, ◌++◌, length, map, Option, None}
 use Rattle.std.specs.Prelude.{Some}
 use Rattle.std.specs.Prelude.{slice_index_or, if◌then◌else◌, codes, ◌==◌}
 use Rattle.limbo_types.specs.Types as ty
 use Rattle.limbo_types.specs.Types.{Ty}
 use Rattle.limbo_layout.specs.Adts.{Def}
 use Rattle.limbo_values.specs.declared.number.Kind.TheVariants.{Big}
-use Rattle.limbo_typed.specs.declared.operation.Operation.{Operation}
-use Rattle.limbo_typed.specs.declared.operation.Operation.TheVariants as operation
 use Rattle.limbo_typed.specs.declared.operation.Connective.{Connective}
 use Rattle.limbo_typed.specs.declared.operation.Connective.TheVariants as connective
 use Rattle.limbo_typed.specs.declared.print.Hole.{Hole}
@@ -30,24 +28,23 @@ use Rattle.dis_isa.specs.declared.op.Op.{Op}
 use Rattle.dis_isa.specs.declared.op.Op.TheVariants as op
 use Rattle.core_code.specs.Code as core
 use Rattle.core_code.specs.Code.{Instr, Function}
-use Rattle.core_code.specs.Terms.{part_types, part_numbers}
-use Rattle.core_typing.specs.Needs.{printed}
-use Rattle.value_frames.specs.Frames.{Form, Nowhere, AsNumber, AsReference, Boxed, form_of, names_at, within, within_row, linkage_bytes}
+use Rattle.core_code.specs.Terms.{part_types}
+use Rattle.core_typing.specs.Needs.{variant_made}
+use Rattle.value_frames.specs.Frames.{Form, Nowhere, AsNumber, AsReference, Boxed, form_of, names_at, row_of, within, linkage_bytes}
 use Rattle.value_frames.specs.Frames.{answer_place, passing_place, element_place, made_place, spare_place, number_place, room_for}
-use Rattle.value_moves.specs.Operands.{Code, inst, own, of_own, behind, has_references, moved}
+use Rattle.value_moves.specs.Operands.{Code, inst, own, of_own, behind, sized, size_middle, has_references, moved}
 use Rattle.value_code.specs.Data.{Datum, Text, Word, Long, Zero, path_word, nil_word, fits_source}
-use Rattle.value_code.specs.Data.{Named, OfValue, OfRecord, PrintFrame, OfRegion, OfTurn}
+use Rattle.value_code.specs.Data.{Named, OfValue, OfRecord, OfFront, PrintFrame, OfRegion, OfTurn}
 use Rattle.value_code.specs.Operands.{Scene, number, number_middle, reference, reference_middle, in_box, in_slot, part_in_slot, at_place}
 use Rattle.value_code.specs.Operands.{looked_up, first_slot}
 use Rattle.value_code.specs.Works.{jump_to, cons_op, channel_op, element_middle, element_sized, prepared, decided, operated}
 
--- What the code of an instruction is made with: what its function sees, the types of each function's parameters, where each function's code
--- begins, the type of this function's answer, which numbers types have in the object, and the frames of functions; and, at the instruction,
--- what is told of the types of slots, where its code begins, where the code of the place begins that is so far from the next instruction or
--- from this one, and where its data stand.
+-- What the code of an instruction is made with: what its function sees, where each function's code begins, the type of this function's
+-- answer, which numbers types have in the object, and the frames of functions; and, at the instruction, what is told of the types of slots,
+-- where its code begins, where the code of the place begins that is so far from the next instruction or from this one, and where its data
+-- stand.
 pub record Site : Type 0 where
   pub scene : Scene
-  pub parameters : ℕ → List Ty
   pub entries : ℕ → ℕ
   pub answer : Ty
   pub type_number : Named → ℕ
@@ -94,6 +91,15 @@ zero_data t = []
 abbrev pub number_source : Bool → ℤ → (at : ℕ) → isa.Operand
 number_source true z at = operand.Imm z
 number_source false z at = operand.Mp (pos at)
+
+-- ---- values in a row: how many bytes there are up to the last word that refers
+
+abbrev pub last_end : List ℕ → ℕ
+last_end [] = 0
+last_end (o ∷ os) = max (o + 4) (last_end os)
+
+abbrev pub front_of : List Def → List Ty → ℕ
+front_of defs us = last_end (row_of defs us).references
 
 -- ---- zeros
 
@@ -142,27 +148,44 @@ module _ (s : Scene) where
   known (Num z) into at = inst op.Movw (number_source (fits_source z) z at) middle.None (number s into) ∷ []
   known v into at = let_go into ∷ []
 
-  -- ---- tuples and adts
-
-  abbrev pub gathered : (Named → ℕ) → Ty → (numbers slots : List ℕ) → (into : ℕ) → Code
-  gathered number_of t (k ∷ ks) (r ∷ rs) into =
-      let u = slice_index_or (part_types s.adts t) k ty.Nothing in
-      moved s.adts u (number_of (OfRecord u)) (in_slot s u r) (in_box s into (within s.adts t (k ∷ []))) ++ (emptied (form_of u) r
-      ++ gathered number_of t ks rs into)
-  gathered number_of t ks rs into = []
+  -- ---- operands that are put together: a record is made with the first; each moves to its part, and its slot is let go
 
   -- the number of a variant
-  abbrev pub tagged : Operation → (into : ℕ) → Code
-  tagged (operation.Adt k (Some v)) into = inst op.Movw (operand.Imm (pos v)) middle.None (in_box s into 0) ∷ []
-  tagged o into = []
+  abbrev pub tagged : Option ℕ → (into : ℕ) → Code
+  tagged (Some v) into = inst op.Movw (operand.Imm (pos v)) middle.None (in_box s into 0) ∷ []
+  tagged None into = []
 
-  -- ---- frames that are made
+  abbrev pub begun : (type : ℕ) → Option ℕ → (into : ℕ) → Code
+  begun n v into = prepared Boxed n (reference s into) ++ tagged v into
 
-  abbrev pub passed : (Named → ℕ) → List Ty → (number : ℕ) → List Ty → (slots : List ℕ) → Code
-  passed number_of all k (t ∷ ts) (r ∷ rs) =
-      moved s.adts t (number_of (OfRecord t)) (in_slot s t r) (behind made_place (linkage_bytes + within_row s.adts all k))
-      ++ passed number_of all (suc k) ts rs
-  passed number_of all k ts rs = []
+  abbrev pub begun_first : (type : ℕ) → Option ℕ → (operand into : ℕ) → Code
+  begun_first n v zero into = begun n v into
+  begun_first n v (suc j) into = []
+
+  abbrev pub placed : (Named → ℕ) → Ty → Option ℕ → (operand part into from : ℕ) → Code
+  placed number_of t v j k into from =
+      let u = slice_index_or (part_types s.adts t) k ty.Nothing in
+      begun_first (number_of (OfRecord t)) v j into
+      ++ (moved s.adts u (number_of (OfRecord u)) (in_slot s u from) (in_box s into (within s.adts t (k ∷ []))) ++ emptied (form_of u) from)
+
+  -- ---- frames that are made: the operands that were put together go there
+
+  -- Words up to the last that refers go by their type, and what is behind them as so many bytes: nothing else in the frame is touched.
+  abbrev pub front_moved : (type front slot : ℕ) → Code
+  front_moved n zero a = []
+  front_moved n (suc w) a = inst op.Movmp (in_box s a 0) (middle.Imm (pos n)) (behind made_place linkage_bytes) ∷ []
+
+  abbrev pub rest_moved : (front rest slot : ℕ) → Code
+  rest_moved w zero a = []
+  rest_moved w (suc r) a =
+      sized (suc r) ++ (inst op.Movm (in_box s a w) (size_middle (suc r)) (behind made_place (linkage_bytes + w)) ∷ [])
+
+  abbrev pub arguments : (Named → ℕ) → (told : ℕ → Ty) → Option ℕ → Code
+  arguments number_of told None = []
+  arguments number_of told (Some a) =
+      let us = part_types s.adts (told a) in
+      let front = front_of s.adts us in
+      front_moved (number_of (OfFront us)) front a ++ rest_moved front ((row_of s.adts us).size - front) a
 
   -- A call's answer goes to the slot, or to its record.
   abbrev pub answer_to : Form → (into : ℕ) → Code
@@ -181,21 +204,20 @@ module _ (s : Scene) where
 
 -- ---- what an instruction names, and its data
 
-abbrev pub values_of : List Ty → List Named
-values_of ts = map (λ t. OfRecord t) ts
+module _ (defs : List Def) (answer : Ty) (told : ℕ → Ty) where
+  abbrev pub told_of : Option ℕ → List Named
+  told_of None = []
+  told_of (Some a) = OfFront (part_types defs (told a)) ∷ []
 
-abbrev pub parts_named : List Ty → List ℕ → List Named
-parts_named ts ks = map (λ k. OfRecord (slice_index_or ts k ty.Nothing)) ks
-
-module _ (defs : List Def) (parameters : ℕ → List Ty) (answer : Ty) (told : ℕ → Ty) where
   abbrev pub named_by : Instr → List Named
   named_by (core.Give t o into from) = OfRecord t ∷ OfValue (item_of t) ∷ OfRecord (item_of t) ∷ []
-  named_by (core.Gather t (tree.Operate o) into from) = OfRecord t ∷ parts_named (part_types defs t) (part_numbers defs o (length from))
+  named_by (core.Place t v j k into from) = OfRecord t ∷ OfRecord (slice_index_or (part_types defs t) k ty.Nothing) ∷ []
+  named_by (core.Gather t o into n) = OfRecord t ∷ []
   named_by (core.Pick t k into from) = OfRecord t ∷ OfRecord (told from) ∷ []
   named_by (core.Write t w ops part from) = OfRecord t ∷ []
   named_by (core.Cell t into item back) = OfValue t ∷ []
-  named_by (core.Call t f into from) = OfRecord t ∷ values_of (parameters f)
-  named_by (core.Print ps into from) = PrintFrame ps ∷ []
+  named_by (core.Call t f into o) = OfRecord t ∷ told_of o
+  named_by (core.Print ps into o) = PrintFrame ps ∷ told_of o
   named_by (core.Element t a z from) = OfRecord t ∷ []
   named_by (core.Other t a l from) = OfRecord t ∷ []
   named_by (core.Keep l from words) = OfTurn words ∷ OfRegion words ∷ []
@@ -342,22 +364,22 @@ module _ (c : Site) where
       opposite connective.And = op.Bnew
       opposite connective.Or = op.Beqw
 
-  abbrev pub called : Ty → (function into : ℕ) → (slots : List ℕ) → Code
-  called t f into rs =
+  abbrev pub called : Ty → (function into : ℕ) → (operands : Option ℕ) → Code
+  called t f into o =
       inst op.Frame (operand.Imm (pos (c.frame_number f))) middle.None (own made_place)
-      ∷ passed s c.type_number (c.parameters f) 0 (c.parameters f) rs
+      ∷ arguments s c.type_number c.told o
       ++ (prepared (form_of t) (record_number t) (reference s into)
       ++ (answer_to s (form_of t) into ++ (inst op.Call (own made_place) middle.None (operand.Imm (pos (c.entries f))) ∷ [])))
 
   -- Sys is loaded for each print, to where the answer's slot refers, and let go behind it; print is its function 16. The format is the
-  -- first argument.
-  abbrev pub printed_code : List Piece → (into : ℕ) → (slots : List ℕ) → Code
-  printed_code ps into rs =
+  -- first argument, in place of the empty text that the operands have in front.
+  abbrev pub printed_code : List Piece → (into : ℕ) → (operands : Option ℕ) → Code
+  printed_code ps into o =
       inst op.Load path_word (middle.Imm (pos 0)) (reference s into)
       ∷ inst op.Frame (operand.Imm (pos (c.type_number (PrintFrame ps)))) middle.None (own made_place)
-      ∷ inst op.Movp (operand.Mp (pos c.at)) middle.None (behind made_place linkage_bytes)
-      ∷ passed s c.type_number (ty.Chars ∷ printed ps) 1 (printed ps) rs
-      ++ (inst op.Lea (number s into) middle.None (behind made_place answer_place)
+      ∷ arguments s c.type_number c.told o
+      ++ (inst op.Movp (operand.Mp (pos c.at)) middle.None (behind made_place linkage_bytes)
+      ∷ inst op.Lea (number s into) middle.None (behind made_place answer_place)
       ∷ inst op.Mcall (own made_place) (middle.Imm (pos 16)) (reference s into) ∷ let_go s into ∷ [])
 
   abbrev pub element_of : (array : ℕ) → (index : isa.Operand) → code_inst.Inst
@@ -383,12 +405,16 @@ module _ (c : Site) where
   returned None = zeroed s.adts c.answer (record_number c.answer) c.at (behind answer_place 0)
   returned (Some r) = moved s.adts c.answer (record_number c.answer) (in_slot s c.answer r) (behind answer_place 0)
 
+  -- where there is nothing to do, the next instruction comes
+  abbrev pub at_least : Code → Code
+  at_least [] = jump_to (c.past 0) ∷ []
+  at_least (i ∷ is) = i ∷ is
+
   abbrev pub code_of : Instr → Code
   code_of (core.Give t o into from) = given t o into from
-  code_of (core.Gather t (tree.Operate o) into from) =
-      prepared Boxed (record_number t) (reference s into)
-      ++ (tagged s o into ++ gathered s c.type_number t (part_numbers s.adts o (length from)) from into)
-  code_of (core.Gather t o into from) = []
+  code_of (core.Place t v j k into from) = at_least (placed s c.type_number t v j k into from)
+  code_of (core.Gather t o into zero) = begun s (record_number t) (variant_made s.adts o) into
+  code_of (core.Gather t o into (suc n)) = at_least []
   code_of (core.Pick t k into from) =
       prepared (form_of t) (record_number t) (reference s into)
       ++ (moved s.adts t (record_number t) (part_in_slot s (c.told from) (k ∷ []) from) (in_slot s t into)
@@ -402,8 +428,8 @@ module _ (c : Site) where
       ∷ element_sized s.adts t
       ++ (inst (cons_op (has_references s.adts t) t) (in_slot s t item) (element_middle s.adts t (c.type_number (OfValue t)))
       (reference s into) ∷ [])
-  code_of (core.Call t f into from) = called t f into from
-  code_of (core.Print ps into from) = printed_code ps into from
+  code_of (core.Call t f into o) = called t f into o
+  code_of (core.Print ps into o) = printed_code ps into o
   code_of (core.Skip k into decision from n) = skipped k into decision from (c.past n)
   code_of (core.Truth into from) = decided c.here op.Bnew (number s from) (middle.Imm (pos 0)) (number s into)
   code_of (core.Element t array index from) =

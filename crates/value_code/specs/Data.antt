@@ -33,11 +33,12 @@ module _ (defs : List Def) where
 abbrev pub fits_source : ℤ → Bool
 fits_source n = int_le (negsuc 536870911) n && int_le n (pos 536870911)
 
--- What code names among the object's types: that of a value as an element; that of a record for one, in whole words; the frame of a
--- print; a region of so many slots, and the record that keeps one in a loop's chain.
+-- What code names among the object's types: that of a value as an element; that of a record for one, in whole words; that of values in a row
+-- up to the last word that refers; the frame of a print; a region of so many slots, and the record that keeps one in a loop's chain.
 pub data Named : Type 0 where
   OfValue : Ty → Named
   OfRecord : Ty → Named
+  OfFront : List Ty → Named
   PrintFrame : List Piece → Named
   OfRegion : (slots : ℕ) → Named
   OfTurn : (slots : ℕ) → Named

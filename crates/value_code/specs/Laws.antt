@@ -9,7 +9,7 @@ use Rattle.value_frames.specs.Frames.{room_for, row_of}
 use Rattle.value_heaps.specs.Blocks.{Constant, globals_place}
 use Rattle.value_code.specs.Data.{Datum, Named}
 use Rattle.value_code.specs.Code.{Site, code_of, named_by}
-use Rattle.value_code.specs.Objects.{adts, globals, parameters, desc_of, frame_desc, end_of, told_at, data_at, of_function, init_of}
+use Rattle.value_code.specs.Objects.{adts, globals, desc_of, frame_desc, end_of, told_at, data_at, of_function, init_of}
 use Rattle.value_code.specs.Objects.{base_of, entry, data_place, type_number, frame_number, code_begins, data_begins, site_at}
 use Rattle.value_code.specs.Objects.{datum_constant, constants, data_size, object_of}
 
@@ -20,7 +20,7 @@ module _ (m : typed.Module) where
 
   -- what an instruction names there, and its data
   abbrev pub names_at : typed.Function → (pc : ℕ) → Instr → List Named
-  names_at f pc i = named_by (adts m) (parameters m) f.of.answer (told_at m f.of.answer (of_function m f) pc) i
+  names_at f pc i = named_by (adts m) f.of.answer (told_at m f.of.answer (of_function m f) pc) i
 
   abbrev pub own_data : typed.Function → (pc : ℕ) → Instr → List Datum
   own_data f pc i = data_at m f.of.answer (of_function m f) pc i
@@ -36,7 +36,6 @@ module _ (m : typed.Module) where
 -- Two instructions see the same, and the same is told of slots.
 pub record SeeTheSame (c d : Site) : Type 0 where
   pub scene : c.scene ≡ d.scene
-  pub parameters : c.parameters ≡ d.parameters
   pub answer : c.answer ≡ d.answer
   pub told : c.told ≡ d.told
 

@@ -30,10 +30,10 @@ use Rattle.value_frames.specs.Frames.{frame_references, row_of, room_for, within
 use Rattle.value_heaps.specs.Blocks as heaps
 use Rattle.value_heaps.specs.Blocks.{globals_place}
 use Rattle.value_moves.specs.Operands.{Code, inst, own}
-use Rattle.value_code.specs.Data.{Datum, Text, Word, Long, Zero, datum_room, Named, OfValue, OfRecord, PrintFrame, OfRegion, OfTurn}
+use Rattle.value_code.specs.Data.{Datum, Text, Word, Long, Zero, datum_room, Named, OfValue, OfRecord, OfFront, PrintFrame, OfRegion, OfTurn}
 use Rattle.value_code.specs.Operands.{Scene}
 use Rattle.value_code.specs.Works.{jump_to}
-use Rattle.value_code.specs.Code.{Site, named_by, data_of, code_of}
+use Rattle.value_code.specs.Code.{Site, front_of, named_by, data_of, code_of}
 use Rattle.core_typing.specs.Written.{told}
 
 -- a slot to which nothing was given is empty
@@ -66,16 +66,10 @@ module _ (m : typed.Module) where
   abbrev pub functions : List Function
   functions = map (λ (f : typed.Function). function_of m.adts (routine_of f)) m.functions
 
-  abbrev pub arguments_in : Option typed.Function → List Ty
-  arguments_in None = []
-  arguments_in (Some f) = f.of.args
-
-  abbrev pub parameters : ℕ → List Ty
-  parameters n = arguments_in (slice_get m.functions n)
-
   abbrev pub desc_of : Named → TypeDesc
   desc_of (OfValue t) = desc (room_for adts t).size (room_for adts t).references
   desc_of (OfRecord t) = desc (box_bytes adts t) (room_for adts t).references
+  desc_of (OfFront us) = desc (front_of adts us) (row_of adts us).references
   desc_of (PrintFrame ps) =
       let row = row_of adts (ty.Chars ∷ printed ps) in
       desc (next_multiple_of (linkage_bytes + row.size) 4) (map (λ o. linkage_bytes + o) row.references)
@@ -106,7 +100,6 @@ module _ (m : typed.Module) where
     abbrev pub blank_site : (pc : ℕ) → Site
     blank_site pc = record {
       scene = scene;
-      parameters = parameters;
       entries = λ f. 0;
       answer = answer;
       told = told_at pc;
@@ -128,13 +121,12 @@ module _ (m : typed.Module) where
     sizes (suc pc) = sizes pc + size_at pc (slice_get g.code pc)
 
     abbrev pub data_at : (pc : ℕ) → Instr → List Datum
-    data_at pc i = data_of adts parameters answer (told_at pc) i
+    data_at pc i = data_of adts answer (told_at pc) i
 
     module _ (entries : ℕ → ℕ) (type_number : Named → ℕ) (frame_number : ℕ → ℕ) (base : ℕ) where
       abbrev pub site : (pc at : ℕ) → Site
       site pc at = record {
         scene = scene;
-        parameters = parameters;
         entries = entries;
         answer = answer;
         told = told_at pc;
@@ -156,7 +148,7 @@ module _ (m : typed.Module) where
 
     abbrev pub all_named : (pc : ℕ) → List Instr → List Named
     all_named pc [] = []
-    all_named pc (i ∷ is) = named_by adts parameters answer (told_at pc) i ++ all_named (suc pc) is
+    all_named pc (i ∷ is) = named_by adts answer (told_at pc) i ++ all_named (suc pc) is
 
   -- ---- all functions
 

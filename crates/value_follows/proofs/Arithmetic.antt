@@ -98,7 +98,7 @@ module _ (m : typed.Module) (b : Base m) (o : Operator) (j : Kind) (form : form_
 
     -- what the other comes to, by what is calculated
     abbrev comes : Result ℤ Raised → code.Does
-    comes r = code.gives frames_limit (program m) w p into p.frame.slots
+    comes r = code.gives frames_limit (program m) w p into
         (unless_raised (gives_number m.adts (code.memory frames_limit (program m) w p) (with_text r)) (leaves m.adts (code.memory frames_limit (program m) w p) (of_kind j) (Arithmetic o j)))
 
     module _ (ya : NumberIs m k i x [] p.frame q.frame ready.stands.is j a) (yc : NumberIs m k i x [] p.frame q.frame ready.stands.is j c)

@@ -30,7 +30,7 @@ use Rattle.value_roots.specs.Accounts.{InnerOf, near, far, frame_words, all_word
 use Rattle.value_roots.proofs.Words.{has_counts, has_first, has_second}
 use Rattle.value_frames.specs.Frames.{Form, Nowhere, AsNumber, AsReference, Boxed, form_of, number_place, reference_place}
 use Rattle.value_frames.specs.Standing.{IsOwn, WordsAre}
-use Rattle.value_frames.specs.Standing.{SlotStands, a_value, a_decision, a_loop, ChainStands, no_chain, a_chain}
+use Rattle.value_frames.specs.Standing.{SlotStands, a_value, a_forming, a_decision, a_loop, ChainStands, no_chain, a_chain}
 use Rattle.value_frames.specs.Standing.{TailStands, no_more, one_more, RegionStands, no_slot, more_slots}
 use Rattle.value_frames.proofs.Beginning.{is_inside}
 use Rattle.value_follows.specs.Stands.{types_of, Answer, FrameIs, AnswerGoes, AllWait, none_waits, waits_below, Stands, Asking}
@@ -102,6 +102,10 @@ module _ (k : Facts) (i : ℕ) (x : Heap Block) where
     own_last words p size offsets q inner o same =
         subst (λ (n : ℕ). OwnWay words n) same (nearest words q (has_word words p _ o.word) o.free)
 
+    only_one : (q : ℕ) → Has (q ∷ []) b → q ≡ b
+    only_one q (inl e) = e
+    only_one q (inr i) = absurd i
+
     own_onward : (words : List Word) (p size : ℕ) (offsets : List ℕ) (q : ℕ) (inner : List Word)
         → IsOwn defs k x frame words p size offsets q inner → k.maker q ≡ Some i → OwnWay inner b → OwnWay words b
     own_onward words p size offsets q inner o made way = onward words b q (Record inner) (has_word words p _ o.word) o.free made o.there way
@@ -110,6 +114,8 @@ module _ (k : Facts) (i : ℕ) (x : Heap Block) where
       slot_way : (words : List Word) (n r : ℕ) (h : Held) (l : core.Slot) (own : List ℕ) → AreMade own → Has own b
           → SlotStands defs k x frame words n r h l own → OwnWay words b
       slot_way _ _ _ _ _ _ made i (a_value words n r t live v s m) = absurd i
+      slot_way _ _ _ _ _ _ made i (a_forming words inner n r q t variant ks us live vs o f) =
+          own_last words r _ _ q inner o (only_one q i)
       slot_way _ _ _ _ _ _ made i (a_decision words n r d e f) = absurd i
       slot_way _ _ _ _ _ _ made i (a_loop words n r next gs rs own e c) = chain_way words r gs rs own made i c
 

@@ -22,7 +22,7 @@ use Rattle.core_code.specs.Machine as code
 use Rattle.core_code.specs.Slots as core
 use Rattle.core_code.specs.Slots.{Holds}
 use Rattle.core_typing.specs.Held as held
-use Rattle.core_typing.specs.Held.{Held, Of, Decided, Turns}
+use Rattle.core_typing.specs.Held.{Held, Of, Forming, Decided, Turns}
 use Rattle.core_typing.specs.Needs.{IsClean}
 use Rattle.dis_meaning.specs.Words.{Word, Plain, Refer, Address, Access, Found, Wrong, ◌>>=◌, word_at, plain, or_wrong, type_check, number_in}
 use Rattle.dis_meaning.specs.Numbers.{number_at, bytes_of}
@@ -84,6 +84,7 @@ module _ (defs : List Def) (k : Facts) (x : World) (frame : ℕ) (words : List W
       let reads = slots_rest.reads defs k x.heap frame words n r t [] v.0 own holds in
       slots_rest.clean defs k x.heap frame words n r t v.0 own holds (λ e.
       let b = reads.boxed e in stands_laid defs k b.1 0 t v.0 e b.4)
+  rests (Forming t variant ks us live) l own clean stands = absurd clean
   rests (Decided b) l own clean stands = slots_rest.decided defs k x.heap frame words n r b l own stands
   rests (Turns held.NoRegion) l own clean stands = slots_rest.unturned defs k x.heap frame words n r l own stands
   rests (Turns (held.MoreRegions g gs)) l own clean stands = absurd clean

@@ -26,8 +26,9 @@ use Rattle.value_words.proofs.Blank.{mapped}
 use Rattle.value_words.proofs.Covered.{covered}
 use Rattle.value_frames.specs.Frames.{Form, Nowhere, AsNumber, AsReference, Boxed, form_of, room_for}
 use Rattle.value_frames.specs.Frames.{turn_bytes, turn_references, box_bytes}
-use Rattle.value_frames.specs.Standing.{IsBox, IsIdle, nothing_there, text_left, carrier_left, RefersIdly, ValueStands, IsOwn}
-use Rattle.value_frames.specs.Standing.{slots_in, last_of, SlotStands, a_value, a_decision, a_loop, ChainStands, no_chain, a_chain}
+use Rattle.value_frames.specs.Forming.{begun, formed}
+use Rattle.value_frames.specs.Standing.{IsBox, IsForming, IsIdle, nothing_there, text_left, carrier_left, RefersIdly, ValueStands, IsOwn}
+use Rattle.value_frames.specs.Standing.{slots_in, last_of, SlotStands, a_value, a_forming, a_decision, a_loop, ChainStands, no_chain, a_chain}
 use Rattle.value_frames.specs.Standing.{TailStands, no_more, one_more, RegionStands, no_slot, more_slots}
 use Rattle.value_roots.specs.Accounts.{Accounted, to_value, to_inner, AllAccounted, LeadTo, it, through}
 use Rattle.value_roots.proofs.Words.{either, has_counts}
@@ -159,6 +160,17 @@ module _ (defs : List Def) (k : Facts) (x : Heap Block) (whole : IsWhole k x) wh
         (to_inner c (Record inner) (is_inner (k.fact c) own.free) own.there (λ f. maker)
         (kind_accounted k i x names size offsets inner own.kind each))
 
+    -- the record of what is put together
+    forming_accounted : (frame : ℕ) (words inner : List Word) (p b c : ℕ) (t : Ty) (variant : Option ℕ) (ks : List ℕ) (us : List Ty)
+        (only : List ℕ) (vs : List Value) → AllThere words → Named (slot_names (core.Forms vs)) → k.maker c ≡ Some i
+        → IsOwn defs k x frame words p (box_bytes defs t) (room_for defs t).references c inner
+        → IsForming defs k t variant ks us only vs inner → word_at words (pos p) ≡ Found (Refer (Some b)) → Account b
+    forming_accounted frame words inner p b c t variant ks us only vs live named maker own f e =
+        own_accounted frame words p b c (box_bytes defs t) (room_for defs t).references inner own maker (λ o q h g.
+        let zero_off : 0 + o ≡ o = omega arith in
+        words_accounted inner 0 o q t (formed (begun defs t variant) ks vs) (λ n u. named n (f.names n u)) f.stands h
+        (ap (λ (j : ℕ). word_at inner (pos j)) zero_off ∙ g)) e
+
     module _ (frame : ℕ) where
       -- what a tail's word refers to, and the last of the records behind it
       record TailAccounted (words : List Word) (p : ℕ) (last : Option ℕ) : Type 0 where
@@ -190,6 +202,8 @@ module _ (defs : List Def) (k : Facts) (x : Heap Block) (whole : IsWhole k x) wh
             → (b : ℕ) → word_at words (pos r) ≡ Found (Refer (Some b)) → Account b
         slot_accounted _ _ _ _ _ _ live named made (a_value words n r t only v s m) b e =
             value_accounted words n r b (form_of t) t v refl live named s e
+        slot_accounted _ _ _ _ _ _ live named made (a_forming words inner n r c t variant ks us only vs o f) b e =
+            forming_accounted frame words inner r b c t variant ks us only vs live named (made c (inl refl)) o f e
         slot_accounted _ _ _ _ _ _ live named made (a_decision words n r d f idly) b e = idly_accounted words r b live idly e
         slot_accounted _ _ _ _ _ _ live named made (a_loop words n r next gs rs own f c) b e =
             chain_accounted words r gs rs own live named made c b e
@@ -271,6 +285,13 @@ module _ (defs : List Def) (k : Facts) (x : Heap Block) (whole : IsWhole k x) wh
         let q = value_referred defs k words r t v n s h in it words q.block q.has q.is
     value_leads words m r Boxed t v live s h = box_leads words r s.0 s.1 t v live s.2 s.3 s.4 h
 
+    -- the words of a record lead to all that is put together there
+    forming_leads : (inner : List Word) (t : Ty) (variant : Option ℕ) (ks : List ℕ) (us : List Ty) (only : List ℕ) (vs : List Value)
+        → IsForming defs k t variant ks us only vs inner → 0 < slot_names (core.Forms vs) n → Leads inner
+    forming_leads inner t variant ks us only vs f h =
+        let q = value_referred defs k inner 0 t (formed (begun defs t variant) ks vs) n f.stands (f.named n h) in
+        it inner q.block q.has q.is
+
     module _ (frame : ℕ) where
       own_leads : (words : List Word) (p c size : ℕ) (offsets : List ℕ) (inner : List Word)
           → IsOwn defs k x frame words p size offsets c inner → Leads inner → Leads words
@@ -281,6 +302,9 @@ module _ (defs : List Def) (k : Facts) (x : Heap Block) (whole : IsWhole k x) wh
         pub slot_leads : (words : List Word) (m r : ℕ) (h : Held) (l : core.Slot) (own : List ℕ) → AllThere words
             → SlotStands defs k x frame words m r h l own → 0 < slot_names l n → Leads words
         slot_leads _ _ _ _ _ _ live (a_value words m r t only v s names) h = value_leads words m r (form_of t) t v live s h
+        slot_leads _ _ _ _ _ _ live (a_forming words inner m r c t variant ks us only vs o f) h =
+            own_leads words r c _ _ inner o
+            (forming_leads inner t variant ks us only vs f h)
         slot_leads _ _ _ _ _ _ live (a_decision words m r d f idly) h = absurd (omega (arith, h))
         slot_leads _ _ _ _ _ _ live (a_loop words m r next gs rs own f c) h = chain_leads words r gs rs own live c h
 

@@ -17,7 +17,7 @@ use Rattle.core_code.specs.Code.{Instr}
 use Rattle.core_code.specs.Using.{Uses}
 use Rattle.core_code.proofs.Used.{slots_are_there}
 use Rattle.core_typing.specs.Held as held
-use Rattle.core_typing.specs.Held.{Held, Of, Decided, Turns, type_held}
+use Rattle.core_typing.specs.Held.{Held, Of, Forming, Decided, Turns, type_held}
 use Rattle.core_typing.specs.Needs.{IsA, StandsAs}
 use Rattle.limbo_meaning.specs.Program.{routine_of}
 use Rattle.dis_meaning.specs.Words.{Word, Access, Found, ◌>>=◌, number_in}
@@ -55,6 +55,7 @@ no_nil u kind.Big (inr n) = absurd n.1
 
 pub of_type : (h : Held) (u : Ty) → type_held h ≡ Some u → (live : List ℕ) × (h ≡ Of u live)
 of_type (Of t ns) u e = (ns, ap (λ v. Of v ns) (same_some t u e))
+of_type (Forming t v ks us ns) u e = absurd cc
 of_type (Decided b) u e = absurd cc
 of_type (Turns rs) u e = absurd cc
 

@@ -47,7 +47,7 @@ pub record Row : Type 0 where
 
 -- Behind its step one instruction of the machine is left: what was on its way there is let go.
 abbrev pub is_tidied : Instr → Bool
-is_tidied (core.Print ps into from) = true
+is_tidied (core.Print ps into o) = true
 is_tidied (core.Pick t k into from) = true
 is_tidied (core.Drop s k) = true
 is_tidied (core.Keep l from words) = true

@@ -1,5 +1,5 @@
--- A frame in words, worked out by hand, also with busy slots; chains of one record and of two; a big in its box; blocks that are idle, and
--- references and blocks that aren't.
+-- A frame in words, worked out by hand, also with busy slots; chains of one record and of two; a pair that is put together; a big in its
+-- box; blocks that are idle, and references and blocks that aren't.
 use Rattle.std.proofs.Common.{◌≡◌, ℕ, zero, suc, ◌+◌, ◌*◌, ◌/◌, ◌<◌, pos, List, [], ◌∷◌, length, Option, Some, None, refl, inl, inr}
 use Rattle.std.proofs.Common.{arith, sym, subst, ◌∙◌, ap, Bool, if◌then◌else◌}
 use Rattle.std.proofs.lemmas.Bool.Decides.{eqb_tells}
@@ -10,10 +10,10 @@ use Rattle.heap_model.specs.Facts.{Fact, Named, Chars, Carrier}
 use Rattle.limbo_types.specs.Types as ty
 use Rattle.limbo_types.specs.Types.{Ty}
 use Rattle.limbo_layout.specs.Adts.{Has}
-use Rattle.limbo_layout.specs.Layout.{nothing, number, is_alone, none_laid, more_laid}
+use Rattle.limbo_layout.specs.Layout.{nothing, number, reference, is_alone, none_laid, more_laid}
 use Rattle.limbo_values.specs.declared.number.Kind.TheVariants as kind
 use Rattle.limbo_values.specs.Numbers.{InRange}
-use Rattle.limbo_meaning.specs.Values.{Num, Ref}
+use Rattle.limbo_meaning.specs.Values.{Num, Ref, Parts, row}
 use Rattle.core_code.specs.Slots as core
 use Rattle.core_code.specs.Slots.{Holds}
 use Rattle.core_typing.specs.Held as held
@@ -24,12 +24,12 @@ use Rattle.dis_memory.specs.Blocks.{Block, Record}
 use Rattle.dis_memory.specs.Naming.{inside}
 use Rattle.value_words.specs.Contents.{AreInRange}
 use Rattle.value_words.specs.Forms.{Form, Cells, OwnedBy}
-use Rattle.value_words.specs.Facts.{Facts, Grows}
-use Rattle.value_words.specs.Stands.{a_number, a_name, none_stand, more_stand}
+use Rattle.value_words.specs.Facts.{Facts, IsName, Grows}
+use Rattle.value_words.specs.Stands.{Stands, a_number, a_name, a_tuple, none_stand, more_stand}
 use Rattle.value_heaps.specs.Blocks.{IsWithin}
 use Rattle.value_frames.specs.Frames.{frame_bytes, frame_references, number_place, reference_place, turn_bytes, turn_references}
 use Rattle.value_frames.specs.Types.{AreOf}
-use Rattle.value_frames.specs.Standing.{NamesOnly, IsBox, IsIdle, nothing_there, text_left, carrier_left, SlotStands, a_value, a_loop}
+use Rattle.value_frames.specs.Standing.{NamesOnly, IsBox, IsIdle, nothing_there, text_left, carrier_left, SlotStands, a_value, a_forming, a_loop}
 use Rattle.value_frames.specs.Standing.{a_chain, no_more, one_more, RegionStands, more_slots, no_slot, WordsAre}
 use Rattle.value_frames.proofs.Slots.{slots_change}
 
@@ -314,6 +314,66 @@ two_turns =
     (one_more (turn (Some 7) (Some 7)) (turn None None) 0 7 None held_turn held.NoRegion turn_slots core.NoRegion [] []
     (record { word = refl; there = refl; free = tt; formed = refl; kind = turn_kind None None }) refl (turn_stands None None)
     (no_more (turn None None) 0 refl)))
+
+-- ---- a pair of an int and a list is put together in frame 20's block 5: the int is there, and then the list
+
+abbrev pair : Ty
+pair = ty.Tuple (ty.MoreTys ty.Int (ty.MoreTys ints_list ty.NoTys))
+
+abbrev pair_words : (second : Option ℕ) → List Word
+pair_words r = Plain (pos 7) ∷ Refer r ∷ []
+
+abbrev pair_heap : (second : Option ℕ) → Heap Block
+pair_heap r = None ∷ None ∷ None ∷ None ∷ None ∷ Some (Record (pair_words r)) ∷ []
+
+pair_kind : (r : Option ℕ) → AreOf 8 (4 ∷ []) (pair_words r)
+pair_kind r =
+    kind_by (pair_words r) 8 (4 ∷ []) refl refl (in_range (pair_words r) (plain_word 7 _ (omega arith) (refer_word r _ no_words)))
+
+pair_stands : (r o : Option ℕ) → IsName known (Some (Cells ty.Int)) r o
+    → Stands [] known (pair_words r) 0 pair (Parts (row (Num (pos 7) ∷ Ref o ∷ [])))
+pair_stands r o i =
+    a_tuple 0 (ty.MoreTys ty.Int (ty.MoreTys ints_list ty.NoTys)) (number 4 ∷ reference ∷ []) (Num (pos 7) ∷ Ref o ∷ [])
+    (more_laid ty.Int _ (number 4) _ (is_alone ty.Int (number 4) refl)
+    (more_laid ints_list [] reference [] (is_alone ints_list reference refl) none_laid))
+    (more_stand 0 nothing ty.Int _ (number 4) _ (Num (pos 7)) _ (a_number 0 kind.Int (pos 7) refl (small 7 (pos 7) (omega arith) refl))
+    (more_stand 0 _ ints_list [] reference [] (Ref o) [] (a_name 4 ints_list r o tt refl i) (none_stand 0 _)))
+
+pair_begun : SlotStands [] known (pair_heap None) 20 (one_slot 0 5) 0 4 (held.Forming pair None (0 ∷ []) (ty.Int ∷ []) [])
+    (core.Forms (Num (pos 7) ∷ [])) (5 ∷ [])
+pair_begun =
+    a_forming (one_slot 0 5) (pair_words None) 0 4 5 pair None (0 ∷ []) (ty.Int ∷ []) [] (Num (pos 7) ∷ [])
+    (record { word = refl; there = refl; free = tt; formed = refl; kind = pair_kind None })
+    (record {
+      stands = pair_stands None None tt;
+      as_many = refl;
+      typed = refl;
+      named = λ n h. h;
+      names = λ n h. h;
+      only = no_second;
+    })
+  where
+    no_second : NamesOnly [] (Parts (row (Num (pos 7) ∷ Ref None ∷ [])))
+    no_second zero n e = absurd cc
+    no_second (suc k) n e = absurd cc
+
+pair_formed : SlotStands [] known (pair_heap (Some 3)) 20 (one_slot 0 5) 0 4
+    (held.Forming pair None (0 ∷ 1 ∷ []) (ty.Int ∷ ints_list ∷ []) (0 ∷ [])) (core.Forms (Num (pos 7) ∷ Ref (Some 9) ∷ [])) (5 ∷ [])
+pair_formed =
+    a_forming (one_slot 0 5) (pair_words (Some 3)) 0 4 5 pair None (0 ∷ 1 ∷ []) (ty.Int ∷ ints_list ∷ []) (0 ∷ [])
+    (Num (pos 7) ∷ Ref (Some 9) ∷ []) (record { word = refl; there = refl; free = tt; formed = refl; kind = pair_kind (Some 3) })
+    (record {
+      stands = pair_stands (Some 3) (Some 9) (record { fact = refl; formed = refl });
+      as_many = refl;
+      typed = refl;
+      named = λ n h. h;
+      names = λ n h. h;
+      only = the_second;
+    })
+  where
+    the_second : NamesOnly (0 ∷ []) (Parts (row (Num (pos 7) ∷ Ref (Some 9) ∷ [])))
+    the_second zero n e = inl refl
+    the_second (suc k) n e = absurd cc
 
 -- ---- a big stands in a box, to which the slot may refer idly later
 

@@ -22,8 +22,8 @@ use Rattle.value_words.specs.Forms.{OwnedBy}
 use Rattle.value_words.specs.Facts.{Facts, Grows}
 use Rattle.value_words.proofs.Later.{stands_later, all_later}
 use Rattle.value_frames.specs.Frames.{Form, Nowhere, AsNumber, AsReference, Boxed, form_of, linkage_bytes, number_place, reference_place}
-use Rattle.value_frames.specs.Standing.{IsBox, IsIdle, nothing_there, text_left, carrier_left, RefersIdly, ValueStands, IsOwn, WordsAre}
-use Rattle.value_frames.specs.Standing.{SlotStands, a_value, a_decision, a_loop, ChainStands, no_chain, a_chain}
+use Rattle.value_frames.specs.Standing.{IsBox, IsForming, IsIdle, nothing_there, text_left, carrier_left, RefersIdly, ValueStands, IsOwn, WordsAre}
+use Rattle.value_frames.specs.Standing.{SlotStands, a_value, a_forming, a_decision, a_loop, ChainStands, no_chain, a_chain}
 use Rattle.value_frames.specs.Standing.{TailStands, no_more, one_more, RegionStands, no_slot, more_slots}
 use Rattle.value_frames.specs.Slots.{IsKept}
 use Rattle.value_frames.specs.Later.{AreMadeBy, FrameLater, FramesLater}
@@ -50,6 +50,17 @@ module _ (defs : List Def) (k k' : Facts) (grows : Grows k k') where
   value_later words n r Boxed t v h =
       (h.0, h.1, h.2, box_later t h.0 h.1 h.3, stands_later defs k k' h.1 grows 0 t v h.4)
 
+  forming_later : (t : Ty) (variant : Option ℕ) (ks : List ℕ) (us : List Ty) (live : List ℕ) (vs : List Value) (inner : List Word)
+      → IsForming defs k t variant ks us live vs inner → IsForming defs k' t variant ks us live vs inner
+  forming_later t variant ks us live vs inner f = record {
+    stands = stands_later defs k k' inner grows 0 t _ f.stands;
+    as_many = f.as_many;
+    typed = f.typed;
+    named = f.named;
+    names = f.names;
+    only = f.only;
+  }
+
   module _ (x x' : Heap Block) (frame : ℕ) where
     abbrev AreKept : List ℕ → Type 0
     AreKept own = (b : ℕ) → Has own b → IsKept k' x x' b
@@ -69,6 +80,9 @@ module _ (defs : List Def) (k k' : Facts) (grows : Grows k k') where
           → SlotStands defs k x frame words n r h l own → SlotStands defs k' x' frame words n r h l own
       slot_later _ _ _ _ _ _ kept (a_value words n r t live v s m) =
           a_value words n r t live v (value_later words n r (form_of t) t v s) m
+      slot_later _ _ _ _ _ _ kept (a_forming words inner n r b t variant ks us live vs o f) =
+          a_forming words inner n r b t variant ks us live vs (own_later words r _ _ b inner (kept b (inl refl)) o)
+          (forming_later t variant ks us live vs inner f)
       slot_later _ _ _ _ _ _ kept (a_decision words n r b e i) = a_decision words n r b e (idly_later words r i)
       slot_later _ _ _ _ _ _ kept (a_loop words n r next gs rs own e c) =
           a_loop words n r next gs rs own e (chain_later words r gs rs own kept c)
@@ -145,6 +159,8 @@ module _ (defs : List Def) (k : Facts) (x : Heap Block) (frame b : ℕ) where
     slot_frames : (words : List Word) (n r : ℕ) (h : Held) (l : core.Slot) (own : List ℕ) → Has own b
         → SlotStands defs k x frame words n r h l own → IsFrames
     slot_frames _ _ _ _ _ _ i (a_value words n r t live v s m) = absurd i
+    slot_frames _ _ _ _ _ _ (inl i) (a_forming words inner n r q t variant ks us live vs o f) = own_frames words r _ _ q inner o i
+    slot_frames _ _ _ _ _ _ (inr i) (a_forming words inner n r q t variant ks us live vs o f) = absurd i
     slot_frames _ _ _ _ _ _ i (a_decision words n r d e f) = absurd i
     slot_frames _ _ _ _ _ _ i (a_loop words n r next gs rs own e c) = chain_frames words r gs rs own i c
 

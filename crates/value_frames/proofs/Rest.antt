@@ -12,9 +12,9 @@ use Rattle.limbo_meaning.specs.Values as value
 use Rattle.limbo_meaning.specs.Values.{Value, Num, references, array_named}
 use Rattle.limbo_meaning.specs.Origins.{Name}
 use Rattle.core_code.specs.Slots as core
-use Rattle.core_code.specs.Slots.{Slot, Holds}
+use Rattle.core_code.specs.Slots.{Slot, Holds, Forms}
 use Rattle.core_typing.specs.Held as held
-use Rattle.core_typing.specs.Held.{Held, Of, Decided, Turns}
+use Rattle.core_typing.specs.Held.{Held, Of, Forming, Decided, Turns}
 use Rattle.dis_meaning.specs.Words.{Word, Plain, Refer, Address, Found, word_at}
 use Rattle.dis_meaning.specs.Counts.{refers, in_words}
 use Rattle.dis_memory.specs.Blocks.{Block, Record}
@@ -23,9 +23,9 @@ use Rattle.value_words.specs.Facts.{Facts, IsName, IsPart, IsText}
 use Rattle.value_words.specs.Stands.{Stands, a_number, a_text, a_name, an_array, no_words, a_tuple, an_adt}
 use Rattle.value_words.proofs.Bytes.{word_there}
 use Rattle.value_words.proofs.Covered.{covered}
-use Rattle.value_frames.specs.Frames.{Form, Nowhere, AsNumber, AsReference, Boxed, form_of, room_for}
-use Rattle.value_frames.specs.Standing.{truth, NamesOnly, IsBox, IsIdle, nothing_there, text_left, carrier_left, RefersIdly, ValueStands}
-use Rattle.value_frames.specs.Standing.{SlotStands, a_value, a_decision, a_loop, ChainStands, no_chain, a_chain}
+use Rattle.value_frames.specs.Frames.{Form, Nowhere, AsNumber, AsReference, Boxed, form_of, room_for, box_bytes}
+use Rattle.value_frames.specs.Standing.{truth, NamesOnly, IsBox, IsForming, IsOwn, IsIdle, nothing_there, text_left, carrier_left, RefersIdly, ValueStands}
+use Rattle.value_frames.specs.Standing.{SlotStands, a_value, a_forming, a_decision, a_loop, ChainStands, no_chain, a_chain}
 use Rattle.value_frames.specs.Rest.{SlotReads, IsAtRest, SlotsRest}
 
 -- ---- where a name, and a reference, stands in a row
@@ -91,6 +91,7 @@ module _ (defs : List Def) (k : Facts) where
         subst (λ (z : Ty). IsHeld words n r z live (Holds v) []) p
         (subst (λ (z : List ℕ). IsHeld words n r u z (Holds v) []) q
         (record { val = v; is = refl; reads = reads_of words n r u ns v [] s m refl }))
+    value_held _ _ _ _ _ _ t live e (a_forming words inner n r b u variant ks us ns vs o f) = absurd cc
     value_held _ _ _ _ _ _ t live e (a_decision words n r b f i) = absurd cc
     value_held _ _ _ _ _ _ t live e (a_loop words n r next gs rs own f c) = absurd cc
 
@@ -102,6 +103,36 @@ module _ (defs : List Def) (k : Facts) where
         let e : h.val ≡ v = cc in
         subst (λ (u : Value). SlotReads defs k words n r t live u own) e h.reads
 
+    -- one in which something is put together
+    record IsFormed (words : List Word) (n r : ℕ) (t : Ty) (variant : Option ℕ) (ks : List ℕ) (us : List Ty) (live : List ℕ) (l : Slot)
+        (own : List ℕ) : Type 0 where
+      vs : List Value
+      is : l ≡ Forms vs
+      block : ℕ
+      inner : List Word
+      owned : own ≡ block ∷ []
+      record_is : IsOwn defs k x frame words r (box_bytes defs t) (room_for defs t).references block inner
+      forming : IsForming defs k t variant ks us live vs inner
+
+    forming_held : (words : List Word) (n r : ℕ) (h : Held) (l : Slot) (own : List ℕ) (t : Ty) (variant : Option ℕ) (ks : List ℕ)
+        (us : List Ty) (live : List ℕ) → h ≡ Forming t variant ks us live → SlotStands defs k x frame words n r h l own
+        → IsFormed words n r t variant ks us live l own
+    forming_held _ _ _ _ _ _ t variant ks us live e (a_value words n r u ns v s m) = absurd cc
+    forming_held _ _ _ _ _ _ t variant ks us live e (a_forming words inner n r b u w js ws ns vs o f) =
+        let p : u ≡ t = cc in
+        let q : w ≡ variant = cc in
+        let i : js ≡ ks = cc in
+        let j : ws ≡ us = cc in
+        let m : ns ≡ live = cc in
+        subst (λ (z : Ty). IsFormed words n r z variant ks us live (Forms vs) (b ∷ [])) p
+        (subst (λ (z : Option ℕ). IsFormed words n r u z ks us live (Forms vs) (b ∷ [])) q
+        (subst (λ (z : List ℕ). IsFormed words n r u w z us live (Forms vs) (b ∷ [])) i
+        (subst (λ (z : List Ty). IsFormed words n r u w js z live (Forms vs) (b ∷ [])) j
+        (subst (λ (z : List ℕ). IsFormed words n r u w js ws z (Forms vs) (b ∷ [])) m
+        (record { vs = vs; is = refl; block = b; inner = inner; owned = refl; record_is = o; forming = f })))))
+    forming_held _ _ _ _ _ _ t variant ks us live e (a_decision words n r b f i) = absurd cc
+    forming_held _ _ _ _ _ _ t variant ks us live e (a_loop words n r next gs rs own f c) = absurd cc
+
     -- one that tells a decision
     record IsDecided (words : List Word) (n r : ℕ) (b : Bool) (l : Slot) (own : List ℕ) : Type 0 where
       is : l ≡ Holds (Num (truth b))
@@ -111,6 +142,7 @@ module _ (defs : List Def) (k : Facts) where
     decision_held : (words : List Word) (n r : ℕ) (h : Held) (l : Slot) (own : List ℕ) (b : Bool) → h ≡ Decided b
         → SlotStands defs k x frame words n r h l own → IsDecided words n r b l own
     decision_held _ _ _ _ _ _ b e (a_value words n r u ns v s m) = absurd cc
+    decision_held _ _ _ _ _ _ b e (a_forming words inner n r q u variant ks us ns vs o f) = absurd cc
     decision_held _ _ _ _ _ _ b e (a_decision words n r c f i) =
         let p : c ≡ b = cc in
         subst (λ (z : Bool). IsDecided words n r z (Holds (Num (truth c))) []) p (record { is = refl; word = f; rest = (i, refl) })
@@ -127,6 +159,7 @@ module _ (defs : List Def) (k : Facts) where
     loop_held : (words : List Word) (n r : ℕ) (h : Held) (l : Slot) (own : List ℕ) (gs : held.Regions) → h ≡ Turns gs
         → SlotStands defs k x frame words n r h l own → IsTurning words n r gs l own
     loop_held _ _ _ _ _ _ gs e (a_value words n r u ns v s m) = absurd cc
+    loop_held _ _ _ _ _ _ gs e (a_forming words inner n r q u variant ks us ns vs o f) = absurd cc
     loop_held _ _ _ _ _ _ gs e (a_decision words n r c f i) = absurd cc
     loop_held _ _ _ _ _ _ gs e (a_loop words n r next hs rs own f c) =
         let p : hs ≡ gs = cc in
@@ -198,6 +231,9 @@ pub slots_rest : SlotsRest
 slots_rest = record {
   is_value = λ defs k x frame words n r t live l own s.
       let h = value_held defs k x frame words n r (Of t live) l own t live refl s in (h.val, h.is);
+  is_forming = λ defs k x frame words n r t variant ks us live l own s.
+      let h = forming_held defs k x frame words n r (Forming t variant ks us live) l own t variant ks us live refl s in
+      (h.vs, h.is, h.block, h.inner, h.owned, h.record_is, h.forming);
   is_decision = λ defs k x frame words n r b l own s.
       let h = decision_held defs k x frame words n r (Decided b) l own b refl s in (h.is, h.word);
   is_loop = λ defs k x frame words n r gs l own s.

@@ -31,7 +31,7 @@ use Rattle.value_heaps.specs.Blocks.{IsWithin}
 use Rattle.value_frames.specs.Frames.{linkage_bytes, row_of, slots_place, spare_place, number_place, reference_place, form_of, frame_bytes}
 use Rattle.value_frames.specs.Frames.{frame_references}
 use Rattle.value_frames.specs.Types.{AreOf}
-use Rattle.value_frames.specs.Standing.{Single, RefersIdly, ValueStands, IsOwn, SlotStands, a_value, a_decision, a_loop}
+use Rattle.value_frames.specs.Standing.{Single, RefersIdly, ValueStands, IsOwn, SlotStands, a_value, a_forming, a_decision, a_loop}
 use Rattle.value_frames.specs.Standing.{ChainStands, no_chain, a_chain, WordsAre}
 use Rattle.value_frames.specs.Slots.{ElseAsWas, IsKept, OneSlotChanged, StaysSo, SlotsChange}
 use Rattle.value_frames.proofs.Later.{slot_later}
@@ -192,6 +192,7 @@ module _ (defs : List Def) (k : Facts) where
     slot_even : (words : List Word) (n r : ℕ) (h : held.Held) (l : core.Slot) (own : List ℕ)
         → SlotStands defs k x frame words n r h l own → r % 4 ≡ 0
     slot_even _ _ _ _ _ _ (a_value words n r t live v e m) = value_even words n r t v e
+    slot_even _ _ _ _ _ _ (a_forming words inner n r b t variant ks us live vs o f) = (word_found words r (Refer (Some b)) o.word).0
     slot_even _ _ _ _ _ _ (a_decision words n r d e f) = idly_even words r f
     slot_even _ _ _ _ _ _ (a_loop words n r m gs rs own e c) = chain_even words r gs rs own c
 
@@ -200,6 +201,8 @@ module _ (defs : List Def) (k : Facts) where
         → SlotStands defs k x frame others n r h l own
     slot_stays _ others _ _ _ _ _ a b s i (a_value words n r t live v e m) =
         a_value others n r t live v (value_stays words n r others a b s i t v e) m
+    slot_stays _ others _ _ _ _ _ a b s i (a_forming words inner n r q t variant ks us live vs o f) =
+        a_forming others inner n r q t variant ks us live vs (own_stays words others r _ _ q inner i o) f
     slot_stays _ others _ _ _ _ _ a b s i (a_decision words n r d e f) =
         a_decision others n r d (word_stays words others n _ s e) (idly_stays words others r i f)
     slot_stays _ others _ _ _ _ _ a b s i (a_loop words n r m gs rs own e c) =

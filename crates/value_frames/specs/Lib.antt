@@ -1,5 +1,6 @@
 pub mod Frames
 pub mod Types
+pub mod Forming
 pub mod Standing
 pub mod Beginning
 pub mod Slots

@@ -7,12 +7,12 @@ use Rattle.limbo_types.specs.Types.{Ty}
 use Rattle.limbo_layout.specs.Adts.{Def, Has}
 use Rattle.limbo_layout.specs.Layout.{nothing, AllLaid}
 use Rattle.limbo_layout.specs.Laying.{rooms_of}
-use Rattle.limbo_meaning.specs.Values.{Value, Num, references, nothing as no_value}
+use Rattle.limbo_meaning.specs.Values.{Value, Num, references, references_in, among, nothing as no_value}
 use Rattle.core_code.specs.Rooms.{rooms_in}
 use Rattle.core_code.specs.Slots as core
-use Rattle.core_code.specs.Slots.{Slot, Holds, Region, NoSlot, MoreSlots, Regions, NoRegion, MoreRegions}
+use Rattle.core_code.specs.Slots.{Slot, Holds, Forms, Region, NoSlot, MoreSlots, Regions, NoRegion, MoreRegions}
 use Rattle.core_typing.specs.Held as held
-use Rattle.core_typing.specs.Held.{Held, Of, Decided, Turns}
+use Rattle.core_typing.specs.Held.{Held, Of, Forming, Decided, Turns}
 use Rattle.dis_meaning.specs.Words.{Word, Plain, Refer, Found, word_at}
 use Rattle.dis_memory.specs.Blocks.{Block, Record}
 use Rattle.dis_memory.specs.Naming.{inside}
@@ -22,6 +22,7 @@ use Rattle.value_words.specs.Stands.{Stands, AllStand}
 use Rattle.value_frames.specs.Frames.{Form, Nowhere, AsNumber, AsReference, Boxed, form_of, linkage_bytes, number_place, reference_place}
 use Rattle.value_frames.specs.Frames.{room_for, box_bytes, turn_bytes, turn_references, frame_bytes, frame_references}
 use Rattle.value_frames.specs.Types.{AreOf}
+use Rattle.value_frames.specs.Forming.{begun, formed}
 
 -- No block is there twice.
 abbrev pub Single : List ℕ → Type 0
@@ -73,6 +74,17 @@ module _ (defs : List Def) (k : Facts) where
       (block : ℕ) × (inner : List Word) × (word_at words (pos r) ≡ Found (Refer (Some block))) × IsBox t block inner
       × Stands defs k inner 0 t v
 
+  -- What is put together in a record's words: operands at these parts, of types one for each. What the operands name the whole names, and
+  -- nothing else.
+  pub record IsForming (t : Ty) (variant : Option ℕ) (ks : List ℕ) (us : List Ty) (live : List ℕ) (vs : List Value) (inner : List Word)
+      : Type 0 where
+    pub stands : Stands defs k inner 0 t (formed (begun defs t variant) ks vs)
+    pub as_many : length ks ≡ length vs
+    pub typed : length us ≡ length vs
+    pub named : (n : ℕ) → 0 < among n (references_in vs) → 0 < among n (references (formed (begun defs t variant) ks vs))
+    pub names : (n : ℕ) → 0 < among n (references (formed (begun defs t variant) ks vs)) → 0 < among n (references_in vs)
+    pub only : NamesOnly live (formed (begun defs t variant) ks vs)
+
   module _ (x : Heap Block) (frame : ℕ) where
     -- A word refers to a block that is the frame's own, which stands for nothing: a record of so many bytes, with these words.
     pub record IsOwn (words : List Word) (place size : ℕ) (offsets : List ℕ) (block : ℕ) (inner : List Word) : Type 0 where
@@ -87,6 +99,9 @@ module _ (defs : List Def) (k : Facts) where
       pub data SlotStands : (words : List Word) → (number reference : ℕ) → Held → Slot → (own : List ℕ) → Type 0 where
         a_value : (words : List Word) (n r : ℕ) (t : Ty) (live : List ℕ) (v : Value) → ValueStands words n r (form_of t) t v
             → NamesOnly live v → SlotStands words n r (Of t live) (Holds v) []
+        a_forming : (words inner : List Word) (n r b : ℕ) (t : Ty) (variant : Option ℕ) (ks : List ℕ) (us : List Ty) (live : List ℕ)
+            (vs : List Value) → IsOwn words r (box_bytes defs t) (room_for defs t).references b inner
+            → IsForming t variant ks us live vs inner → SlotStands words n r (Forming t variant ks us live) (Forms vs) (b ∷ [])
         a_decision : (words : List Word) (n r : ℕ) (b : Bool) → word_at words (pos n) ≡ Found (Plain (truth b)) → RefersIdly words r
             → SlotStands words n r (Decided b) (Holds (Num (truth b))) []
         a_loop : (words : List Word) (n r next : ℕ) (gs : held.Regions) (rs : Regions) (own : List ℕ)

@@ -4,6 +4,7 @@ use Rattle.std.proofs.Common.{Some, None, refl, sym, ap, subst, inl, inr, if◌t
 use Rattle.std.specs.Prelude.{slice_get}
 use Rattle.limbo_types.specs.Types as ty
 use Rattle.limbo_types.specs.Types.{Ty}
+use Rattle.limbo_types.specs.View.{tys_of}
 use Rattle.limbo_layout.specs.Adts.{Def}
 use Rattle.limbo_layout.specs.Layout.{is_alone, number}
 use Rattle.limbo_values.specs.declared.number.Kind.TheVariants as kind
@@ -30,7 +31,7 @@ use Rattle.limbo_kept.specs.Processes.{TermIfAny, TestIs, StmIs, BlockIs, scope_
 use Rattle.limbo_kept.specs.Modules.{outline_of, signature_of}
 use Rattle.limbo_kept.proofs.Fitted.{room_of_part}
 use Rattle.limbo_kept.proofs.Opening.{modules_keep_types}
-use Rattle.core_code.specs.Code.{Instr, Give, Gather, Pick, Known, Write, CopyInto, Call, Print, Skip, Truth, Element}
+use Rattle.core_code.specs.Code.{Instr, Give, Place, Gather, Pick, Known, Write, CopyInto, Call, Print, Skip, Truth, Element}
 use Rattle.core_code.specs.Code.{Next, Other, Keep, Drop, Mirror, Unless, Jump, Back, Return, Function}
 use Rattle.core_code.specs.Terms as terms
 use Rattle.core_code.specs.Terms.{Lowered, LoweredAll, Moved, is_moved, drop_after, drops_after, drops_after_all, drops_from, drops_if}
@@ -66,7 +67,7 @@ module _ (defs : List Def) where
   LowersWell l = AllGood l.code × AllGood l.drops
 
   abbrev AllLowerWell : LoweredAll → Type 0
-  AllLowerWell l = AllGood l.code × AllGood l.drops
+  AllLowerWell l = AllGood l.code × AllGood l.drops × Each AllGood l.each
 
   -- ---- drops
 
@@ -128,43 +129,65 @@ module _ (defs : List Def) where
         (if_good (work_refers defs t o) (drops_from l.free 0 (terms.count_of defs t)) (from_good l.free 0 (terms.count_of defs t))),
   )
 
+  placed_good : (t : Ty) (v : Option ℕ) (into n : ℕ) (ks : List ℕ) (cs : List (List Instr)) (ss : List ℕ) → Each AllGood cs
+      → AllGood (terms.placed defs t v into n ks cs ss)
+  placed_good t v into n (k ∷ ks) (c ∷ cs) (s ∷ ss) h =
+      both c (Place t v n k into s ∷ terms.placed defs t v into (suc n) ks cs ss) h.0 (tt, placed_good t v into (suc n) ks cs ss h.1)
+  placed_good t v into n [] cs ss h = tt
+  placed_good t v into n (k ∷ ks) [] ss h = tt
+  placed_good t v into n (k ∷ ks) (c ∷ cs) [] h = tt
+
+  together_good : (front us : List Ty) (l : LoweredAll) → AllLowerWell l
+      → AllGood (terms.together defs front us l) × AllGood (terms.together_drops defs front us l)
+  together_good front us l h = (
+    placed_good (ty.Tuple (tys_of (front ++ us))) None l.free 0 (terms.numbers_from defs (length front) (length l.values)) l.each l.values h.2,
+    all_after (terms.moves_into defs (front ++ us) l.free (terms.numbers_from defs (length front) (length l.values)) l.values) l.drops h.1,
+  )
+
   operated_good : (b : Bool) (t : Ty) (o : Operation) (l : LoweredAll) → AllLowerWell l
       → LowersWell (if b then terms.gathers defs t o l else terms.gives defs t (Operate o) l)
   operated_good true t o l h = (
-    both l.code (Gather t (Operate o) l.free l.values ∷ []) h.0 (tt, tt),
+    both (terms.placed defs t (terms.variant_of defs o) l.free 0 (terms.part_numbers defs o (length l.values)) l.each l.values)
+        (Gather t (Operate o) l.free (length l.values) ∷ [])
+        (placed_good t (terms.variant_of defs o) l.free 0 (terms.part_numbers defs o (length l.values)) l.each l.values h.2) (tt, tt),
     all_after (terms.moves_into defs (terms.part_types defs t) l.free (terms.part_numbers defs o (length l.values)) l.values) l.drops h.1,
   )
   operated_good false t o l h = gives_good t (Operate o) l tt h
 
-  node_good : (u t : Ty) (o : Work) (l : LoweredAll) → WorkGood t o → AllLowerWell l → LowersWell (node defs u t o l)
-  node_good u t (Operate o) l g h = operated_good (passes_on o) t o l h
-  node_good u t (tree.Assign aims) l g h = (
+  node_good : (us : List Ty) (t : Ty) (o : Work) (l : LoweredAll) → WorkGood t o → AllLowerWell l → LowersWell (node defs us t o l)
+  node_good us t (Operate o) l g h = operated_good (passes_on o) t o l h
+  node_good us t (tree.Assign aims) l g h = (
     both l.code (writes defs aims l.values (slot_at (operands_for aims) l.values)) h.0
         (writes_good aims l.values (slot_at (operands_for aims) l.values) g),
     h.1,
   )
-  node_good u t (tree.TakePart n) l g h = (
+  node_good us t (tree.TakePart n) l g h = (
     both l.code (Pick t n l.free (slot_at 0 l.values) ∷ []) h.0 (g, tt),
-    after_good (terms.moves_out defs u n (slot_at 0 l.values) l.free) l.drops h.1,
+    after_good (terms.moves_out defs (terms.first_of defs us) n (slot_at 0 l.values) l.free) l.drops h.1,
   )
-  node_good u t tree.Copy l g h =
+  node_good us t tree.Copy l g h =
       (both l.code (CopyInto (slot_at 0 l.values) (slot_at 1 l.values) (slot_at 2 l.values) ∷ []) h.0 (tt, tt), h.1)
-  node_good u t tree.Link l g h = (
+  node_good us t tree.Link l g h = (
     both l.code (list_code defs (Rattle.limbo_meaning.specs.Operations.item_of t) l.values l.free) h.0
         (list_good (Rattle.limbo_meaning.specs.Operations.item_of t) l.values l.free),
     both l.drops (cell_drops defs (length l.values) l.free) h.1 (cell_good (length l.values) l.free),
   )
-  node_good u t (tree.Call f) l g h = (
-    both l.code (Call t f l.free l.values ∷ []) h.0 (tt, tt),
-    both l.drops (drops_from l.free 0 (terms.count_of defs t)) h.1 (from_good l.free 0 (terms.count_of defs t)),
+  node_good us t (tree.Call f) l g h = (
+    both (terms.together defs [] us l) (Call t f (terms.value_slot defs l) (terms.operands_slot defs l) ∷ []) (together_good [] us l h).0 (tt, tt),
+    both (terms.together_drops defs [] us l) (drops_from (terms.value_slot defs l) 0 (terms.count_of defs t)) (together_good [] us l h).1
+        (from_good (terms.value_slot defs l) 0 (terms.count_of defs t)),
   )
-  node_good u t (tree.Print ps) l g h = (both l.code (Print ps l.free l.values ∷ []) h.0 (tt, tt), h.1)
-  node_good u t tree.NewChannel l g h =
+  node_good us t (tree.Print ps) l g h = (
+    both (terms.together defs (ty.Chars ∷ []) us l) (Print ps (terms.value_slot defs l) (terms.operands_slot defs l) ∷ []) (together_good (ty.Chars ∷ []) us l h).0
+        (tt, tt),
+    (together_good (ty.Chars ∷ []) us l h).1,
+  )
+  node_good us t tree.NewChannel l g h =
       (both l.code (Give t tree.NewChannel l.free [] ∷ []) h.0 (tt, tt), both l.drops (Drop l.free 0 ∷ []) h.1 (tt, tt))
-  node_good u t (tree.Literal c) l g h = gives_good t (tree.Literal c) l g h
-  node_good u t tree.Nil l g h = gives_good t tree.Nil l tt h
-  node_good u t (tree.Read w) l g h = gives_good t (tree.Read w) l tt h
-  node_good u t (tree.Sprint ps) l g h = gives_good t (tree.Sprint ps) l tt h
+  node_good us t (tree.Literal c) l g h = gives_good t (tree.Literal c) l g h
+  node_good us t tree.Nil l g h = gives_good t tree.Nil l tt h
+  node_good us t (tree.Read w) l g h = gives_good t (tree.Read w) l tt h
+  node_good us t (tree.Sprint ps) l g h = gives_good t (tree.Sprint ps) l tt h
 
 -- ---- typed trees
 
@@ -231,7 +254,7 @@ module _ (s : Scope) where
     lower_good : (lo : ℕ) (t : Term) (u : Ty) → TermIs s [] None t u → LowersWell s.adts (lower s.adts lo t)
     lower_good lo (Evaluated v) u is = ((tt, tt), tt)
     lower_good lo (Node t o ts) u is =
-        node_good s.adts (terms.type_at s.adts 0 ts) t o (lower_all s.adts lo ts) (elim is.2 [
+        node_good s.adts (terms.types_in s.adts ts) t o (lower_all s.adts lo ts) (elim is.2 [
           | inl w ↦ work_good t o is.0 u w
           | inr w ↦ declares_good t o ts u w
         ]) (all_good lo ts is.0 is.1)
@@ -279,14 +302,14 @@ module _ (s : Scope) where
     lower_good lo _ u is = (tt, tt)
 
     all_good : (lo : ℕ) (ts : Terms) (us : List Ty) → TermsAre s [] None ts us → AllLowerWell s.adts (lower_all s.adts lo ts)
-    all_good lo NoTerms us is = (tt, tt)
+    all_good lo NoTerms us is = (tt, tt, tt)
     all_good lo (MoreTerms t ts) [] is = absurd is
     all_good lo (MoreTerms t ts) (u ∷ us) is =
         let a = lower s.adts lo t in
         let b = lower_all s.adts a.free ts in
         let x = lower_good lo t u is.0 in
         let y = all_good a.free ts us is.1 in
-        (both s.adts a.code b.code x.0 y.0, both s.adts a.drops b.drops x.1 y.1)
+        (both s.adts a.code b.code x.0 y.0, both s.adts a.drops b.drops x.1 y.1, (x.0, y.2))
 
     items_good : (t : Ty) (a shared lo : ℕ) (is : Items) → ItemsAre s [] None is t
         → LowersWell s.adts (lower_items s.adts t a shared lo is)

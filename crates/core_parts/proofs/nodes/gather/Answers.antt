@@ -1,9 +1,14 @@
-use Rattle.std.proofs.Common.{◌∙◌}
-use Rattle.core_parts.specs.Lowered.{code_of}
-use Rattle.core_parts.proofs.Noded.{moves_on}
+use Rattle.std.proofs.Common.{arith}
+use Rattle.core_parts.specs.Lowered.{view_lowered_all}
+use Rattle.core_parts.specs.Nodes.{view_whole}
+use Rattle.core_parts.proofs.Noded.{gather_is}
 use Rattle.core_parts.proofs.nodes.gather.Goals as goal
 
-pub loop-moved-preserved : goal.loop-moved-preserved
-loop-moved-preserved c =
-    moves_on c.args.moves.now c.loop-moved.moved-index _ (code_of c.loop-moved.drops.items) (code_of c.move_drops.new.drops.items)
-    c.loop-moved-test.true c.move_drops.ensures ∙ c.loop-moved.invariant
+pub returns : goal.returns
+returns c = λ defs.
+    let l = view_lowered_all c.args.all in
+    let w = view_whole c.args.whole in
+    let code = rw c.deref.ensures.value at ((c.in_ok-code.ensures {u = tt}) defs) in
+    let drops = rw c.deref-2.ensures.value at c.move_all.ensures in
+    gather_is defs c.args.operation w l _ _ _ _ (omega (arith, c.args.all.values.ok.0, c.len.ensures)) code
+    (c.in_ok-put.ensures {u = tt}) drops

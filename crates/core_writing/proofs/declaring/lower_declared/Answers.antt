@@ -1,4 +1,4 @@
-use Rattle.std.proofs.Common.{ap, ◌∙◌, map}
+use Rattle.std.proofs.Common.{ap, ◌∙◌, [], map}
 use Rattle.limbo_types.specs.Types.{Int}
 use Rattle.limbo_layout.specs.View.{view_defs}
 use Rattle.limbo_typed.specs.View.{view_boxed, view_var}
@@ -16,6 +16,6 @@ returns c =
     let types = types_in (map view_var c.args.variables.now) in
     let aims = map (local types) c.args.numbers.now in
     let all = c.in_ok-add.ensures {u = tt} ∙ ap (λ (x : LoweredAll). added x a) c.new-all.ensures in
-    let made = rw (c.in_ok-aims.ensures {u = tt}) at (c.in_ok-l.ensures {u = tt} defs Int Int) in
+    let made = rw (c.in_ok-aims.ensures {u = tt}) at (c.in_ok-l.ensures {u = tt} defs [] Int) in
     declared_is defs aims (declared_value types (view_boxed c.args.value.now)) a _ (view_lowered_all c.add.new.self)
     (c.in_ok-operand.ensures {u = tt} types) all made

@@ -1,4 +1,4 @@
-use Rattle.std.proofs.Common.{arith, ◌∷◌, ◌++◌, [], sym, ap, ◌∙◌, max, append_assoc, map, Some}
+use Rattle.std.proofs.Common.{arith, ◌∷◌, ◌++◌, [], sym, ap, ◌∙◌, max, append_assoc, Some}
 use Rattle.limbo_typed.specs.View.{view_expr, view_boxed}
 use Rattle.limbo_typed.proofs.View.{view_boxed-None, view_boxed-Some}
 use Rattle.limbo_meaning.specs.Program.{term_of, return_of}

@@ -2,7 +2,7 @@ use Rattle.std.proofs.Common.{◌≡◌, map, drop}
 use Rattle.core_code.specs.Terms.{drops_after_all}
 use Rattle.core_parts.specs.Lowered.{code_of}
 use Rattle.core_parts.specs.Nodes.{view_moved}
-use Rattle.core_parts.proofs.nodes.gather.Given as goal
+use Rattle.core_parts.proofs.drops.move_all.Given as goal
 
 abbrev pub invariant-loop-moved : goal.invariant-loop-moved
 invariant-loop-moved l =
