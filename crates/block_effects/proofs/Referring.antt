@@ -1,5 +1,5 @@
 -- To which blocks references lead.
-use Rattle.std.proofs.Common.{◌≡◌, ℕ, zero, suc, ◌<◌, ◌≤◌, true, List, [], ◌∷◌, length, Option, None, Some, refl, sym, ap, ◌∙◌, subst, arith, inl, inr}
+use Rattle.std.proofs.Common.{◌≡◌, ℕ, zero, suc, pos, ◌+◌, ◌<◌, ◌≤◌, true, List, [], ◌∷◌, length, Option, None, Some, refl, sym, ap, ◌∙◌, subst, arith, inl, inr}
 use Rattle.std.specs.Prelude.{slice_get}
 use Rattle.heap_model.specs.Heap.{Heap, at, there, in_one}
 use Rattle.heap_model.specs.Facts.{Named, Is}
@@ -9,6 +9,8 @@ use Rattle.heap_model.proofs.Heap.{within}
 use Rattle.limbo_types.specs.Types.{Ty}
 use Rattle.limbo_layout.specs.Adts.{Def}
 use Rattle.limbo_layout.specs.Layout.{Laid}
+use Rattle.limbo_values.specs.declared.number.Kind.TheVariants.{Int}
+use Rattle.limbo_values.specs.Numbers.{InRange}
 use Rattle.limbo_meaning.specs.Values as value
 use Rattle.limbo_meaning.specs.Memory as source
 use Rattle.limbo_meaning.specs.Memory.{HeapValue}
@@ -41,7 +43,7 @@ module _ (defs : List Def) (c : Contents HeapValue Block Form) (such : AreBlocks
   text None s e h = ap Found (sym e)
   text (Some b) s e h =
       let f = some_block (at x.heap b) (h b refl) in
-      let is : f.0 ≡ block.Text s = alike.texts b s f.0 e f.1 ∙ such.text s in
+      let is : f.0 ≡ block.Text s = alike.texts b s f.0 e.0 f.1 ∙ such.text s in
       ap (λ (o : Option Block). or_wrong dead_address o >>= text_in) (f.1 ∙ ap Some is)
 
   -- the block that stands for a value, which is there, stands for it now
@@ -103,13 +105,15 @@ module _ (defs : List Def) (c : Contents HeapValue Block Form) (such : AreBlocks
               element = refl;
               start = sym g;
               long = sym h;
+              within = let z = a.many in omega (arith, g, h, z);
+              counted = subst (λ (m : ℕ). InRange Int (pos m)) (sym a.many) a.counted;
             };
           }
 
   -- Part of it.
   part_leads : (t : Ty) (b q : ℕ) (p : value.Part) (long : ℕ) → at x.heap b ≡ Some (block.Part q p.start p.long) → Whole t q p.array long
-      → (e : Elements) × (elements_at x (Some b) ≡ Found (Some e)) × LeadsTo defs c k w x t p e
-  part_leads t b q p long f a =
+      → p.start + p.long ≤ long → (e : Elements) × (elements_at x (Some b) ≡ Found (Some e)) × LeadsTo defs c k w x t p e
+  part_leads t b q p long f a within =
       let l = a.leads (record { array = p.array; start = a.all.start; long = a.all.long }) refl refl refl in (
         some_of p.start p.long a.all,
         ap (λ (o : Option Block). or_wrong dead_address o >>= elements_in x b >>= λ e. Found (Some e)) f
@@ -126,6 +130,8 @@ module _ (defs : List Def) (c : Contents HeapValue Block Form) (such : AreBlocks
           element = l.element;
           start = let z = a.start in omega (arith, z);
           long = refl;
+          within = let all = l.within in let z = a.start in let n = a.count in omega (arith, within, all, z, n);
+          counted = l.counted;
         },
       )
 
@@ -140,10 +146,10 @@ module _ (defs : List Def) (c : Contents HeapValue Block Form) (such : AreBlocks
       let names : 0 < c.words f.0 q.0 = subst (λ (d : Block). 0 < c.words d q.0) (sym q.1) (c.part_names p.start p.long q.0) in
       let uses = subst (λ (o : Option Block). 0 < in_one c.words o q.0) (sym f.1) names in
       let live = alike.closed.closed b q.0 (h b refl) uses in
-      let same = k.once p.array i.1.0 q.0 i.1.1.1.fact q.2 in
-      let formed = subst (λ (m : ℕ). IsFormed k (form.Elements t i.1.1.0) m p.array) same i.1.1.1 in
+      let same = k.once p.array i.1.0 q.0 i.1.1.1.0.fact q.2 in
+      let formed = subst (λ (m : ℕ). IsFormed k (form.Elements t i.1.1.0) m p.array) same i.1.1.1.0 in
       part_leads t b q.0 p i.1.1.0 (f.1 ∙ ap Some (q.1 ∙ such.part p.start p.long q.0))
-      (whole t q.0 p.array i.1.1.0 formed (is_there q.0 live))
+      (whole t q.0 p.array i.1.1.0 formed (is_there q.0 live)) i.1.1.1.1
     where
       is_there : (b : ℕ) → there (at x.heap b) ≡ true → IsThere x (Some b)
       is_there b live d e = let f : b ≡ d = cc in subst (λ (m : ℕ). there (at x.heap m) ≡ true) f live
@@ -176,6 +182,7 @@ module _ (defs : List Def) (c : Contents HeapValue Block Form) (such : AreBlocks
         rest_there = λ q e.
             let uses = subst (λ (o : Option Block). 0 < in_one c.words o q) (sym s.found) (a.holds q e) in
             alike.closed.closed b q (h b refl) uses;
+        older = a.older;
         first = ap (λ (o : Option Block). or_wrong dead_address o >>= cell_in >>= λ c. Found (Some c)) (s.found ∙ ap Some a.found);
       }
 
@@ -266,7 +273,7 @@ references_lead defs c such k w x alike = record {
 module _ (defs : List Def) (globals : List Ty) (constants : List Constant) (law : ContentsAre) (k : Facts) (n : ℕ) where
   block_elements : (t : Ty) (long : ℕ) (v : HeapValue) (b : Block) → k.form n ≡ Some (form.Elements t long) → IsBlock defs globals constants k n v b
       → AreElements defs (contents_by law defs globals constants) t long v b
-  block_elements t long _ _ f (blocks.elements u r words vs g l whole each refer) =
+  block_elements t long _ _ f (blocks.elements u r words vs g l few whole each refer) =
       let same : Some (form.Elements u (length vs)) ≡ Some (form.Elements t long) = sym g ∙ f in
       let type_is : u ≡ t = cc in
       let many : length vs ≡ long = cc in
@@ -274,20 +281,21 @@ module _ (defs : List Def) (globals : List Ty) (constants : List Constant) (law 
         vs = vs;
         is = refl;
         many = many;
+        counted = subst (λ (m : ℕ). InRange Int (pos m)) many few;
         room = r;
         laid = subst (λ (u : Ty). Laid defs u r) type_is l;
         words = words;
         found = ap (λ (m : ℕ). block.Array (desc_of r) m words) many;
       }
-  block_elements t long _ _ f (blocks.cell u r words v tail rest g l whole each refer named behind) = absurd cc
+  block_elements t long _ _ f (blocks.cell u r words v tail rest g l whole each refer named behind older) = absurd cc
   block_elements t long _ _ f (blocks.record_of m r words v g l whole each refer named) = absurd cc
   block_elements t long _ _ f (blocks.channel u desc g) = absurd cc
   block_elements t long _ _ f (blocks.instance_of object rs words vs g l whole all refer named fixed) = absurd cc
 
   block_cell : (t : Ty) (v : HeapValue) (b : Block) → k.form n ≡ Some (Cells t) → IsBlock defs globals constants k n v b
-      → IsCell defs (contents_by law defs globals constants) k t v b
-  block_cell t _ _ f (blocks.elements u r words vs g l whole each refer) = absurd cc
-  block_cell t _ _ f (blocks.cell u r words v tail rest g l whole each refer named behind) =
+      → IsCell defs (contents_by law defs globals constants) k n t v b
+  block_cell t _ _ f (blocks.elements u r words vs g l few whole each refer) = absurd cc
+  block_cell t _ _ f (blocks.cell u r words v tail rest g l whole each refer named behind older) =
       let same : Some (Cells u) ≡ Some (Cells t) = sym g ∙ f in
       let type_is : u ≡ t = cc in
       record {
@@ -301,6 +309,7 @@ module _ (defs : List Def) (globals : List Ty) (constants : List Constant) (law 
         holds = λ q e.
             let first : slice_get (Refer rest ∷ words) 0 ≡ Some (Refer (Some q)) = ap (λ (o : Option ℕ). Some (Refer o)) e in
             named_by (Refer rest ∷ words) 0 q first;
+        older = older;
       }
   block_cell t _ _ f (blocks.record_of m r words v g l whole each refer named) = absurd cc
   block_cell t _ _ f (blocks.channel u desc g) = absurd cc

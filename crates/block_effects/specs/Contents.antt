@@ -1,5 +1,5 @@
 -- To which blocks references lead, by what is known of blocks.
-use Rattle.std.specs.Prelude.{ℕ, suc, ◌≡◌, ◌<◌, true, List, length, Option, Some, None}
+use Rattle.std.specs.Prelude.{ℕ, suc, pos, ◌+◌, ◌≡◌, ◌<◌, ◌≤◌, true, List, length, Option, Some, None}
 use Rattle.heap_model.specs.Heap.{Heap, at, there}
 use Rattle.heap_model.specs.Facts.{Is}
 use Rattle.heap_model.specs.Contents.{Contents}
@@ -7,6 +7,8 @@ use Rattle.heap_model.specs.Worlds.{WorldsAlike}
 use Rattle.limbo_types.specs.Types.{Ty}
 use Rattle.limbo_layout.specs.Adts.{Def}
 use Rattle.limbo_layout.specs.Layout.{Room, Laid}
+use Rattle.limbo_values.specs.declared.number.Kind.TheVariants.{Int}
+use Rattle.limbo_values.specs.Numbers.{InRange}
 use Rattle.limbo_meaning.specs.Values as value
 use Rattle.limbo_meaning.specs.Values.{Value}
 use Rattle.limbo_meaning.specs.Memory as source
@@ -43,12 +45,13 @@ module _ (defs : List Def) (c : Contents HeapValue Block Form) where
     pub vs : List Value
     pub is : v ≡ source.Elements vs
     pub many : length vs ≡ long
+    pub counted : InRange Int (pos long)
     pub room : Room
     pub laid : Laid defs t room
     pub words : List Word
     pub found : b ≡ block.Array (desc_of room) long words
 
-  pub record IsCell (k : Facts) (t : Ty) (v : HeapValue) (b : Block) : Type 0 where
+  pub record IsCell (k : Facts) (n : ℕ) (t : Ty) (v : HeapValue) (b : Block) : Type 0 where
     pub head : Value
     pub behind : Option ℕ
     pub is : v ≡ source.Cell head behind
@@ -57,6 +60,7 @@ module _ (defs : List Def) (c : Contents HeapValue Block Form) where
     pub named : IsName k (Some (Cells t)) rest behind
     pub found : b ≡ block.Cell words rest
     pub holds : (q : ℕ) → rest ≡ Some q → 0 < c.words b q
+    pub older : (q : ℕ) → rest ≡ Some q → q < n
 
   -- What is asked of contents for references to lead to strings, to arrays and to cells.
   pub record AreBlocks : Type 0 where
@@ -64,7 +68,8 @@ module _ (defs : List Def) (c : Contents HeapValue Block Form) where
     pub part : (start long array : ℕ) → c.part start long array ≡ block.Part array start long
     pub elements : (k : Facts) (n : ℕ) (t : Ty) (long : ℕ) (v : HeapValue) (b : Block) → k.form n ≡ Some (form.Elements t long) →
         c.stands k n v b → AreElements t long v b
-    pub cell : (k : Facts) (n : ℕ) (t : Ty) (v : HeapValue) (b : Block) → k.form n ≡ Some (Cells t) → c.stands k n v b → IsCell k t v b
+    pub cell : (k : Facts) (n : ℕ) (t : Ty) (v : HeapValue) (b : Block) → k.form n ≡ Some (Cells t) → c.stands k n v b →
+        IsCell k n t v b
 
   module _ (k : Facts) (w : Heap HeapValue) (x : World) where
     -- Elements are those of part of an array: of the block that stands for the array, from there on, and so many.
@@ -80,8 +85,11 @@ module _ (defs : List Def) (c : Contents HeapValue Block Form) where
       pub element : e.element ≡ desc_of room
       pub start : e.start ≡ p.start
       pub long : e.long ≡ p.long
+      -- which all are there, and no more than ints count
+      pub within : p.start + p.long ≤ length vs
+      pub counted : InRange Int (pos (length vs))
 
-    -- A block is a cell, with the name of what is behind it.
+    -- A block is a cell, with the name of what is behind it, which is older.
     pub record LeadsToCell (t : Ty) (b n : ℕ) : Type 0 where
       pub head : Value
       pub behind : Option ℕ
@@ -92,6 +100,7 @@ module _ (defs : List Def) (c : Contents HeapValue Block Form) where
       pub found : at x.heap b ≡ Some (block.Cell words rest)
       pub stands : c.stands k b (source.Cell head behind) (block.Cell words rest)
       pub rest_there : IsThere x rest
+      pub older : (q : ℕ) → rest ≡ Some q → q < b
       pub first : first_cell x (Some b) ≡ Found (Some (record { element = words; rest = rest }))
 
     -- A block stands for a value, whatever it is.

@@ -175,15 +175,21 @@ drops =
 adds : GoesIn 5 4 (known (whole_one (0 ∷ [])) Int Int ty.Nothing)
 adds =
     goes_next scope ty.Nothing codes 4 4 5 (known (whole_one (0 ∷ [])) Int Int ty.Nothing) (known (whole_one (0 ∷ [])) Int Int Int)
-    (Give Int (Operate (operation.Arithmetic operator.Add kind.Int)) 4 (2 ∷ 3 ∷ [])) refl
-    (Int ∷ Int ∷ [], ((Int, refl, itself Int), ((Int, refl, itself Int), tt)), ((refl, refl), int_room, int_room, inl refl), refl) tt refl
+    (Give Int (Operate (operation.Arithmetic operator.Add kind.Int)) 4 (2 ∷ 3 ∷ [])) refl (
+      Int ∷ Int ∷ [],
+      ((Int, refl, itself Int), ((Int, refl, itself Int), tt)),
+      ((refl, refl), int_room, int_room, inl refl),
+      refl,
+      (omega arith, (omega arith, tt)),
+    ) tt refl
     drops
 
 counts : GoesIn 6 3 (known (whole_one (0 ∷ [])) Int ty.Nothing ty.Nothing)
 counts =
     goes_next scope ty.Nothing codes 5 3 4 (known (whole_one (0 ∷ [])) Int ty.Nothing ty.Nothing)
     (known (whole_one (0 ∷ [])) Int Int ty.Nothing)
-    (Give Int (tree.Literal (constant.Number (pos 1))) 3 []) refl ([], tt, (one_in_range, tt, int_room, inl refl), refl) tt refl adds
+    (Give Int (tree.Literal (constant.Number (pos 1))) 3 []) refl ([], tt, (one_in_range, tt, int_room, inl refl), refl, tt)
+    tt refl adds
 
 abbrev operand : Held
 operand = Forming arguments None (0 ∷ []) (list ∷ []) (0 ∷ [])
@@ -220,7 +226,12 @@ nine_go =
     (Give list (tree.Read place) 0 []) refl (
       [],
       tt,
-      (record { root = list; room = list_room; begins = refl; inner = list; leads = refl; ends = refl }, list_room, inl refl),
+      (
+        record { root = list; room = list_room; begins = refl; inner = list; leads = refl; ends = refl; indexed = λ e. absurd cc },
+        list_room,
+        inl refl,
+      ),
       refl,
+      tt,
     )
     tt refl places

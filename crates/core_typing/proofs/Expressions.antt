@@ -38,7 +38,7 @@ use Rattle.core_typing.proofs.Cleaning.{clean_same, put_clean}
 use Rattle.core_typing.proofs.Drops.{Lets, none, enters, passes, lets_same, lets_wide, lets_more, lets_from, lets_if}
 use Rattle.core_typing.proofs.Standing.{itself, is_on, these_on, these_same, all_stand_on}
 use Rattle.core_typing.proofs.Nodes.{GoesBy, AllBy, lets_put, lets_up, got_none, got_below, touch_row, gives_goes}
-use Rattle.core_typing.proofs.Nodes.{channel_goes, assign_goes, copy_goes, link_goes, pick_goes}
+use Rattle.core_typing.proofs.Nodes.{channel_goes, assign_goes, copy_goes, link_goes, pick_goes, all_told_in, root_told, are_below}
 use Rattle.core_typing.proofs.Placing.{EachBy, gather_goes, call_goes, print_goes}
 
 -- ---- what was decided
@@ -92,22 +92,62 @@ module _ (s : Scope) (answer : Ty) (code : List Instr) where
   node_goes lo t (Operate o) ts us u l p w vd c (inl h) is st f all each rooms =
       subst (λ (b : Bool). GoesBy s answer code lo (if b then gathers s.adts t o l else gives s.adts t (Operate o) l) t) (sym h)
       (gives_goes s answer code lo t (Operate o) l (types_in s.adts ts) p w
-      (λ after a c. (us, these_on after l.values (types_in s.adts ts) us a st, (is.0, is.1, is.2, inl refl), c)) all)
+      (λ pc after a agree c. (
+        (
+          us,
+          these_on after l.values (types_in s.adts ts) us a st,
+          (is.0, is.1, is.2, inl refl),
+          c,
+          are_below lo l.free l.drops l.values vd,
+        ),
+        tt,
+      )) all)
   node_goes lo t (Operate o) ts us u l p w vd c (inr h) is st f all each rooms =
       subst (λ (b : Bool). GoesBy s answer code lo (if b then gathers s.adts t o l else gives s.adts t (Operate o) l) t) (sym h.0)
       (gather_goes s answer code lo t o l (types_in s.adts ts) us p w vd h.1 st (is.0, is.1, is.2, inl refl) each)
   node_goes lo t (tree.Literal k) ts us u l p w vd c h is st f all each rooms =
       gives_goes s answer code lo t (tree.Literal k) l (types_in s.adts ts) p w
-      (λ after a c. (us, these_on after l.values (types_in s.adts ts) us a st, (is.0, is.1, is.2, inl refl), c)) all
+      (λ pc after a agree c. (
+        (
+          us,
+          these_on after l.values (types_in s.adts ts) us a st,
+          (is.0, is.1, is.2, inl refl),
+          c,
+          are_below lo l.free l.drops l.values vd,
+        ),
+        tt,
+      )) all
   node_goes lo t tree.Nil ts us u l p w vd c h is st f all each rooms =
       gives_goes s answer code lo t tree.Nil l (types_in s.adts ts) p w
-      (λ after a c. (us, these_on after l.values (types_in s.adts ts) us a st, (is.0, is.1, inl refl), c)) all
+      (λ pc after a agree c. (
+        (
+          us,
+          these_on after l.values (types_in s.adts ts) us a st,
+          (is.0, is.1, inl refl),
+          c,
+          are_below lo l.free l.drops l.values vd,
+        ),
+        tt,
+      )) all
   node_goes lo t (tree.Read r) ts us u l p w vd c h is st f all each rooms =
       gives_goes s answer code lo t (tree.Read r) l (types_in s.adts ts) p w
-      (λ after a c. (us, these_on after l.values (types_in s.adts ts) us a st, (is.0, is.1, inl refl), c)) all
+      (λ pc after a agree c.
+      let those = these_on after l.values (types_in s.adts ts) us a st in (
+        (us, those, (is.0, is.1, inl refl), c, are_below lo l.free l.drops l.values vd),
+        root_told s (told code pc) after r.root l.values us is.0.root agree those is.0.begins,
+      )) all
   node_goes lo t (tree.Sprint ps) ts us u l p w vd c h is st f all each rooms =
       gives_goes s answer code lo t (tree.Sprint ps) l (types_in s.adts ts) p w
-      (λ after a c. (us, these_on after l.values (types_in s.adts ts) us a st, (is.0, is.1, inl refl), c)) all
+      (λ pc after a agree c. (
+        (
+          us,
+          these_on after l.values (types_in s.adts ts) us a st,
+          (is.0, is.1, inl refl),
+          c,
+          are_below lo l.free l.drops l.values vd,
+        ),
+        tt,
+      )) all
   node_goes lo t (tree.Assign aims) ts us u l p w vd c h is st f all each rooms =
       assign_goes s answer code lo (types_in s.adts ts) t aims ts us is.0 l p h st is.1 is.2 is.3 all
   node_goes lo t (tree.TakePart k) ts us u l p w vd c h is st f all each rooms =
@@ -266,7 +306,7 @@ module _ (s : Scope) (answer : Ty) (code : List Instr) where
   pub update_goes : (o : Operation) (g : Given) (t : Ty) (w : Way) (lo : ℕ) (a b : LoweredAll) (Ps Qs ps qs : List Ty) → lo ≤ a.free
       → suc a.free ≤ b.free → AllTouch (Between lo a.free) a.drops → AllTouch (Between (suc a.free) b.free) b.drops
       → ((r : ℕ) → Beside (suc a.free) b.free r → Quiet r b.code) → AllValued lo a.free a.drops a.values
-      → AllStand Ps ps → AllStand Qs qs → WayIs s w ps t → Gives s.adts o (t ∷ qs) t
+      → AllValued (suc a.free) b.free b.drops b.values → AllStand Ps ps → AllStand Qs qs → WayIs s w ps t → Gives s.adts o (t ∷ qs) t
       → HasRoom s.adts t → HasRoom s.adts (item_of t) → AllBy s answer code lo a Ps → AllBy s answer code (suc a.free) b Qs
       → GoesBy s answer code lo (record {
         code = update_code o t w a b;
@@ -274,7 +314,7 @@ module _ (s : Scope) (answer : Ty) (code : List Instr) where
         value = given_slot s.adts g a.free b.free;
         free = suc b.free;
       }) t
-  update_goes o g t w lo a b Ps Qs ps qs p q wa wb quiet va sp sq way gives room item ga gb pc slots n has fits clean k =
+  update_goes o g t w lo a b Ps Qs ps qs p q wa wb quiet va vb sp sq way gives room item ga gb pc slots n has fits clean k =
       let read = Give t (tree.Read w) a.free a.values in
       let operate = Give t (Operate o) b.free (a.free ∷ b.values) in
       let write = Write t w a.values [] b.free in
@@ -297,8 +337,14 @@ module _ (s : Scope) (answer : Ty) (code : List Instr) where
       clean_same (slot slots r) (slot one r) (left.same r (inr l)) (clean r (omega (arith, l, p)) m) in
       let clean_next : (r : ℕ) → suc a.free ≤ r → r < suc b.free → IsClean (slot next r) = λ r l m.
       clean_same (slot one r) (slot next r) (put_other one a.free r i (λ e. absurd (omega (arith, e, l)))) (clean_one r (omega arith) m) in
-      goes_to s answer code n pc1 (suc pc1) one next read has3.0
-      (ps, these_on one a.values Ps ps left.these sp, (way, room, inl refl), clean_one a.free (omega arith) (omega arith)) tt refl
+      goes_to s answer code n pc1 (suc pc1) one next read has3.0 (
+        ps,
+        these_on one a.values Ps ps left.these sp,
+        (way, room, inl refl),
+        clean_one a.free (omega arith) (omega arith),
+        are_below lo a.free a.drops a.values va,
+      )
+      (root_told s (told code pc1) one w.root a.values ps way.root left.agree (these_on one a.values Ps ps left.these sp) way.begins) refl
       (gb (suc pc1) next n has3.1 (omega arith) (λ r l m. clean_next r l (omega arith))
       (λ two left2.
       let pc2 : ℕ = suc pc1 + length b.code in
@@ -335,9 +381,18 @@ module _ (s : Scope) (answer : Ty) (code : List Instr) where
         (gives, room, item, inl refl),
         clean_same (slot next b.free) (slot two b.free) (left2.same b.free (inr (omega arith)))
             (clean_next b.free (omega arith) (omega arith)),
+        (q, are_below (suc a.free) b.free b.drops b.values vb),
       ) tt refl
       (goes_to s answer code n (suc pc2) (suc (suc pc2)) three three write has4.1.0
-      (ps, these_on three a.values Ps ps those sp, way, inl (t, t_new, room, (t, refl, itself t))) (t, t_new, g2.there) refl
+      (ps, these_on three a.values Ps ps those sp, way, inl (t, t_new, room, (t, refl, itself t))) (
+        (t, t_new, g2.there),
+        root_told s (told code (suc pc2)) three w.root a.values ps way.root
+            (all_told_in (told code pc1) (told code (suc pc2)) one three lo a.free a.drops a.values va below
+            (λ r l. g2.others r (λ e. absurd (omega (arith, e, q, l)))
+            ∙ told_over code (suc pc1) r b.code has3.1 (quiet r (inl (omega (arith, l))))
+            ∙ g1.others r (λ e. absurd (omega (arith, e, l)))) left.agree)
+            (these_on three a.values Ps ps those sp) way.begins,
+      ) refl
       (same_place s answer code n (pc + length (update_code o t w a b)) (suc (suc pc2)) three (omega arith)
       (k three (record {
         long = put_long two b.free j ∙ long2 ∙ long_next ∙ long1;

@@ -470,7 +470,7 @@ module _ (s : Scope) (answer : Ty) (code : List Instr) where
   pub fill_goes : (t : Ty) (lo from : ℕ) (l es os : Lowered) → lo ≤ l.free → suc l.free ≤ from → from ≤ es.free → es.free ≤ os.free
       → AllTouch (Between lo l.free) l.drops → AllTouch (Between from es.free) es.drops → AllTouch (Between es.free os.free) os.drops
       → ((r : ℕ) → Beside (suc l.free) from r → Beside from es.free r → Quiet r es.code)
-      → ((r : ℕ) → Beside (suc l.free) from r → Beside es.free os.free r → Quiet r os.code) → HasRoom s.adts t
+      → ((r : ℕ) → Beside (suc l.free) from r → Beside es.free os.free r → Quiet r os.code) → l.value < l.free → HasRoom s.adts t
       → GoesBy s answer code lo l ty.Int → ElementsGo t l.free (suc l.free) from from es
       → ElementsGo t l.free (suc l.free) from es.free os
       → GoesBy s answer code lo (record {
@@ -479,7 +479,7 @@ module _ (s : Scope) (answer : Ty) (code : List Instr) where
         value = l.free;
         free = os.free;
       }) (ty.ArrayOf t)
-  fill_goes t lo from l es os p q m r wl we wo qe qo room gl ge go pc slots n has fits clean k =
+  fill_goes t lo from l es os p q m r wl we wo qe qo up room gl ge go pc slots n has fits clean k =
       let give = Give (ty.ArrayOf t) (Operate operation.NewArray) l.free (l.value ∷ []) in
       let has1 = has_front code pc (l.code ++ (give ∷ es.code)) os.code has in
       let has2 = has_back code pc (l.code ++ (give ∷ es.code)) os.code has in
@@ -505,6 +505,7 @@ module _ (s : Scope) (answer : Ty) (code : List Instr) where
         (left.is, tt),
         ((t, refl, refl), (reference, is_alone (ty.ArrayOf t) reference refl), room, inl refl),
         clean_first l.free (omega arith) (omega arith),
+        (up, tt),
       ) tt refl
       (ge (suc pc1) next n (ap type_held array) has3.1 (omega arith) (λ d y z. clean_next d y (omega (arith, z, m, r)))
       (λ d y z. clean_next d (omega (arith, y, q)) (omega (arith, z, r)))

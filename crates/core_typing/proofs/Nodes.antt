@@ -9,13 +9,13 @@ use Rattle.limbo_types.specs.Types.{Ty}
 use Rattle.limbo_layout.specs.Adts.{Def}
 use Rattle.limbo_typed.specs.Fitting.{HasPart, Stands, AllStand, EachStands}
 use Rattle.limbo_meaning.specs.Values.{Ref}
-use Rattle.limbo_meaning.specs.Places.{operands_of}
+use Rattle.limbo_meaning.specs.Places.{Root, Local, Global, Element, Target, operands_of}
 use Rattle.limbo_meaning.specs.Trees as tree
 use Rattle.limbo_meaning.specs.Trees.{Aim, Work, Operate, Node, Terms}
 use Rattle.limbo_meaning.specs.Evaluation.{work_refers, operands_for}
 use Rattle.limbo_kept.specs.Operating.{HasRoom}
 use Rattle.limbo_kept.specs.Places.{Leads}
-use Rattle.limbo_kept.specs.Trees.{Scope, AimsAre, DeclaresAll}
+use Rattle.limbo_kept.specs.Trees.{Scope, BeginsAt, AimsAre, DeclaresAll}
 use Rattle.core_code.specs.Code.{Instr, Give, Pick, Known, Write, CopyInto, Cell, Drop}
 use Rattle.core_code.specs.Terms.{Lowered, LoweredAll, count_of, slot_at, drops_from, drops_if, drops_after}
 use Rattle.core_code.specs.Terms.{gives}
@@ -28,9 +28,9 @@ use Rattle.core_follows.proofs.Holding.{has_front, has_back}
 use Rattle.core_follows.proofs.Static.{touch_if, touch_wide}
 use Rattle.core_follows.proofs.Valued.{AllValued, valued_at, spare_outside}
 use Rattle.core_typing.specs.Held.{Held, Of, Slots, slot, put, type_held, live_in, Has, moved, left_by}
-use Rattle.core_typing.specs.Needs.{StandsAs, IsA, AreThese, IsAIf, Fills, Finds, IsClean, AreClean}
+use Rattle.core_typing.specs.Needs.{StandsAs, IsA, AreThese, Below, IsAIf, Fills, Finds, IsClean, AreClean}
 use Rattle.core_typing.specs.Written.{told}
-use Rattle.core_typing.specs.Going.{stand, behind, IsTold, Agrees, Goes, all_of, got_by, picked, out_of}
+use Rattle.core_typing.specs.Going.{stand, behind, IsTold, RootIsTold, Agrees, Goes, all_of, got_by, picked, out_of}
 use Rattle.core_typing.proofs.Telling.{Gave, gave, told_same, told_over, told_at, writes_quiet, cells_quiet, cells_told}
 use Rattle.core_typing.proofs.Going.{put_same, put_other, put_long, same_place, goes_to}
 use Rattle.core_typing.proofs.Cleaning.{clean_same, has_number}
@@ -60,6 +60,48 @@ pub all_told_on : (tells tells' : ℕ → Option Ty) (slots : Slots) (ss : List 
     → AllTold tells slots ss → AllTold tells' slots ss
 all_told_on tells tells' slots [] e w = tt
 all_told_on tells tells' slots (s ∷ ss) e w = (told_on tells tells' slots slots s refl (e s) w.0, all_told_on tells tells' slots ss e w.1)
+
+pub all_told_in : (tells tells' : ℕ → Option Ty) (slots slots' : Slots) (lo hi : ℕ) (ds : List Instr) (ss : List ℕ)
+    → AllValued lo hi ds ss → ((r : ℕ) → r < hi → slot slots' r ≡ slot slots r) → ((r : ℕ) → r < hi → tells' r ≡ tells r)
+    → AllTold tells slots ss → AllTold tells' slots' ss
+all_told_in tells tells' slots slots' lo hi ds [] v e f w = tt
+all_told_in tells tells' slots slots' lo hi ds (s ∷ ss) v e f w = (
+  told_on tells tells' slots slots' s (e s v.0.0.1) (f s v.0.0.1) w.0,
+  all_told_in tells tells' slots slots' lo hi ds ss v.1 e f w.1,
+)
+
+told_take : (tells : ℕ → Option Ty) (slots : Slots) (n : ℕ) (ss : List ℕ) → AllTold tells slots ss → AllTold tells slots (take n ss)
+told_take tells slots zero [] w = tt
+told_take tells slots zero (s ∷ ss) w = tt
+told_take tells slots (suc n) [] w = tt
+told_take tells slots (suc n) (s ∷ ss) w = (w.0, told_take tells slots n ss w.1)
+
+told_drop : (tells : ℕ → Option Ty) (slots : Slots) (n : ℕ) (ss : List ℕ) → AllTold tells slots ss → AllTold tells slots (drop n ss)
+told_drop tells slots zero [] w = tt
+told_drop tells slots zero (s ∷ ss) w = w
+told_drop tells slots (suc n) [] w = tt
+told_drop tells slots (suc n) (s ∷ ss) w = told_drop tells slots n ss w.1
+
+-- So it is told in what a place begins.
+pub root_told : (s : Scope) (tells : ℕ → Option Ty) (slots : Slots) (r : Root) (ss : List ℕ) (us : List Ty) (t : Ty)
+    → AllTold tells slots ss → AreThese slots ss us → BeginsAt s r us t → RootIsTold tells slots r ss
+root_told s tells slots (Local x) ss us t w a b = tt
+root_told s tells slots (Global x) ss us t w a b = tt
+root_told s tells slots Element ss us t w a b = these_told tells slots ss us 0 (ty.ArrayOf t) w a b.0
+root_told s tells slots Target ss us t w a b = these_told tells slots ss us 0 b.2.0 w a b.2.1
+
+-- of no operands, only in variables
+root_alone : (s : Scope) (tells : ℕ → Option Ty) (slots : Slots) (r : Root) (ss : List ℕ) (t : Ty) → BeginsAt s r [] t
+    → RootIsTold tells slots r ss
+root_alone s tells slots (Local x) ss t b = tt
+root_alone s tells slots (Global x) ss t b = tt
+root_alone s tells slots Element ss t b = absurd (let e = b.0 in cc)
+root_alone s tells slots Target ss t b = absurd (let e = b.2.1 in cc)
+
+-- Operands' slots are below those behind them.
+pub are_below : (lo hi : ℕ) (ds : List Instr) (ss : List ℕ) → AllValued lo hi ds ss → Below hi ss
+are_below lo hi ds [] v = tt
+are_below lo hi ds (s ∷ ss) v = (v.0.0.1, are_below lo hi ds ss v.1)
 
 -- What the evaluation of a tree leaves, and of trees in a row: as many slots as before, the others as they were, drops that go well, and
 -- values of these types, which are told.
@@ -265,15 +307,15 @@ module _ (s : Scope) (answer : Ty) (code : List Instr) where
   -- ---- one instruction that gives a value
 
   pub gives_goes : (lo : ℕ) (t : Ty) (o : Work) (l : LoweredAll) (ts : List Ty) → lo ≤ l.free → AllTouch (Between lo l.free) l.drops
-      → ((after : Slots) → AreThese after l.values ts → IsClean (slot after l.free) → Finds s answer after (Give t o l.free l.values))
+      → ((pc : ℕ) (after : Slots) → AreThese after l.values ts → AllTold (told code pc) after l.values → IsClean (slot after l.free)
+      → Finds s answer after (Give t o l.free l.values) × Agrees s answer code pc after (Give t o l.free l.values))
       → AllBy lo l ts
       → GoesBy lo (gives s.adts t o l) t
   gives_goes lo t o l ts p w f all =
       behind_all lo t l ts (Give t o l.free l.values ∷ []) _ l.free (suc l.free) p (omega arith) all
       (λ pc before after left fits clean.
-      one_leaves pc before after (put after l.free (Of t (got_by s.adts t o))) lo (suc l.free) l.free _ _ t
-      (f after left.these (clean l.free (omega arith) (omega arith)))
-      tt refl
+      let needs = f pc after left.these left.agree (clean l.free (omega arith) (omega arith)) in
+      one_leaves pc before after (put after l.free (Of t (got_by s.adts t o))) lo (suc l.free) l.free _ _ t needs.0 needs.1 refl
       (λ e. let g = gave code pc l.free t (Give t o l.free l.values) e (λ r. refl) in
       left_put s.adts (told code pc) (told code (suc pc)) before after lo l.free l.values l.drops _ ts t (got_by s.adts t o) g p
       (omega arith) left
@@ -293,7 +335,7 @@ module _ (s : Scope) (answer : Ty) (code : List Instr) where
       let there : slot last l.free ≡ Of t live = put_same after l.free (Of t live) inside in
       let one_reference : count_of s.adts t ≡ 1 = ap (count_of s.adts) e in
       one_leaves pc before after last lo (suc l.free) l.free _ _ t
-      ([], tt, (i, e, inl refl), clean l.free (omega arith) (omega arith)) tt refl
+      ([], tt, (i, e, inl refl), clean l.free (omega arith) (omega arith), tt) tt refl
       (λ h. let g = gave code pc l.free t (Give t tree.NewChannel l.free []) h (λ r. refl) in
       left_put s.adts (told code pc) (told code (suc pc)) before after lo l.free l.values l.drops _ ts t live g p (omega arith) left
       (lets_more s.adts (told code (suc pc)) last lo l.free (suc l.free) l.drops (Drop l.free 0 ∷ []) w ((omega arith, omega arith), tt)
@@ -304,21 +346,28 @@ module _ (s : Scope) (answer : Ty) (code : List Instr) where
   -- ---- assignments and copies
 
   pub writes_go : (aims : List Aim) (slots : Slots) (us : List Ty) (ss : List ℕ) (value : ℕ) (v : Ty) (n pc : ℕ)
-      → AreThese slots ss us → IsA slots value v → IsTold (told code pc) slots value → HasRoom s.adts v → AimsAre s aims us v
-      → HasAt code pc (writes s.adts aims ss value)
+      → AreThese slots ss us → AllTold (told code pc) slots ss → IsA slots value v → IsTold (told code pc) slots value → HasRoom s.adts v
+      → AimsAre s aims us v → HasAt code pc (writes s.adts aims ss value)
       → Goes s answer code n (pc + length (writes s.adts aims ss value)) slots → Goes s answer code n pc slots
-  writes_go [] slots us ss value v n pc a e z r w has k = same_place s answer code n (pc + 0) pc slots (omega arith) k
-  writes_go (x ∷ aims) slots us ss value v n pc a e z r w has k =
+  writes_go [] slots us ss value v n pc a ts e z r w has k = same_place s answer code n (pc + 0) pc slots (omega arith) k
+  writes_go (x ∷ aims) slots us ss value v n pc a ts e z r w has k =
       let rest = writes s.adts aims (drop (operands_of x.way) ss) value in
-      goes_to s answer code n pc (suc pc) slots slots (Write x.type x.way (take (operands_of x.way) ss) x.part value) has.0 (
+      let write = Write x.type x.way (take (operands_of x.way) ss) x.part value in
+      goes_to s answer code n pc (suc pc) slots slots write has.0 (
         take (operands_of x.way) us,
         these_take slots (operands_of x.way) ss us a,
         w.0,
         fills_from s slots value v w.2.0 x.type x.part e r w.2.1 w.2.2,
-      ) z refl
+      ) (
+        z,
+        root_told s (told code pc) slots x.way.root (take (operands_of x.way) ss) (take (operands_of x.way) us) w.0.root
+            (told_take (told code pc) slots (operands_of x.way) ss ts) (these_take slots (operands_of x.way) ss us a) w.0.begins,
+      ) refl
       (writes_go aims slots (drop (operands_of x.way) us) (drop (operands_of x.way) ss) value v n (suc pc)
-      (these_drop slots (operands_of x.way) ss us a) e
-      (z.0, z.1, told_same code pc value (Write x.type x.way (take (operands_of x.way) ss) x.part value) has.0 refl ∙ z.2) r w.3 has.1
+      (these_drop slots (operands_of x.way) ss us a)
+      (all_told_on (told code pc) (told code (suc pc)) slots (drop (operands_of x.way) ss)
+      (λ q. told_same code pc q write has.0 refl) (told_drop (told code pc) slots (operands_of x.way) ss ts)) e
+      (z.0, z.1, told_same code pc value write has.0 refl ∙ z.2) r w.3 has.1
       (same_place s answer code n (pc + suc (length rest)) (suc pc + length rest) slots (omega arith) k))
 
   pub declares_go : (aims : List Aim) (slots : Slots) (ss : List ℕ) (value : ℕ) (n pc : ℕ) → type_held (slot slots value) ≡ Some ty.Nothing
@@ -332,7 +381,7 @@ module _ (s : Scope) (answer : Ty) (code : List Instr) where
         subst (λ (k : ℕ). AreThese slots (take k ss) []) (sym w.0.1) tt,
         w.0.0,
         inr (e, w.0.2, w.0.3),
-      ) (ty.Nothing, e, z) refl
+      ) ((ty.Nothing, e, z), root_alone s (told code pc) slots x.way.root (take (operands_of x.way) ss) w.0.0.root w.0.0.begins) refl
       (declares_go aims slots (drop (operands_of x.way) ss) value n (suc pc) e
       (told_same code pc value (Write x.type x.way (take (operands_of x.way) ss) x.part value) has.0 refl ∙ z) w.1 has.1
       (same_place s answer code n (pc + suc (length rest)) (suc pc + length rest) slots (omega arith) k))
@@ -350,7 +399,8 @@ module _ (s : Scope) (answer : Ty) (code : List Instr) where
       (λ pc before after left fits clean n has k.
       let those = these_on after l.values (types_in s.adts ts) us left.these st in
       let agrees = these_told (told code pc) after l.values us (operands_for aims) v left.agree those e in
-      writes_go aims after us l.values value v n pc those (these_at after l.values us (operands_for aims) v those e) agrees r w has
+      writes_go aims after us l.values value v n pc those left.agree (these_at after l.values us (operands_for aims) v those e) agrees r w
+      has
       (k after (left_on s.adts (told code pc) (told code (pc + length is)) before after lo l.free value l.drops _
       (λ q. told_over code pc q is has (writes_quiet s.adts q aims l.values value)) (record {
         long = left.long;
@@ -407,7 +457,8 @@ module _ (s : Scope) (answer : Ty) (code : List Instr) where
       let long = put_long slots free h in
       let there : slot next free ≡ h = put_same slots free h (omega arith) in
       let rest = cells s.adts i ss (Some free) (suc free) in
-      goes_to s answer code n pc (suc pc) slots next (Cell i free x b) has.0 (r, e.1, a, clean free (omega arith) (omega arith)) tt refl
+      goes_to s answer code n pc (suc pc) slots next (Cell i free x b) has.0
+      (r, e.1, a, clean free (omega arith) (omega arith), (let y = e.0 in omega (arith, y, l))) tt refl
       (cells_go i mid ss (Some free) (suc free) next n (suc pc) r (each_put mid i slots free h ss l e.2) (omega arith)
       (ty.ListOf i, ap type_held there, itself (ty.ListOf i)) (omega arith)
       (λ r p q. clean_same (slot slots r) (slot next r) (put_other slots free r h (λ f. absurd (omega (arith, f, p))))

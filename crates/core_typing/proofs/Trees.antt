@@ -64,6 +64,11 @@ module _ (s : Scope) (answers : AnswersAreLaid s) (answer : Ty) (code : List Ins
   length_goes lo (Evaluated _) h f = absurd f
   length_goes lo _ h f = absurd h
 
+  length_below : (lo : ℕ) (t : Term) → handled.IsKnown t → LengthSo t → (lower s.adts lo t).value < (lower s.adts lo t).free
+  length_below lo (Evaluated (Num z)) h f = omega arith
+  length_below lo (Evaluated _) h f = absurd f
+  length_below lo _ h f = absurd h
+
   length_value : (t : Term) → Handled s.adts t → LengthSo t → HasValue t
   length_value (Evaluated v) h f = absurd h
   length_value t h f = f
@@ -133,7 +138,8 @@ module _ (s : Scope) (answers : AnswersAreLaid s) (answer : Ty) (code : List Ins
         update_goes s answer code o g t w lo a (lower_all s.adts (suc a.free) us) (types_in s.adts ts) (types_in s.adts us) is.0 is.1
         (terms_up s.adts lo ts) (terms_up s.adts (suc a.free) us) (all_within s.adts lo ts) (all_within s.adts (suc a.free) us)
         (λ q d. terms_quiet s.adts q (suc a.free) us d)
-        (values_stand s.adts ts h.1 lo) (terms_stand s ts is.0 is.2 h.1 f.0) (terms_stand s us is.1 is.3 h.2 f.1) is.4 is.6 is.7 is.8
+        (values_stand s.adts ts h.1 lo) (values_stand s.adts us h.2 (suc a.free)) (terms_stand s ts is.0 is.2 h.1 f.0)
+        (terms_stand s us is.1 is.3 h.2 f.1) is.4 is.6 is.7 is.8
         (terms_go ts is.0 is.2 h.1 f.0 lo) (terms_go us is.1 is.3 h.2 f.1 (suc a.free))
     term_goes (Fill t l items rest) u is h f lo =
         let n = lower s.adts lo l in
@@ -161,7 +167,8 @@ module _ (s : Scope) (answers : AnswersAreLaid s) (answer : Ty) (code : List Ins
         (rest_within s.adts es.free os.free t n.free (named s.adts items) shared es.free rest (omega arith) (omega arith))
         (λ r b d. items_quiet s.adts r t n.free shared from from items (omega arith) (omega arith) (omega arith) b d)
         (λ r b d. rest_quiet s.adts r t n.free (named s.adts items) shared from es.free rest (omega arith) (omega arith) v b d)
-        is.0 length_go
+        (⊎_elim (λ (x : handled.IsKnown l). length_below lo l x f.0)
+        (λ (x : Handled s.adts l). (value_stands s.adts l x lo).between.1) h.0) is.0 length_go
         (items_go items t n.free shared from is.0 is.2 h.1 f.2 (omega arith) (omega arith) (omega arith) from (omega arith))
         (rest_go rest t n.free shared from is.0 is.3 h.2 f.3 (omega arith) (omega arith) (omega arith) es.free v (named s.adts items))
     term_goes _ u is h f lo = absurd h

@@ -1,18 +1,19 @@
 -- Where code goes on, and what is known of its slots then; and that wherever it comes to, each instruction finds what it needs, and
--- the code in front tells of which type a value is whose part is taken or whose reference is dropped.
+-- the code in front tells of which type a value is whose part is taken, whose reference is dropped, or in which a place begins.
 use Rattle.std.specs.Prelude.{ℕ, zero, suc, ◌+◌, ◌-◌, ◌≡◌, true, false, List, [], ◌∷◌, Option, None, Some, slice_get}
 use Rattle.std.specs.Prelude.{if◌then◌else◌, slice_index_or, take}
 use Rattle.std.specs.List.{All}
 use Rattle.limbo_types.specs.Types as ty
 use Rattle.limbo_types.specs.Types.{Ty}
 use Rattle.limbo_layout.specs.Adts.{Def}
-use Rattle.limbo_meaning.specs.Trees.{Work}
+use Rattle.limbo_meaning.specs.Places.{Root, Local, Global}
+use Rattle.limbo_meaning.specs.Trees.{Work, Read}
 use Rattle.limbo_meaning.specs.Evaluation.{work_refers}
 use Rattle.limbo_kept.specs.Trees.{Scope}
 use Rattle.core_code.specs.Code.{Instr, Give, Place, Gather, Pick, Known, Write, CopyInto, Cell, Call, Print, Skip, Truth, Element, Start}
 use Rattle.core_code.specs.Code.{Next}
 use Rattle.core_code.specs.Code.{Other, Keep, Take, Drop, Mirror, Unless, Jump, Back, Return}
-use Rattle.core_code.specs.Terms.{Moved, count_of, count_all, numbers_from, part_types, moves_out}
+use Rattle.core_code.specs.Terms.{Moved, count_of, count_all, numbers_from, part_types, moves_out, slot_at}
 use Rattle.core_typing.specs.Held.{Held, Of, Decided, Turns, Regions, NoRegion, MoreRegions, Slots, empty, slot, put}
 use Rattle.core_typing.specs.Held.{chain_of, region, cleared, placed, chained, noted, type_held, live_in, dropped, moved, left_by}
 use Rattle.core_typing.specs.Held.{with_operand, live_formed, together, or_nothing}
@@ -110,11 +111,20 @@ module _ (defs : List Def) (pc : ℕ) (slots : Slots) where
 abbrev pub IsTold : (told : ℕ → Option Ty) → Slots → (slot : ℕ) → Type 0
 IsTold tells slots r = (u : Ty) × (type_held (slot slots r) ≡ Some u) × (tells r ≡ Some u)
 
+-- So it is of the first operand of a place that is an element of an array, or part of one, or of what a reference names.
+abbrev pub RootIsTold : (told : ℕ → Option Ty) → Slots → Root → (operands : List ℕ) → Type 0
+RootIsTold tells slots (Local x) ss = Unit {0}
+RootIsTold tells slots (Global x) ss = Unit {0}
+RootIsTold tells slots r ss = IsTold tells slots (slot_at 0 ss)
+
 module _ (s : Scope) (answer : Ty) (code : List Instr) where
-  -- Where an instruction takes a part of a slot's value or drops a reference of it, the code in front tells of which type that is.
+  -- Where an instruction takes a part of a slot's value, drops a reference of it, or comes to a place in it, the code in front tells of
+  -- which type that is.
   abbrev pub Agrees : (pc : ℕ) → Slots → Instr → Type 0
   Agrees pc slots (Pick t n into from) = IsTold (told code pc) slots from
-  Agrees pc slots (Write t way operands part from) = IsTold (told code pc) slots from
+  Agrees pc slots (Give t (Read way) into from) = RootIsTold (told code pc) slots way.root from
+  Agrees pc slots (Write t way operands part from) =
+      IsTold (told code pc) slots from × RootIsTold (told code pc) slots way.root operands
   Agrees pc slots (Drop r k) = IsTold (told code pc) slots r
   Agrees pc slots i = Unit {0}
 

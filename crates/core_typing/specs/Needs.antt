@@ -69,6 +69,11 @@ Fills s slots t part from =
     ((v : Ty) × (type_held (slot slots from) ≡ Some v) × HasRoom s.adts v × ((u : Ty) × Leads s.adts v part u × StandsAs u t))
     ⊎ ((type_held (slot slots from) ≡ Some ty.Nothing) × (part ≡ []) × HasRoom s.adts t)
 
+-- Each of these slots is below this one.
+abbrev pub Below : (slot : ℕ) → List ℕ → Type 0
+Below r [] = Unit {0}
+Below r (s ∷ ss) = (s < r) × Below r ss
+
 abbrev pub IsAIf : Slots → Option ℕ → Ty → Type 0
 IsAIf slots None t = Unit {0}
 IsAIf slots (Some s) t = IsA slots s t
@@ -131,9 +136,11 @@ parts_made defs o n = []
 
 module _ (s : Scope) (answer : Ty) (slots : Slots) where
   -- An instruction finds what it reads as it needs it, and nothing is named in a slot that it gives a value to, but for operands that are
-  -- there. An operand stands where one of the part's type is asked for that it comes to.
+  -- there. An operand stands where one of the part's type is asked for that it comes to. The slot of a node's value and of a list's cell is
+  -- behind those of what it is made of.
   abbrev pub Finds : Instr → Type 0
-  Finds (Give t o into from) = (us : List Ty) × AreThese slots from us × WorkIs s t o us t × IsClean (slot slots into)
+  Finds (Give t o into from) =
+      (us : List Ty) × AreThese slots from us × WorkIs s t o us t × IsClean (slot slots into) × Below into from
   Finds (Place t v j k into from) =
       (u : Ty) × (type_held (slot slots from) ≡ Some u) × HasRoom s.adts t × ((w : Ty) × HasPart s.adts t k w × StandsAs u w)
       × (from ≢ into) × IsBegun (slot slots into) t v j
@@ -147,7 +154,7 @@ module _ (s : Scope) (answer : Ty) (slots : Slots) where
   Finds (Write t way operands part from) = (us : List Ty) × AreThese slots operands us × WayIs s way us t × Fills s slots t part from
   Finds (CopyInto array start from) = (i : Ty) × IsA slots array (ty.ArrayOf i) × IsA slots start ty.Int × IsA slots from (ty.ArrayOf i)
   Finds (Cell t into item behind) =
-      HasRoom s.adts t × IsA slots item t × IsAIf slots behind (ty.ListOf t) × IsClean (slot slots into)
+      HasRoom s.adts t × IsA slots item t × IsAIf slots behind (ty.ListOf t) × IsClean (slot slots into) × (item < into)
   Finds (Call t f into None) = WorkIs s t (tree.Call f) [] t × IsClean (slot slots into)
   Finds (Call t f into (Some a)) =
       (us : List Ty) × WorkIs s t (tree.Call f) us t × AreArguments s.adts (slot slots a) [] us × IsClean (slot slots into)

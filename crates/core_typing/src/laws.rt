@@ -3,8 +3,9 @@
 ghost use Rattle.core_typing.specs.Functions.{TreesGoWell, ValuesGoWell, FunctionsGoWell, SoundModulesGoWell};
 
 /// Wherever the code of a typed tree comes to, each instruction finds operands of the types that it needs, and so does what stands behind
-/// it; a slot that it gives a value to names nothing, and behind the tree's drops no slot does; and where it takes a part of a slot's value
-/// or drops a reference of it, the code in front tells of which type that is. What functions answer has to have a layout.
+/// it; a slot that it gives a value to names nothing, and behind the tree's drops no slot does; the slot of a node's value and of a list's
+/// cell is behind those of their operands; and where it takes a part of a slot's value, drops a reference of it or comes to a place by it,
+/// the code in front tells of which type that is. What functions answer has to have a layout.
 pub fn trees_go_well()
     ensures { TreesGoWell }
 {}

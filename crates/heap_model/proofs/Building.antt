@@ -100,5 +100,6 @@ module _ {V B F : Type 0} (c : Contents V B F) (k : Facts B F) (n i : ℕ) (form
     parts = s.parts;
     carriers = s.carriers;
     frees = s.frees;
+    bares = s.bares;
     closed = s.closed;
   }

@@ -1,9 +1,9 @@
 -- What a step may change before the cut, one lemma for each kind of change, from facts of the places that it changes alone.
-use Rattle.std.proofs.Common.{◌≡◌, ◌≢◌, ℕ, ◌<◌, ◌≤◌, true, length, Option, Some, sym, ap, subst, ◌∙◌, arith, ◌⊎◌, inl, inr}
+use Rattle.std.proofs.Common.{◌≡◌, ◌≢◌, ℕ, ◌<◌, ◌≤◌, true, length, Option, Some, None, sym, ap, subst, ◌∙◌, arith, ◌⊎◌, inl, inr}
 use Rattle.std.proofs.lemmas.Bool.Decides.{eqb_tells}
 use Rattle.heap_model.specs.Kept.{IsClosed}
 use Rattle.heap_model.specs.Heap.{Heap, at, there, in_one}
-use Rattle.heap_model.specs.Facts.{Chars, Part, Carrier, Facts, IsFree, Is, Free}
+use Rattle.heap_model.specs.Facts.{Named, Chars, Part, Bare, Carrier, Facts, IsFree, Is, Free}
 use Rattle.heap_model.specs.Contents.{Contents}
 use Rattle.heap_model.specs.Worlds.{Sets, blocks, WorldsAlike}
 use Rattle.heap_model.proofs.Alike.{same_name}
@@ -76,17 +76,21 @@ module _ {V B F : Type 0} (c : Contents V B F) where
       | inl y ↦ absurd (not_free k n m is (subst (λ z. Free k z) y.0 f))
       | inr y ↦ s.frees q r d f f' y.1 u
     ];
+    bares = λ q d f e. elim (cases x x' n _ sx q d e) [
+      | inl y ↦ let z : k.fact n ≡ Some Bare = sym (ap k.fact y.0) ∙ f in let u : Some (Named m) ≡ Some Bare = sym is ∙ z in cc
+      | inr y ↦ s.bares q d f y.1
+    ];
     closed = closed_on x x' n b' sx live s.closed;
   }
 
-  -- a block that stands for nothing gets other words, or a new one comes of which nothing is known
+  -- a block of which it is open what it stands for gets other words, or a new one comes
   pub set_free : (k : Facts B F) (w : Heap V) (x x' : Heap B) (n : ℕ) (b' : B)
-      → WorldsAlike c k w x → Free k n
+      → WorldsAlike c k w x → k.fact n ≡ None
       → length x ≤ length x' → n < length x' → Sets x x' n (Some b')
       → ((q : ℕ) → 0 < c.words b' q → there (at x q) ≡ true)
       → ((q : ℕ) → Free k q → 0 < c.words b' q → n < q)
       → WorldsAlike c k w x'
-  set_free k w x x' n b' s free xm nm sx live order = record {
+  set_free k w x x' n b' s none xm nm sx live order = record {
     unmade = λ q l. s.unmade q (omega arith);
     unnamed = s.unnamed;
     there = λ q v e. let t = s.there q v e in (t.0, t.1, t.2, sx.apart t.0 (λ z. not_free k n q (subst (λ z. Is k q z) z t.2) free) ∙ t.3, t.4);
@@ -107,5 +111,12 @@ module _ {V B F : Type 0} (c : Contents V B F) where
       | inl y ↦ let t = order r f' (subst (λ (z : B). 0 < c.words z r) (sym (some_is b' d y.1)) u) in omega (arith, y.0)
       | inr y ↦ s.frees q r d f f' y.1 u
     ];
+    bares = λ q d f e. elim (cases x x' n _ sx q d e) [
+      | inl y ↦ let z : None ≡ Some Bare = sym none ∙ (sym (ap k.fact y.0) ∙ f) in cc
+      | inr y ↦ s.bares q d f y.1
+    ];
     closed = closed_on x x' n b' sx live s.closed;
   }
+    where
+      free : Free k n
+      free = subst IsFree (sym none) tt

@@ -1,4 +1,4 @@
--- What is known grows: a block comes to stand for a heap value, for a string, for a part of an array, or for nothing.
+-- What is known grows: a block comes to stand for a heap value, for a string, for a part of an array, or, when it goes, for nothing.
 use Rattle.std.proofs.Common.{◌≡◌, ◌≢◌, ℕ, ◌<◌, ◌≤◌, Bool, true, false, List, length, Option, Some, None, refl, sym, ap, subst, ◌∙◌, arith, ◌⊎◌, inl, inr}
 use Rattle.std.proofs.lemmas.Bool.Decides.{eqb_tells}
 use Rattle.heap_model.specs.Kept.{Graph}
@@ -104,21 +104,22 @@ module _ {V B F : Type 0} (c : Contents V B F) where
           | inr y ↦ let t = s.carriers q held d y.1 e in (t.0, λ r u i. t.1 r u (learned_inner k k' n (Named m) l r i))
         ];
         frees = λ q r d f f' e u. s.frees q r d (learned_free k k' n (Named m) l q f) (learned_free k k' n (Named m) l r f') e u;
+        bares = λ q d f e. elim (learned k k' n (Named m) l q Bare f) [ inl y ↦ let z = y.1 in cc | inr y ↦ s.bares q d y.1 e ];
         closed = s.closed;
       }
     where
       name_is : (a b : ℕ) → ◌≡◌ {A = Fact B} (Named a) (Named b) → a ≡ b
       name_is a b e = cc
 
-  -- a block that is made turns out to be a string, a part of an array, or nothing
+  -- a block that is made turns out to be a string, a part of an array, or a carrier
   pub tell : (k k' : Facts B F) (w : Heap V) (x : Heap B) (n : ℕ) (f : Fact B)
       → WorldsAlike c k w x → Learns k k' n f → n < length x
-      → ((m : ℕ) → f ≡ Named m → ⊥)
+      → ((m : ℕ) → f ≡ Named m → ⊥) → (f ≡ Bare → ⊥)
       → ((t : List ℕ) (b : B) → f ≡ Chars t → at x n ≡ Some b → b ≡ c.text t)
       → ((m s l : ℕ) (b : B) → f ≡ Part m s l → at x n ≡ Some b → (q : ℕ) × (b ≡ c.part s l q) × Is k m q)
       → ((d b : B) → f ≡ Carrier d → at x n ≡ Some b → (b ≡ d) × ((q : ℕ) → 0 < c.words d q → Inner k q → ⊥))
       → WorldsAlike c k' w x
-  tell k k' w x n f s l lt not_named texts parts carriers =
+  tell k k' w x n f s l lt not_named not_bare texts parts carriers =
       let g = learns_grows k k' n f l in
       record {
         unmade = λ q z. unmade_on k k' n f l q (λ e. absurd (omega (arith, e))) (s.unmade q z);
@@ -135,6 +136,7 @@ module _ {V B F : Type 0} (c : Contents V B F) where
           | inr y ↦ let t = s.carriers q held d y.1 e in (t.0, λ r u i. t.1 r u (learned_inner k k' n f l r i))
         ];
         frees = λ q r d h h' e u. s.frees q r d (learned_free k k' n f l q h) (learned_free k k' n f l r h') e u;
+        bares = λ q d h e. elim (learned k k' n f l q Bare h) [ inl y ↦ not_bare y.1 | inr y ↦ s.bares q d y.1 e ];
         closed = s.closed;
       }
     where
@@ -180,6 +182,11 @@ module _ {B F : Type 0} (k : Facts B F) (part : ℕ → Bool) where
   decided_carrier b (Some f) ws e = e
   decided_carrier true None ws e = absurd cc
   decided_carrier false None ws e = absurd cc
+
+  decided_bare : (b : Bool) (o : Option (Fact B)) → decided b o ≡ Some Bare → (b ≡ true) ⊎ (o ≡ Some Bare)
+  decided_bare b (Some f) e = inr e
+  decided_bare true None e = inl refl
+  decided_bare false None e = absurd cc
 
   decided_inner : (b : Bool) (o : Option (Fact B)) → IsInner (decided b o) → IsInner o
   decided_inner b (Some f) h = h
@@ -240,8 +247,10 @@ module _ {B F : Type 0} (k : Facts B F) (part : ℕ → Bool) where
   }
 
 module _ {V B F : Type 0} (c : Contents V B F) (k : Facts B F) (part : ℕ → Bool) where
-  pub deciding_world : (w : Heap V) (x : Heap B) → ((n : ℕ) → length x ≤ n → part n ≡ false) → WorldsAlike c k w x → WorldsAlike c (deciding k part) w x
-  deciding_world w x none s = record {
+  -- where what it is decided of isn't there
+  pub deciding_world : (w : Heap V) (x : Heap B) → ((n : ℕ) → length x ≤ n → part n ≡ false)
+      → ((n : ℕ) (b : B) → part n ≡ true → at x n ≡ Some b → ⊥) → WorldsAlike c k w x → WorldsAlike c (deciding k part) w x
+  deciding_world w x none went s = record {
     unmade = λ q z. let u = s.unmade q z in record { fact = not_decided k part (part q) (k.fact q) (none q z) u.fact; maker = u.maker; form = u.form };
     unnamed = λ q r z e. s.unnamed q r z (deciding_is k part q r e);
     there = λ q u e. let t = s.there q u e in (t.0, t.1, (deciding_grows k part).facts t.0 (Named q) t.2, t.3, c.grows k (deciding k part) t.0 u t.1 (deciding_grows k part) t.4);
@@ -250,5 +259,6 @@ module _ {V B F : Type 0} (c : Contents V B F) (k : Facts B F) (part : ℕ → B
     parts = λ q m' st len d h e. let t = s.parts q m' st len d (decided_part k part (part q) (k.fact q) m' st len h) e in (t.0, t.1, (deciding_grows k part).facts t.0 (Named m') t.2);
     carriers = λ q held d h e. let t = s.carriers q held d (decided_carrier k part (part q) (k.fact q) held h) e in (t.0, λ r u i. t.1 r u (decided_inner k part (part r) (k.fact r) i));
     frees = λ q r d h h' e u. s.frees q r d (decided_free k part (part q) (k.fact q) h) (decided_free k part (part r) (k.fact r) h') e u;
+    bares = λ q d h e. elim (decided_bare k part (part q) (k.fact q) h) [ inl y ↦ went q d y e | inr y ↦ s.bares q d y e ];
     closed = s.closed;
   }

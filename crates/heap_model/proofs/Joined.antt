@@ -88,9 +88,14 @@ module _ {V B F : Type 0} (c : Contents V B F) (k : Facts B F) (x : Heap B) (wor
     | inr e ↦ e
   ]
 
+  gone_there : (n : ℕ) (b : B) → goes n ≡ true → at (stays c.words words x) n ≡ Some b → ⊥
+  gone_there n b e f =
+      let t = went_is (there (at x n)) _ e in
+      let z : None ≡ Some b = sym (ap (λ h. cond {A = Option B} h (at x n) None) t.1) ∙ (sym (stays_at c.words words x n) ∙ f) in cc
+
 module _ {V B F : Type 0} (c : Contents V B F) (k : Facts B F) (w : Heap V) (x : Heap B) (names words : ℕ → ℕ) (alike : WorldsAlike c k w x) (roots : SameRoots k (blocks c x) names words) where
   cut_world : WorldsAlike c (deciding k (goes c k x words)) (stays c.inside names w) (stays c.words words x)
-  cut_world = deciding_world c k (goes c k x words) _ _ (late c k x words) (world_after c k w x names words alike roots)
+  cut_world = deciding_world c k (goes c k x words) _ _ (late c k x words) (gone_there c k x words) (world_after c k w x names words alike roots)
 
   cut_holds : (who : ℕ → Type 0) (f g : ℕ → ℕ) → ((m : ℕ) → 0 < g m → 0 < words m) → Holds k who (blocks c x) f g → Holds (deciding k (goes c k x words)) who (blocks c (stays c.words words x)) f g
   cut_holds who f g less h = deciding_holds k (goes c k x words) _ _ f g (world_holds c k w x names words alike roots who f g h less)

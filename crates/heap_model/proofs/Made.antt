@@ -1,7 +1,7 @@
 -- New blocks that stand for no heap value and are known at once: a string, a part of an array, which is flat, and a carrier.
 use Rattle.std.proofs.Common.{◌≡◌, ◌≢◌, ℕ, ◌<◌, true, List, [], ◌∷◌, ◌++◌, length, Option, Some, None, refl, sym, ap, subst, ◌∙◌, arith, ◌+◌, zero, suc, ◌⊎◌, inl, inr, length-append}
 use Rattle.heap_model.specs.Heap.{Heap, at, there, in_one}
-use Rattle.heap_model.specs.Facts.{Fact, Named, Chars, Part, Carrier, Facts, IsUnmade, Learns, IsFree, IsInner, Is, Inner, Refers, itself, slice, Covers}
+use Rattle.heap_model.specs.Facts.{Fact, Named, Chars, Part, Bare, Carrier, Facts, IsUnmade, Learns, IsFree, IsInner, Is, Inner, Refers, itself, slice, Covers}
 use Rattle.heap_model.specs.Alike.{Holds, word, next}
 use Rattle.heap_model.specs.Contents.{Contents}
 use Rattle.heap_model.specs.Worlds.{Sets, blocks, WorldsAlike, Changes}
@@ -30,19 +30,19 @@ module _ {V B F : Type 0} (c : Contents V B F) where
     pub changes : Changes (λ n. n ≡ i) k now x (with_last x b)
 
   pub made : (i : ℕ) (k : Facts B F) (w : Heap V) (x : Heap B) (f : Fact B) (b : B) → WorldsAlike c k w x
-      → ((m : ℕ) → f ≡ Named m → ⊥)
+      → ((m : ℕ) → f ≡ Named m → ⊥) → (f ≡ Bare → ⊥)
       → ((t : List ℕ) → f ≡ Chars t → b ≡ c.text t)
       → ((m s l : ℕ) → f ≡ Part m s l → (q : ℕ) × (b ≡ c.part s l q) × Is k m q)
       → ((d : B) → f ≡ Carrier d → b ≡ d)
       → ((q : ℕ) → 0 < c.words b q → (there (at x q) ≡ true) × (Inner k q → ⊥))
       → IsMade i k w x f b
-  made i k w x f b s not_named text part carrier words = record {
+  made i k w x f b s not_named not_bare text part carrier words = record {
     now = now;
     known = learns.now;
     world = tell c k1 now w (with_last x b) n f
         (maker_world c k n i None w (with_last x b) u more
-        (set_free c k w x (with_last x b) n b s (subst IsFree (sym u.fact) tt) (omega (arith, last_length x b)) more sets (λ q p. (words q p).0) (λ q e p. absurd ((words q p).1 (is_inner _ e)))))
-        learns more not_named
+        (set_free c k w x (with_last x b) n b s u.fact (omega (arith, last_length x b)) more sets (λ q p. (words q p).0) (λ q e p. absurd ((words q p).1 (is_inner _ e)))))
+        learns more not_named not_bare
         (λ t d e there_now. sym (is d there_now) ∙ text t e)
         (λ m st l d e there_now. let t = part m st l e in (t.0, sym (is d there_now) ∙ t.1, t.2))
         (λ held d e there_now. (sym (is d there_now) ∙ carrier held e, λ q p. (words q (subst (λ z. 0 < c.words z q) (sym (carrier held e)) p)).1));
@@ -84,7 +84,7 @@ module _ {V B F : Type 0} (c : Contents V B F) where
   -- a string
   pub text_made : (i : ℕ) (k : Facts B F) (w : Heap V) (x : Heap B) (t : List ℕ) → WorldsAlike c k w x → IsMade i k w x (Chars t) (c.text t)
   text_made i k w x t s = made i k w x (Chars t) (c.text t) s
-      (λ m e. cc) (λ u e. ap c.text (same u e)) (λ m st l e. absurd cc) (λ d e. absurd cc) (λ q p. absurd (let z = c.text_names t q in omega arith))
+      (λ m e. cc) (λ e. cc) (λ u e. ap c.text (same u e)) (λ m st l e. absurd cc) (λ d e. absurd cc) (λ q p. absurd (let z = c.text_names t q in omega arith))
     where
       same : (u : List ℕ) → ◌≡◌ {A = Fact B} (Chars t) (Chars u) → t ≡ u
       same u e = cc
@@ -106,7 +106,7 @@ module _ {V B F : Type 0} (c : Contents V B F) where
   pub part_made : (i : ℕ) (k : Facts B F) (w : Heap V) (x : Heap B) (name start length : ℕ) → WorldsAlike c k w x → (b : Base k x name)
       → IsMade i k w x (Part name start length) (c.part start length b.block)
   part_made i k w x name start length s b = made i k w x (Part name start length) (c.part start length b.block) s
-      (λ m e. cc) (λ t e. absurd cc)
+      (λ m e. cc) (λ e. cc) (λ t e. absurd cc)
       (λ m st l z. (b.block, same m st l z, subst (λ m. Is k m b.block) (named m st l z) b.is))
       (λ d z. absurd cc)
       (λ q p. let z : b.block ≡ q = c.part_only start length b.block q p in (subst (λ q. there (at x q) ≡ true) z b.live, λ f. subst IsInner (ap k.fact (sym z) ∙ b.is) f))
@@ -121,7 +121,7 @@ module _ {V B F : Type 0} (c : Contents V B F) where
   pub carrier_made : (i : ℕ) (k : Facts B F) (w : Heap V) (x : Heap B) (d : B) → WorldsAlike c k w x
       → ((q : ℕ) → 0 < c.words d q → (there (at x q) ≡ true) × (Inner k q → ⊥))
       → IsMade i k w x (Carrier d) d
-  carrier_made i k w x d s words = made i k w x (Carrier d) d s (λ m e. cc) (λ t e. absurd cc) (λ m st l e. absurd cc) (λ h e. same h e) words
+  carrier_made i k w x d s words = made i k w x (Carrier d) d s (λ m e. cc) (λ e. cc) (λ t e. absurd cc) (λ m st l e. absurd cc) (λ h e. same h e) words
     where
       same : (h : B) → ◌≡◌ {A = Fact B} (Carrier d) (Carrier h) → d ≡ h
       same h e = cc

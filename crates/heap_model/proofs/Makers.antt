@@ -316,7 +316,7 @@ module _ (k : Facts Block Form) (i : ℕ) (w : W) (x : X) (a b : Value) (fa fb :
     };
     worlds = (
       maker_world contents k n i (Some Adt) w.heap x' u more
-          (set_free contents k w.heap x.heap x' n blank s (subst IsFree (sym u.fact) tt) (omega (arith, last_length x.heap blank)) more sets (λ q p. absurd (omega arith)) (λ q f p. absurd (omega arith))),
+          (set_free contents k w.heap x.heap x' n blank s u.fact (omega (arith, last_length x.heap blank)) more sets (λ q p. absurd (omega arith)) (λ q f p. absurd (omega arith))),
       same,
     );
     pace = λ z. omega arith;
@@ -379,7 +379,7 @@ module _ (k : Facts Block Form) (i : ℕ) (w : W) (x : X) (a b : Value) (fa fb :
     };
     worlds = (
       name_it contents k now w.heap w' x' m n (ref_adt b) (filled fb)
-          (set_free contents k w.heap x.heap x' n (filled fb) s (subst IsFree (sym new.unknown) tt) (omega (arith, set_length x.heap n (filled fb))) bound sets (λ q p. live q (omega arith)) (λ q f p. absurd (not_free k b fb q second p f)))
+          (set_free contents k w.heap x.heap x' n (filled fb) s new.unknown (omega (arith, set_length x.heap n (filled fb))) bound sets (λ q p. live q (omega arith)) (λ q f p. absurd (not_free k b fb q second p f)))
           learns sets.here (record { form = g.forms n Adt new.form; kind = refl; words = ([], fb, [], tt, sym (append-nil fb), stands_grows k now g b fb second, tt) })
           (omega arith) (omega (arith, last_length w.heap (ref_adt b))) (last_sets w.heap (ref_adt b)),
       same,

@@ -78,6 +78,7 @@ empty_alike = record {
   parts = λ n m s l b f e. absurd cc;
   carriers = λ n d b f e. absurd cc;
   frees = λ n q b f g e u. absurd cc;
+  bares = λ n b f e. absurd cc;
   closed = record { closed = λ a b e u. absurd cc };
 }
 

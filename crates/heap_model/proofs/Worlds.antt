@@ -106,6 +106,7 @@ module _ {V B F : Type 0} (c : Contents V B F) (k : Facts B F) (w : Heap V) (x :
     parts = λ n m s l b f e. alike.parts n m s l b f (block_was n b e).1;
     carriers = λ n d b f e. alike.carriers n d b f (block_was n b e).1;
     frees = λ n q b f f' e u. alike.frees n q b f f' (block_was n b e).1 u;
+    bares = λ n b f e. alike.bares n b f (block_was n b e).1;
     closed = subst (λ h. IsClosed h) (sym (graph_after c.words words x)) all.heaps.closed;
   }
 

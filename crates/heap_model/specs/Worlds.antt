@@ -2,7 +2,7 @@
 use Rattle.std.specs.Prelude.{ℕ, ◌≡◌, ◌<◌, ◌≤◌, ◌⊎◌, List, length, Option, Some, None}
 use Rattle.heap_model.specs.Kept.{Graph, IsClosed}
 use Rattle.heap_model.specs.Heap.{Heap, at, graph}
-use Rattle.heap_model.specs.Facts.{Chars, Part, Carrier, Facts, IsUnmade, Grows, Is, Free, Inner}
+use Rattle.heap_model.specs.Facts.{Chars, Part, Bare, Carrier, Facts, IsUnmade, Grows, Is, Free, Inner}
 use Rattle.heap_model.specs.Contents.{Contents}
 
 -- One place of a heap is set, and the others are as they were.
@@ -18,7 +18,8 @@ module _ {V B F : Type 0} (c : Contents V B F) where
   blocks x = graph c.words x
 
   -- Each value has a block, which stands for it, and no other block does; strings, parts and carriers are what they are known to be;
-  -- a free block that names a free block is the older of the two; and no reference names what isn't there. Roots aren't spoken of.
+  -- a free block that names a free block is the older of the two; what stands for nothing for good has gone; and no reference names what
+  -- isn't there. Roots aren't spoken of.
   pub record WorldsAlike (k : Facts B F) (w : Heap V) (x : Heap B) : Type 0 where
     pub unmade : (n : ℕ) → length x ≤ n → IsUnmade k n
     pub unnamed : (m n : ℕ) → length w ≤ m → Is k m n → ⊥
@@ -28,6 +29,7 @@ module _ {V B F : Type 0} (c : Contents V B F) where
     pub parts : (n m s l : ℕ) (b : B) → k.fact n ≡ Some (Part m s l) → at x n ≡ Some b → (q : ℕ) × (b ≡ c.part s l q) × Is k m q
     pub carriers : (n : ℕ) (d b : B) → k.fact n ≡ Some (Carrier d) → at x n ≡ Some b → (b ≡ d) × ((q : ℕ) → 0 < c.words d q → Inner k q → ⊥)
     pub frees : (n q : ℕ) (b : B) → Free k n → Free k q → at x n ≡ Some b → 0 < c.words b q → n < q
+    pub bares : (n : ℕ) (b : B) → k.fact n ≡ Some Bare → at x n ≡ Some b → ⊥
     pub closed : IsClosed (blocks x)
 
 -- What a step of these processes changes before the cut: nothing goes, of free blocks only their own change, and no carrier does.

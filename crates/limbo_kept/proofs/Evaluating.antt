@@ -102,7 +102,7 @@ module _ (s : Scope) (store : Store) where
       → Begins s.adts s.globals store s.variables r vs t
   begins_there (Local x) us vs t f b = b
   begins_there (Global x) us vs t f b = b
-  begins_there Element us vs t f b = operand_is us vs 0 (ty.ArrayOf t) f b
+  begins_there Element us vs t f b = operand_is us vs 0 (ty.ArrayOf t) f b.0
   begins_there Target us vs t f b =
       let g = operand_is us vs 0 b.2.0 f b.2.1 in
       (b.0, b.1, of_reference b.2.0 b.0 (operand 0 vs) b.2.2 g)

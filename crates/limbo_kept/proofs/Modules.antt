@@ -59,6 +59,10 @@ there_map f [] n x e = absurd cc
 there_map f (y ∷ xs) zero x e = let same : y ≡ x = cc in ap (λ z. Some (f z)) same
 there_map f (y ∷ xs) (suc n) x e = there_map f xs n x e
 
+there_last : {A : Type 0} (xs : List A) (x : A) → slice_get (xs ++ x ∷ []) (length xs) ≡ Some x
+there_last [] x = refl
+there_last (y ∷ xs) x = there_last xs x
+
 there_front : {A : Type 0} (xs ys : List A) (n : ℕ) (x : A) → slice_get xs n ≡ Some x → slice_get (xs ++ ys) n ≡ Some x
 there_front [] ys n x e = absurd cc
 there_front (y ∷ xs) ys zero x e = e
@@ -172,8 +176,11 @@ module _ (s : Scope) where
       go : (x : Root) → BeginsAt s x us t → BeginsAt s x (us ++ vs) t
       go (Local x) b = b
       go (Global x) b = b
-      go Element b = there_front us vs 0 (ty.ArrayOf t) b
+      go Element b = (there_front us vs 0 (ty.ArrayOf t) b.0, there_front us vs 1 ty.Int b.1)
       go Target b = (b.0, b.1, (b.2.0, there_front us vs 0 b.2.0 b.2.1, b.2.2))
+
+no_character : false ≡ true → ⊥
+no_character e = cc
 
 -- ---- what is written
 
@@ -285,6 +292,39 @@ module _ (r : Stores) (m : Module) (laid : AdtsAreLaid m.adts) (variables : List
   text_ends true i u c e = absurd (let f : u ≡ ty.Int = e.1 in cc)
   text_ends false i u c e = (refl, e ∙ c)
 
+  -- A place that is a character is an int, so that what is a string is none.
+  character_int : (t : Ty) (p : PlaceNode) → SoundPlaceNode m variables t p → (way_of p).character ≡ true → t ≡ ty.Int
+  character_int t (typed.Local x) s e = absurd cc
+  character_int t (typed.Global x) s e = absurd cc
+  character_int t (typed.Field (At u p) n) s e =
+      absurd (subst (λ (x : Ty). HasPart m.adts x n t) (character_int u p s.0.1 e) s.1)
+  character_int t (typed.Element a i) s e = absurd cc
+  character_int t (typed.Character (At u p) i) s e = s.3
+  character_int t (typed.Target x) s e = absurd cc
+
+  text_whole : (b : Bool) (t : Ty) → t ≡ ty.Chars → (b ≡ true → t ≡ ty.Int) → b ≡ false
+  text_whole true t c f = absurd (let e = f refl in cc)
+  text_whole false t c f = refl
+
+  text_count : (t : Ty) (p : PlaceNode) → SoundPlaceNode m variables t p → t ≡ ty.Chars
+      → operands_of (way_of p) ≡ count_of (way_of p).root
+  text_count t p s c =
+      let w = way_of p in
+      ap (λ (b : Bool). if b then count_of w.root + 1 else count_of w.root) (text_whole w.character t c (character_int t p s))
+
+  -- how many operands a place has
+  places_count : (t : Ty) (p : PlaceNode) → SoundPlaceNode m variables t p → length (place_types p) ≡ operands_of (way_of p)
+  places_count t (typed.Local x) s = refl
+  places_count t (typed.Global x) s = refl
+  places_count t (typed.Field (At u p) n) s = places_count u p s.0.1
+  places_count t (typed.Element a i) s = refl
+  places_count t (typed.Character (At u p) i) s =
+      let e1 = length-append (place_types p) (ty.Int ∷ []) in
+      let e2 = places_count u p s.0.1 in
+      let e3 = text_count u p s.0.1 s.2 in
+      omega arith
+  places_count t (typed.Target e) s = refl
+
   abbrev target_way : (t : Ty) (e : Expr) → IsNamed m t → sound.IsTarget (type_of e) t
       → WayIs scope (record { root = Target; parts = []; character = false }) (type_of e ∷ []) t
   target_way (ty.Adt n) e h g = record {
@@ -294,6 +334,7 @@ module _ (r : Stores) (m : Module) (laid : AdtsAreLaid m.adts) (variables : List
     inner = ty.Adt n;
     leads = refl;
     ends = refl;
+    indexed = λ e. absurd (no_character e);
   }
   target_way _ e h g = absurd g
 
@@ -305,6 +346,7 @@ module _ (r : Stores) (m : Module) (laid : AdtsAreLaid m.adts) (variables : List
     inner = t;
     leads = refl;
     ends = refl;
+    indexed = λ e. absurd (no_character e);
   }
   place_way t (typed.Global x) h s = record {
     root = t;
@@ -313,6 +355,7 @@ module _ (r : Stores) (m : Module) (laid : AdtsAreLaid m.adts) (variables : List
     inner = t;
     leads = refl;
     ends = refl;
+    indexed = λ e. absurd (no_character e);
   }
   place_way t (typed.Field (At u p) n) h s =
       let w = place_way u p s.0.0 s.0.1 in
@@ -323,14 +366,16 @@ module _ (r : Stores) (m : Module) (laid : AdtsAreLaid m.adts) (variables : List
         inner = t;
         leads = leads_more scope (way_of p).parts w.root w.inner n t w.leads (subst (λ (x : Ty). HasPart m.adts x n t) (sym e.1) s.1);
         ends = subst (λ (b : Bool). Ends b t t) (sym e.0) refl;
+        indexed = w.indexed;
       }
   place_way t (typed.Element a i) h s = record {
     root = t;
     room = room t h;
-    begins = ap Some s.2;
+    begins = (ap Some s.2, refl);
     inner = t;
     leads = refl;
     ends = refl;
+    indexed = λ e. absurd (no_character e);
   }
   place_way t (typed.Character (At u p) i) h s =
       let w = place_way u p s.0.0 s.0.1 in
@@ -341,6 +386,9 @@ module _ (r : Stores) (m : Module) (laid : AdtsAreLaid m.adts) (variables : List
         inner = w.inner;
         leads = w.leads;
         ends = (e.1, s.3);
+        indexed = λ f.
+            subst (λ (k : ℕ). slice_get (place_types p ++ ty.Int ∷ []) k ≡ Some ty.Int)
+            (places_count u p s.0.1 ∙ text_count u p s.0.1 s.2) (there_last (place_types p) ty.Int);
       }
   place_way t (typed.Target e) h s = target_way t e h s.1
 
@@ -366,28 +414,12 @@ module _ (r : Stores) (m : Module) (laid : AdtsAreLaid m.adts) (variables : List
   place_may t (typed.Character (At u p) i) h s part may object held = place_may u p s.0.0 s.0.1 part may object held
   place_may t (typed.Target e) h s part may object held = target_may t e h s.1 part (may (type_of e) refl) object held
 
-  -- how many operands a place has
-  places_count : (t : Ty) (p : PlaceNode) → SoundPlaceNode m variables t p → IsNamed m t → length (place_types p) ≡ operands_of (way_of p)
-  places_count t (typed.Local x) s h = refl
-  places_count t (typed.Global x) s h = refl
-  places_count t (typed.Field (At u p) n) s h = places_count u p s.0.1 s.0.0
-  places_count t (typed.Element a i) s h = refl
-  places_count t (typed.Character (At u p) i) s h =
-      let w = way_of p in
-      let e1 = length-append (place_types p) (ty.Int ∷ []) in
-      let e2 = places_count u p s.0.1 s.0.0 in
-      let is = place_way u p s.0.0 s.0.1 in
-      let e3 = (text_ends w.character is.inner u s.2 is.ends).0 in
-      let e4 = ap (λ (b : Bool). if b then count_of w.root + 1 else count_of w.root) e3 in
-      omega arith
-  places_count t (typed.Target e) s h = refl
-
   -- ---- patterns
 
   mutual
     pattern_count : (p : Pattern) (t : Ty) (ns : List ℕ) → SoundPattern m variables p t
         → length (pattern_types p) ≡ operands_for (aims_in ns p)
-    pattern_count (typed.ToPlace (At u p)) t ns s = let e = places_count u p s.0.1 s.0.0 in omega arith
+    pattern_count (typed.ToPlace (At u p)) t ns s = let e = places_count u p s.0.1 in omega arith
     pattern_count typed.ToNothing t ns s = refl
     pattern_count (typed.ToParts ps) t ns s = patterns_count ps (listed s.0) ns 0 s.2
 
@@ -419,7 +451,7 @@ module _ (r : Stores) (m : Module) (laid : AdtsAreLaid m.adts) (variables : List
     pattern_aims : (p : Pattern) (t v : Ty) (ns : List ℕ) (more : List Ty) → SoundPattern m variables p t → Leads m.adts v ns t
         → IntoAll (HasPlace p) → AimsAre scope (aims_in ns p) (pattern_types p ++ more) v
     pattern_aims (typed.ToPlace (At u p)) t v ns more s l may =
-        let k = places_count u p s.0.1 s.0.0 in
+        let k = places_count u p s.0.1 in
         let w = subst (λ (ts : List Ty). (is : WayIs scope (way_of p) ts u) × MayWrite r m.adts (way_of p).root is.root u)
         (sym (take_front (place_types p) more (operands_of (way_of p)) k))
         (place_way u p s.0.0 s.0.1, place_may u p s.0.0 s.0.1 u (may (At u p) refl)) in
@@ -702,6 +734,7 @@ module _ (r : Stores) (m : Module) (laid : AdtsAreLaid m.adts) (f : typed.Functi
     inner = slice_index_or types x ty.Int;
     leads = refl;
     ends = refl;
+    indexed = λ e. absurd (no_character e);
   }
 
   pub declares_all : (xs : List ℕ) → Each (λ (x : ℕ). x < length f.variables) xs → DeclaresAll here (map (local types) xs)

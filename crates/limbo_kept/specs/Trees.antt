@@ -1,5 +1,5 @@
 -- When a tree in evaluation gives a value of a type.
-use Rattle.std.specs.Prelude.{ℕ, ◌≡◌, ◌⊎◌, List, [], ◌∷◌, Option, None, Some, take, drop, slice_get}
+use Rattle.std.specs.Prelude.{ℕ, ◌≡◌, ◌⊎◌, true, List, [], ◌∷◌, Option, None, Some, take, drop, slice_get}
 use Rattle.limbo_types.specs.Types as ty
 use Rattle.limbo_types.specs.Types.{Ty}
 use Rattle.limbo_layout.specs.Adts.{Def}
@@ -11,7 +11,7 @@ use Rattle.limbo_typed.specs.declared.stmt.Constant.{Constant}
 use Rattle.limbo_typed.specs.declared.stmt.Constant.TheVariants as constant
 use Rattle.limbo_typed.specs.Fitting.{HasPart, HasNil, IsRefOf, Stands, AllStand, EachStands, Gives, IsConstant}
 use Rattle.limbo_meaning.specs.Values.{nothing}
-use Rattle.limbo_meaning.specs.Places.{Root, Local, Global, Element, Target, Way, operands_of}
+use Rattle.limbo_meaning.specs.Places.{Root, Local, Global, Element, Target, Way, count_of, operands_of}
 use Rattle.limbo_meaning.specs.Operations.{item_of}
 use Rattle.limbo_meaning.specs.Trees.{Aim, Pending, Work, Literal, Nil, Operate, Read, Assign, TakePart, Copy, Link, NewChannel, Call}
 use Rattle.limbo_meaning.specs.Trees.{Print}
@@ -43,11 +43,11 @@ pub record Scope : Type 0 where
 -- ---- places
 
 module _ (s : Scope) where
-  -- Where a place begins whose operands are of these types.
+  -- Where a place begins whose operands are of these types: an index of an array is an int.
   abbrev pub BeginsAt : Root → List Ty → Ty → Type 0
   BeginsAt (Local x) us t = slice_get s.variables x ≡ Some t
   BeginsAt (Global x) us t = slice_get s.globals x ≡ Some t
-  BeginsAt Element us t = slice_get us 0 ≡ Some (ty.ArrayOf t)
+  BeginsAt Element us t = (slice_get us 0 ≡ Some (ty.ArrayOf t)) × (slice_get us 1 ≡ Some ty.Int)
   BeginsAt Target us t = (n : ℕ) × (t ≡ ty.Adt n) × ((r : Ty) × (slice_get us 0 ≡ Some r) × IsRefOf n r)
 
   pub record WayIs (w : Way) (us : List Ty) (t : Ty) : Type 0 where
@@ -57,6 +57,8 @@ module _ (s : Scope) where
     pub inner : Ty
     pub leads : Leads s.adts root w.parts inner
     pub ends : Ends w.character inner t
+    -- so is an index of a string, behind the operands of the root
+    pub indexed : w.character ≡ true → slice_get us (count_of w.root) ≡ Some ty.Int
 
   -- Places that parts of a value go to, each of which stands for the place's type, and may be written there.
   abbrev pub AimsAre : List Aim → List Ty → (value : Ty) → Type 0

@@ -78,8 +78,8 @@ module _ (m : typed.Module) (k : Facts) where
 
   is_instance : (n : ℕ) (v : HeapValue) (b : Block) → k.form n ≡ Some Instances → IsBlock m.adts (globals m) (constants m) k n v b → IsOfFirst b
       → IsInstance n v b
-  is_instance n _ _ f (elements t r words vs g l w e o) first = absurd cc
-  is_instance n _ _ f (cell t r words v tail rest g l w s o a e) first = absurd cc
+  is_instance n _ _ f (elements t r words vs g l few w e o) first = absurd cc
+  is_instance n _ _ f (cell t r words v tail rest g l w s o a e older) first = absurd cc
   is_instance n _ _ f (record_of a r words v g l w s o e) first = absurd cc
   is_instance n _ _ f (channel t desc g) first = absurd cc
   is_instance n _ _ f (instance_of object rs words vs g l w s o t c) first = record {

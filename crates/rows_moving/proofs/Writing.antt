@@ -118,7 +118,9 @@ agrees : (m : typed.Module) (f : typed.Function) (pc : ℕ) (known : held.Slots)
 agrees m f pc known t way operands taken from goes here =
     let g = goes 1 in
     let instr = Write t way operands taken from in
-    subst (λ (j : Instr). Agrees (scope m f) f.of.answer (of_function m f).code pc known j) (same_some g.0 instr (sym g.1 ∙ here)) g.3
+    let both =
+    subst (λ (j : Instr). Agrees (scope m f) f.of.answer (of_function m f).code pc known j) (same_some g.0 instr (sym g.1 ∙ here)) g.3 in
+    both.0
 
 not_nothing : (m : typed.Module) (w : Ty) (taken : List ℕ) (u : Ty) → Leads m.adts w taken u → IsSimple u → w ≡ ty.Nothing → ⊥
 not_nothing m w [] u e (inl s) f = let g : form_of u ≡ form_of ty.Nothing = ap form_of (sym e ∙ f) in absurd cc

@@ -58,6 +58,7 @@ module _ (m : typed.Module) (i : ℕ) where
         parts = worlds.0.parts;
         carriers = worlds.0.carriers;
         frees = worlds.0.frees;
+        bares = worlds.0.bares;
         closed = worlds.0.closed;
       }
 

@@ -8,6 +8,7 @@ pub mod RootedFrames
 pub mod RootedProcesses
 pub mod RootedExamples
 pub mod Standing
+pub mod Open
 pub mod Single
 pub mod Slots
 pub mod Jumps

@@ -90,7 +90,7 @@ module _ (defs : List Def) (k : Facts) where
   pub covers_those : (names : ℕ → ℕ) (ns : List (Option ℕ)) (b : ℕ) → ((n : ℕ) → Name ns n → 0 < names n) → IsCovered k ns b
       → Covers k (λ n. 0 < names n) b
   covers_those names ns b named (inl h) = refers h.0 (named h.0 h.1) (refers_named b h.0 h.2)
-  covers_those names ns b named (inr h) = chars h.0 h.1
+  covers_those names ns b named (inr h) = chars h.0 h.1.0
 
   module _ (words : List Word) where
     -- a type whose values stand has a room

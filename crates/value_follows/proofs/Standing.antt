@@ -109,8 +109,8 @@ module _ (m : typed.Module) (k : Facts) where
 
   instance_is : (n : ℕ) (v : HeapValue) (b : Block) → k.form n ≡ Some Instances
       → IsBlock m.adts (globals m) (constants m) k n v b → IsOfFirst b → InstanceIs b
-  instance_is n _ _ f (elements t r words vs g l w e o) first = absurd cc
-  instance_is n _ _ f (cell t r words v tail rest g l w s o a e) first = absurd cc
+  instance_is n _ _ f (elements t r words vs g l few w e o) first = absurd cc
+  instance_is n _ _ f (cell t r words v tail rest g l w s o a e older) first = absurd cc
   instance_is n _ _ f (record_of a r words v g l w s o e) first = absurd cc
   instance_is n _ _ f (channel t desc g) first = absurd cc
   instance_is n _ _ f (instance_of object rs words vs g l w s o t c) first =

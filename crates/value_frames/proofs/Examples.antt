@@ -22,16 +22,22 @@ use Rattle.dis_meaning.specs.Words.{Word, Plain, Refer}
 use Rattle.dis_meaning.specs.Counts.{refers as refers_once}
 use Rattle.dis_memory.specs.Blocks.{Block, Record}
 use Rattle.dis_memory.specs.Naming.{inside}
+use Rattle.dis_memory.specs.Strings.{byte_type}
 use Rattle.value_words.specs.Contents.{AreInRange}
 use Rattle.value_words.specs.Forms.{Form, Cells, OwnedBy}
 use Rattle.value_words.specs.Facts.{Facts, IsName, Grows}
 use Rattle.value_words.specs.Stands.{Stands, a_number, a_name, a_tuple, none_stand, more_stand}
 use Rattle.value_heaps.specs.Blocks.{IsWithin}
 use Rattle.value_frames.specs.Frames.{frame_bytes, frame_references, number_place, reference_place, turn_bytes, turn_references}
-use Rattle.value_frames.specs.Types.{AreOf}
+use Rattle.value_frames.specs.Types.{AreOf, desc}
 use Rattle.value_frames.specs.Standing.{NamesOnly, IsBox, IsIdle, nothing_there, text_left, carrier_left, SlotStands, a_value, a_forming, a_loop}
 use Rattle.value_frames.specs.Standing.{a_chain, no_more, one_more, RegionStands, more_slots, no_slot, WordsAre}
 use Rattle.value_frames.proofs.Slots.{slots_change}
+
+-- ---- where nothing refers, a type's map is empty
+
+type_of_bytes : desc 1 [] ≡ byte_type
+type_of_bytes = refl
 
 -- ---- words that are of their type, by what refers among them
 

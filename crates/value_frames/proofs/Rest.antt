@@ -189,7 +189,7 @@ module _ (defs : List Def) (k : Facts) where
     idle_text : (r : Option ℕ) (s : List ℕ) (at : ℕ) → word_at words (pos at) ≡ Found (Refer r) → IsText k r s
         → RefersIdly defs k words at
     idle_text None s at e i = (None, e, nothing_there)
-    idle_text (Some b) s at e i = (Some b, e, text_left b s i)
+    idle_text (Some b) s at e i = (Some b, e, text_left b s i.0)
 
     idle_reference : (at : ℕ) (t : Ty) (v : Value) → form_of t ≡ AsReference → NamesOnly [] v → Stands defs k words at t v
         → RefersIdly defs k words at
@@ -212,7 +212,7 @@ module _ (defs : List Def) (k : Facts) where
       let there = word_there inner (0 + 4 * w.0) (Refer (Some q)) (omega arith) (ap (slice_get inner) e ∙ w.1) in
       elim (covered defs k inner 0 t (room_for defs t) v (4 * w.0) q laid s (box.kind.only w.0 (Some q) w.1) there) [
         | inl n ↦ let m = name_there n.0 (references v) n.1 in absurd (names m.0 n.0 m.1)
-        | inr text ↦ text
+        | inr text ↦ (text.0, text.1.0)
       ])
 
   idle_value : (words : List Word) (n r : ℕ) (t : Ty) (v : Value) (own : List ℕ) → SlotReads defs k words n r t [] v own

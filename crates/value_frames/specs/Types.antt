@@ -6,13 +6,13 @@ use Rattle.limbo_layout.specs.Layout.{is_in}
 use Rattle.dis_file.specs.declared.types.TypeDesc.{TypeDesc}
 use Rattle.dis_meaning.specs.Words.{Word, Refer}
 use Rattle.value_words.specs.Contents.{AreInRange}
-use Rattle.value_heaps.specs.Types.{bytes}
+use Rattle.value_heaps.specs.Types.{map_bytes}
 
 -- So many bytes, of which words refer at these offsets.
 abbrev pub desc : (size : ℕ) → (offsets : List ℕ) → TypeDesc
 desc size os =
     let words = map (λ w. is_in (4 * w) os) (range_with_len 0 ((size + 3) / 4)) in
-    record { size = size; map = bytes (length words) words }
+    record { size = size; map = map_bytes words }
 
 -- Words as such a type makes them, whatever was stored in them since: so many, which refer at these offsets and nowhere else, and whose
 -- numbers have 32 bits.

@@ -34,7 +34,7 @@ module _ (defs : List Def) (globals : List Ty) (constants : List Constant) (fact
   by_names : (ns : List (Option ℕ)) (v : HeapValue) (q : ℕ) → ((m : ℕ) → Name ns m → 0 < inside v m) → IsCovered facts ns q
       → Covers facts (λ m. 0 < inside v m) q
   by_names ns v q all (inl h) = refers h.0 (all h.0 h.1) (elim h.2 [ inl i ↦ itself i | inr i ↦ slice i.0 i.1.0 i.1.1 ])
-  by_names ns v q all (inr h) = chars h.0 h.1
+  by_names ns v q all (inr h) = chars h.0 h.1.0
 
   -- of a value at the front of a block
   at_front : (t : Ty) (r : Room) (words : List Word) (v : Value) (w q : ℕ) → Laid defs t r → Stands defs facts words 0 t v
@@ -56,7 +56,7 @@ module _ (defs : List Def) (globals : List Ty) (constants : List Constant) (fact
 
   pub block_covers : (n : ℕ) (v : HeapValue) (b : Block) (q : ℕ) → IsBlock defs globals constants facts n v b → 0 < machine.inside b q
       → Covers facts (λ m. 0 < inside v m) q
-  block_covers n _ _ q (elements t r words vs f l whole each only) h =
+  block_covers n _ _ q (elements t r words vs f l few whole each only) h =
       let w = named_where words q h in
       let i = only w.0 (Some q) w.1 in
       let v = is_there vs i.0 i.1 in
@@ -64,7 +64,7 @@ module _ (defs : List Def) (globals : List Ty) (constants : List Constant) (fact
       by_names (references v.0) (source.Elements vs) q (λ m. names_among vs i.0 v.0 m v.1)
       (covered defs facts words (i.0 * r.size) t r v.0 o.0 q l (each i.0 v.0 v.1) o.1
       (found_there words w.0 q (i.0 * r.size + o.0) w.1 o.2))
-  block_covers n _ _ q (cell t r words v tail rest formed l whole s there only e) h =
+  block_covers n _ _ q (cell t r words v tail rest formed l whole s there only e older) h =
       let w = named_where (Refer rest ∷ words) q h in go w.0 w.1
     where
       go : (w : ℕ) → slice_get (Refer rest ∷ words) w ≡ Some (Refer (Some q)) → Covers facts (λ m. 0 < inside (source.Cell v tail) m) q

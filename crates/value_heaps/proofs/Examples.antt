@@ -80,6 +80,7 @@ ints_cell =
     ((λ w i. let l = i.1 in omega arith), ranges)
     (a_number 0 kind.Int (pos 5) refl (record { above = omega (arith, ints); below = omega (arith, ints) }))
     (λ w to e i. absurd (only_plain w to e)) (λ w b e. absurd (only_plain w (Some b) e)) (record { fact = refl; formed = refl })
+    (λ b e. let f : 3 ≡ b = cc in omega (arith, f))
   where
     only_plain : (w : ℕ) (to : Option ℕ) → slice_get (Plain (pos 5) ∷ []) w ≡ Some (Refer to) → ⊥
     only_plain zero to e = cc
@@ -99,13 +100,13 @@ two_texts = value.Chars (72 ∷ []) ∷ value.Chars [] ∷ []
 
 texts_array : IsBlock [] [] [] known 6 (source.Elements two_texts) (block.Array (desc_of reference) 2 two_words)
 texts_array =
-    elements ty.Chars reference two_words two_texts refl (is_alone ty.Chars reference refl)
+    elements ty.Chars reference two_words two_texts refl (is_alone ty.Chars reference refl) (small 2 (pos 2) (omega arith) refl)
     ((λ w i. let l = i.1 in omega arith), ranges) each only
   where
     each : (i : ℕ) (v : Value) → slice_get two_texts i ≡ Some v → Stands [] known two_words (i * 4) ty.Chars v
     each zero v e =
         let f : value.Chars (72 ∷ []) ≡ v = cc in
-        subst (λ (u : Value). Stands [] known two_words 0 ty.Chars u) f (a_text 0 (Some 4) (72 ∷ []) refl refl)
+        subst (λ (u : Value). Stands [] known two_words 0 ty.Chars u) f (a_text 0 (Some 4) (72 ∷ []) refl (refl, ((omega arith, tt), omega arith)))
     each (suc zero) v e =
         let f : value.Chars [] ≡ v = cc in subst (λ (u : Value). Stands [] known two_words 4 ty.Chars u) f (a_text 4 None [] refl refl)
     each (suc (suc i)) v e = absurd cc
@@ -178,7 +179,8 @@ one_array : (n : ℕ) (ts : Tys) (rs : List Room) (x y : ℕ) → formed_of n �
     → Laid [] (ty.Tuple ts) (in_order rs) → Stands [] known (Plain (pos x) ∷ Plain (pos y) ∷ []) 0 (ty.Tuple ts) (Parts (row one_two))
     → IsBlock [] [] [] known n the_value (block.Array (desc_of (in_order rs)) 1 (Plain (pos x) ∷ Plain (pos y) ∷ []))
 one_array n ts rs x y f a b size l s =
-    elements (ty.Tuple ts) (in_order rs) words (Parts (row one_two) ∷ []) f l ((λ w i. let h = i.1 in omega arith), ranges) each
+    elements (ty.Tuple ts) (in_order rs) words (Parts (row one_two) ∷ []) f l (small 1 (pos 1) (omega arith) refl)
+    ((λ w i. let h = i.1 in omega arith), ranges) each
     (λ w to e. absurd (plain w to e))
   where
     words : List Word

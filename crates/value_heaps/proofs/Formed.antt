@@ -1,10 +1,12 @@
 -- The form that is known of a block tells which value it stands for, and by which type its words are read.
-use Rattle.std.proofs.Common.{◌≡◌, ℕ, ◌+◌, ◌*◌, ◌<◌, List, Option, Some, length, refl, sym, subst, ◌∙◌}
+use Rattle.std.proofs.Common.{◌≡◌, ℕ, pos, ◌+◌, ◌*◌, ◌<◌, List, Option, Some, length, refl, sym, subst, ◌∙◌}
 use Rattle.std.specs.Prelude.{slice_get}
 use Rattle.limbo_types.specs.Types as ty
 use Rattle.limbo_types.specs.Types.{Ty}
 use Rattle.limbo_layout.specs.Adts.{Def, Has}
 use Rattle.limbo_layout.specs.Layout.{Room, Laid}
+use Rattle.limbo_values.specs.declared.number.Kind.TheVariants.{Int}
+use Rattle.limbo_values.specs.Numbers.{InRange}
 use Rattle.limbo_meaning.specs.Values.{Value}
 use Rattle.limbo_meaning.specs.Memory as source
 use Rattle.limbo_meaning.specs.Memory.{HeapValue}
@@ -28,6 +30,7 @@ module _ (defs : List Def) (globals : List Ty) (constants : List Constant) (fact
     pub count : length values ≡ long
     pub value : v ≡ source.Elements values
     pub is : b ≡ block.Array (desc_of room) long words
+    pub counted : InRange Int (pos long)
     pub whole : AreWhole words 0 (long * room.size)
     pub each : (i : ℕ) (u : Value) → slice_get values i ≡ Some u → Stands defs facts words (i * room.size) item u
     pub only : (w : ℕ) (to : Option ℕ) → slice_get words w ≡ Some (Refer to)
@@ -35,7 +38,7 @@ module _ (defs : List Def) (globals : List Ty) (constants : List Constant) (fact
 
   pub are_elements : (n : ℕ) (v : HeapValue) (b : Block) (t : Ty) (long : ℕ) → IsBlock defs globals constants facts n v b
       → facts.form n ≡ Some (Elements t long) → AreElements t long v b
-  are_elements n _ _ t long (elements u r words vs f l whole each only) e =
+  are_elements n _ _ t long (elements u r words vs f l few whole each only) e =
       let g : Some (Elements u (length vs)) ≡ Some (Elements t long) = sym f ∙ e in
       let p : u ≡ t = cc in
       let q : length vs ≡ long = cc in
@@ -49,18 +52,19 @@ module _ (defs : List Def) (globals : List Ty) (constants : List Constant) (fact
         count = refl;
         value = refl;
         is = refl;
+        counted = few;
         whole = whole;
         each = each;
         only = only;
       }))
-  are_elements n _ _ t long (cell u r words v tail rest f l whole s there only i) e = absurd cc
+  are_elements n _ _ t long (cell u r words v tail rest f l whole s there only i older) e = absurd cc
   are_elements n _ _ t long (record_of a r words v f l whole s there only) e = absurd cc
   are_elements n _ _ t long (channel u desc f) e = absurd cc
   are_elements n _ _ t long (instance_of object rs words vs f l whole all there only fixed) e = absurd cc
 
   -- ---- a cell of a list of a type
 
-  pub record IsCell (item : Ty) (v : HeapValue) (b : Block) : Type 0 where
+  pub record IsCell (serial : ℕ) (item : Ty) (v : HeapValue) (b : Block) : Type 0 where
     pub room : Room
     pub words : List Word
     pub head : Value
@@ -74,13 +78,14 @@ module _ (defs : List Def) (globals : List Ty) (constants : List Constant) (fact
     pub there : ReferOnlyThere words 0 room
     pub only : (w to : ℕ) → slice_get words w ≡ Some (Refer (Some to)) → IsWithin 0 room.size w
     pub behind : IsName facts (Some (Cells item)) rest tail
+    pub older : (b : ℕ) → rest ≡ Some b → b < serial
 
   pub is_cell : (n : ℕ) (v : HeapValue) (b : Block) (t : Ty) → IsBlock defs globals constants facts n v b → facts.form n ≡ Some (Cells t)
-      → IsCell t v b
-  is_cell n _ _ t (cell u r words v tail rest f l whole s there only i) e =
+      → IsCell n t v b
+  is_cell n _ _ t (cell u r words v tail rest f l whole s there only i older) e =
       let g : Some (Cells u) ≡ Some (Cells t) = sym f ∙ e in
       let p : u ≡ t = cc in
-      subst (λ (x : Ty). IsCell x (source.Cell v tail) (block.Cell words rest)) p
+      subst (λ (x : Ty). IsCell n x (source.Cell v tail) (block.Cell words rest)) p
       (record {
         room = r;
         words = words;
@@ -95,8 +100,9 @@ module _ (defs : List Def) (globals : List Ty) (constants : List Constant) (fact
         there = there;
         only = only;
         behind = i;
+        older = older;
       })
-  is_cell n _ _ t (elements u r words vs f l whole each only) e = absurd cc
+  is_cell n _ _ t (elements u r words vs f l few whole each only) e = absurd cc
   is_cell n _ _ t (record_of a r words v f l whole s there only) e = absurd cc
   is_cell n _ _ t (channel u desc f) e = absurd cc
   is_cell n _ _ t (instance_of object rs words vs f l whole all there only fixed) e = absurd cc
@@ -133,7 +139,7 @@ module _ (defs : List Def) (globals : List Ty) (constants : List Constant) (fact
         there = there;
         only = only;
       })
-  is_adt n _ _ adt (elements u r words vs f l whole each only) e = absurd cc
-  is_adt n _ _ adt (cell u r words v tail rest f l whole s there only i) e = absurd cc
+  is_adt n _ _ adt (elements u r words vs f l few whole each only) e = absurd cc
+  is_adt n _ _ adt (cell u r words v tail rest f l whole s there only i older) e = absurd cc
   is_adt n _ _ adt (channel u desc f) e = absurd cc
   is_adt n _ _ adt (instance_of object rs words vs f l whole all there only fixed) e = absurd cc

@@ -14,12 +14,12 @@ use Rattle.value_heaps.specs.Blocks.{Constant, IsBlock, elements, cell, record_o
 
 module _ (defs : List Def) (globals : List Ty) (constants : List Constant) (facts later : Facts) (grows : Grows facts later) where
   pub block_later : (n : ℕ) (v : HeapValue) (b : Block) → IsBlock defs globals constants facts n v b → IsBlock defs globals constants later n v b
-  block_later n _ _ (elements t r words vs f l whole each only) =
-      elements t r words vs (grows.forms n (Elements t (length vs)) f) l whole
+  block_later n _ _ (elements t r words vs f l few whole each only) =
+      elements t r words vs (grows.forms n (Elements t (length vs)) f) l few whole
       (λ i v e. stands_later defs facts later words grows _ t v (each i v e)) only
-  block_later n _ _ (cell t r words v tail rest f l whole s there only e) =
+  block_later n _ _ (cell t r words v tail rest f l whole s there only e older) =
       cell t r words v tail rest (grows.forms n (Cells t) f) l whole (stands_later defs facts later words grows 0 t v s) there only
-      (name_later defs facts later words grows (Some (Cells t)) rest tail e)
+      (name_later defs facts later words grows (Some (Cells t)) rest tail e) older
   block_later n _ _ (record_of a r words v f l whole s there only) =
       record_of a r words v (grows.forms n (Adts a) f) l whole (stands_later defs facts later words grows 0 (ty.Adt a) v s) there only
   block_later n _ _ (channel t desc f) = channel t desc (grows.forms n (Channels t) f)

@@ -3,6 +3,7 @@ use Rattle.std.proofs.Common.{◌≡◌, pos, [], ◌∷◌, None, refl}
 use Rattle.limbo_layout.specs.Layout.{Room, number, reference, in_order}
 use Rattle.dis_meaning.specs.Words.{Plain, Refer, blank}
 use Rattle.dis_memory.specs.Blocks.{Array, blank_array}
+use Rattle.dis_memory.specs.Strings.{byte_type}
 use Rattle.value_heaps.specs.Types.{desc_of}
 use Rattle.value_heaps.specs.Made.{record_desc}
 
@@ -18,6 +19,10 @@ no_word = refl
 
 text_record : blank (record_desc with_text) ≡ Plain (pos 0) ∷ Refer None ∷ []
 text_record = refl
+
+-- It is the type by which the machine makes arrays of bytes itself: nothing refers, and the map is empty.
+own_type : desc_of (number 1) ≡ byte_type
+own_type = refl
 
 five_bytes : blank_array (desc_of (number 1)) 5 ≡ Array (desc_of (number 1)) 5 (Plain (pos 0) ∷ Plain (pos 0) ∷ [])
 five_bytes = refl

@@ -1,6 +1,6 @@
 -- The map of a type for values says which words are references: those at the offsets of its room.
 use Rattle.std.proofs.Common.{◌≡◌, ℕ, zero, suc, ◌+◌, ◌-◌, ◌*◌, ◌/◌, ◌%◌, ◌^◌, ◌==◌, ◌<◌, ◌≤◌, Bool, true, false, List, [], ◌∷◌, length}
-use Rattle.std.proofs.Common.{refl, sym, ap, ◌∙◌, arith, subst, inl, inr, map, ◌||◌, Some}
+use Rattle.std.proofs.Common.{refl, sym, ap, ◌∙◌, arith, subst, inl, inr, map, ◌||◌, if◌then◌else◌, Some}
 use Rattle.std.specs.Prelude.{slice_index, slice_index_or, drop}
 use Rattle.std.proofs.Math.Nat.{zero-div, mul-add-div, mul-add-mod_self_left, div-eq_of_lt}
 use Rattle.std.proofs.lemmas.Nat.{pow_pos, pow-add}
@@ -20,7 +20,8 @@ use Rattle.limbo_layout.proofs.Rooms.{has_cases}
 use Rattle.limbo_layout.proofs.Placed.{whole_aligned}
 use Rattle.value_words.proofs.Aligned.{IsPower, laid_power, stays_aligned, suits}
 use Rattle.value_words.proofs.Blank.{mapped, laid_within}
-use Rattle.value_heaps.specs.Types.{bit, bits, bytes, desc_of}
+use Rattle.std.specs.List.{list_any}
+use Rattle.value_heaps.specs.Types.{bit, bits, bytes, map_bytes, desc_of}
 
 -- ---- a byte
 
@@ -101,14 +102,31 @@ byte_at (suc n) (suc q) (b ∷ bs) le =
     byte_at n q (drop 8 (b ∷ bs)) (let l = drop_length 8 (b ∷ bs) in omega (arith, l, le))
     ∙ ap (bits 8) (drop_both 8 (8 * q) (b ∷ bs) ∙ ap (λ k. drop k (b ∷ bs)) (sym e))
 
-pub marks_is : (bs : List Bool) (k : ℕ) → marks (bytes (length bs) bs) k ≡ slice_index_or bs k false
-marks_is bs k =
+all_marked : (bs : List Bool) (k : ℕ) → marks (bytes (length bs) bs) k ≡ slice_index_or bs k false
+all_marked bs k =
     let i = k % 8 in let q = k / 8 in
     let z : 8 * (k / 8) + k % 8 ≡ k = omega arith in
     ap (λ b. (b / 2 ^ (7 - k % 8)) % 2 == 1) (byte_at (length bs) (k / 8) bs (omega arith))
     ∙ bit_at 7 (k % 8) (drop (8 * (k / 8)) bs) (omega arith)
     ∙ get_or-drop (8 * (k / 8)) bs (k % 8) false
     ∙ ap (λ n. slice_index_or bs n false) z
+
+none_marked : (k : ℕ) → marks [] k ≡ false
+none_marked k = ap (λ b. (b / 2 ^ (7 - k % 8)) % 2 == 1) (none (k / 8)) ∙ ap (λ b. b % 2 == 1) (zero-div (2 ^ (7 - k % 8)))
+
+none_set : (bs : List Bool) (k : ℕ) → list_any (λ b. b) bs ≡ false → slice_index_or bs k false ≡ false
+none_set [] zero e = refl
+none_set [] (suc k) e = refl
+none_set (true ∷ bs) k e = absurd cc
+none_set (false ∷ bs) zero e = refl
+none_set (false ∷ bs) (suc k) e = none_set bs k e
+
+pub marks_is : (bs : List Bool) (k : ℕ) → marks (map_bytes bs) k ≡ slice_index_or bs k false
+marks_is bs k = go (list_any (λ b. b) bs) refl
+  where
+    go : (some : Bool) → list_any (λ b. b) bs ≡ some → marks (if some then bytes (length bs) bs else []) k ≡ slice_index_or bs k false
+    go true e = all_marked bs k
+    go false e = none_marked k ∙ sym (none_set bs k e)
 
 -- ---- the offsets
 

@@ -99,11 +99,11 @@ module _ (defs : List Def) (globals : List Ty) (constants : List Constant) (fact
       (b, named_by (Refer (Some b) ∷ words) 0 b refl, itself (e.fact ∙ ap (λ j. Some (Named j)) (sym f)))
 
   pub block_reaches : (n : ℕ) (v : HeapValue) (b : Block) (m : ℕ) → IsBlock defs globals constants facts n v b → 0 < inside v m → HasOne b m
-  block_reaches n _ _ m (elements t r words vs f l whole each only) h =
+  block_reaches n _ _ m (elements t r words vs f l few whole each only) h =
       let s = some_names vs m h in
       let x = reached defs facts words _ t s.value m (each s.number s.value s.there) s.names in
       (x.named, named_by words x.number x.named x.word, x.is)
-  block_reaches n _ _ m (cell t r words v tail rest formed l whole s there only e) h = go (value.one m tail) refl
+  block_reaches n _ _ m (cell t r words v tail rest formed l whole s there only e older) h = go (value.one m tail) refl
     where
       go : (k : ℕ) → value.one m tail ≡ k → HasOne (block.Cell words rest) m
       go (suc k) f = tail_reached words (Some (Cells t)) rest tail m e (omega arith)

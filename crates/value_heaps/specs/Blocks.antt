@@ -1,10 +1,12 @@
 -- When a block of the machine stands for a value of the source's heap, by the form that is known of it.
-use Rattle.std.specs.Prelude.{ℕ, ◌+◌, ◌*◌, ◌%◌, ◌≡◌, ◌<◌, ◌≤◌, ◌⊎◌, List, Option, Some, length, slice_get}
+use Rattle.std.specs.Prelude.{ℕ, pos, ◌+◌, ◌*◌, ◌%◌, ◌≡◌, ◌<◌, ◌≤◌, ◌⊎◌, List, Option, Some, length, slice_get}
 use Rattle.heap_model.specs.Facts.{Chars}
 use Rattle.limbo_types.specs.Types as ty
 use Rattle.limbo_types.specs.Types.{Ty}
 use Rattle.limbo_layout.specs.Adts.{Def, Has}
 use Rattle.limbo_layout.specs.Layout.{Room, nothing, Laid, AllLaid, all_behind}
+use Rattle.limbo_values.specs.declared.number.Kind.TheVariants as kind
+use Rattle.limbo_values.specs.Numbers.{InRange}
 use Rattle.limbo_meaning.specs.Values.{Value}
 use Rattle.limbo_meaning.specs.Memory as source
 use Rattle.limbo_meaning.specs.Memory.{HeapValue}
@@ -55,17 +57,18 @@ pub record HasConstant (defs : List Def) (k : Facts) (words : List Word) (c : Co
 
 module _ (defs : List Def) (globals : List Ty) (constants : List Constant) (k : Facts) (serial : ℕ) where
   pub data IsBlock : HeapValue → Block → Type 0 where
-    -- the elements of an array, one behind the other
+    -- the elements of an array, one behind the other, no more than ints count
     elements : (t : Ty) (r : Room) (words : List Word) (vs : List Value) → k.form serial ≡ Some (form.Elements t (length vs))
-        → Laid defs t r → AreWhole words 0 (length vs * r.size)
+        → Laid defs t r → InRange kind.Int (pos (length vs)) → AreWhole words 0 (length vs * r.size)
         → ((i : ℕ) (v : Value) → slice_get vs i ≡ Some v → Stands defs k words (i * r.size) t v)
         → ((w : ℕ) (to : Option ℕ) → slice_get words w ≡ Some (Refer to) →
         (i : ℕ) × (i < length vs) × ((o : ℕ) × Has r.references o × (i * r.size + o ≡ 4 * w)))
         → IsBlock (source.Elements vs) (block.Array (desc_of r) (length vs) words)
-    -- a cell, with its element and what is behind it
+    -- a cell, with its element and what is behind it, which is older
     cell : (t : Ty) (r : Room) (words : List Word) (v : Value) (tail rest : Option ℕ) → k.form serial ≡ Some (Cells t) → Laid defs t r
         → AreWhole words 0 r.size → Stands defs k words 0 t v → ReferOnlyThere words 0 r
         → ((w b : ℕ) → slice_get words w ≡ Some (Refer (Some b)) → IsWithin 0 r.size w) → IsName k (Some (Cells t)) rest tail
+        → ((b : ℕ) → rest ≡ Some b → b < serial)
         → IsBlock (source.Cell v tail) (block.Cell words rest)
     -- the adt that a `ref` names
     record_of : (n : ℕ) (r : Room) (words : List Word) (v : Value) → k.form serial ≡ Some (Adts n) → Laid defs (ty.Adt n) r

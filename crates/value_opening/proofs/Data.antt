@@ -35,7 +35,7 @@ use Rattle.value_opening.specs.Puts.{Put, OfText, OfNumber, item_of, text_of, te
 use Rattle.value_opening.specs.Putting.{IsPut, ArePut, AllApart}
 use Rattle.value_opening.specs.Laws.{WordsMade}
 use Rattle.value_opening.specs.Opening.{puts_from, Suits}
-use Rattle.value_opening.proofs.Regions.{HasTexts, texts_rest, kind_after, stands_apart, first_put, number_stands, text_stands}
+use Rattle.value_opening.proofs.Regions.{HasTexts, text_here, texts_rest, kind_after, stands_apart, first_put, number_stands, text_stands}
 
 -- ---- words as they are made
 
@@ -321,7 +321,7 @@ module _ (m : typed.Module) where
             | inl e ↦ subst (λ (c : Constant). HasConstant defs k others c) e
                 (first_there (Text t) ds at even s only all ends f.0 others (n + 1) one.kind f.2 (value.Chars t)
                 (text_stands size offsets defs k ws f.0 n at t one
-                (ap k.fact (let g : suc n ≡ suc (n + 0) = omega arith in g) ∙ texts 0 t refl)))
+                (text_here k n (texts_of (p ∷ ps)) t refl texts)))
             | inr i ↦ data_stand ds (at + 8) (omega (arith, even)) s.1 (only_next (Text t) ds at even s only all ends)
                 (all_next (Text t) ds at even s only all ends) ends f.0 others (n + 1) f.2 one.kind
                 (texts_rest k n (t ∷ []) (texts_of ps) texts)

@@ -34,7 +34,7 @@ use Rattle.value_heaps.specs.Blocks.{IsBlock}
 use Rattle.value_code.specs.Data as datum
 use Rattle.value_code.specs.Objects.{globals, constants, all_data_of, object_of}
 use Rattle.value_opening.specs.Putting.{state}
-use Rattle.value_opening.specs.Opening.{data_type, data_texts, IsOfInt, AreOnce, outer}
+use Rattle.value_opening.specs.Opening.{data_type, data_texts, IsOfInt, TextsAreShort, AreOnce, outer}
 use Rattle.value_opening.proofs.Opening.{items_put}
 
 -- What the law says of a module.
@@ -95,9 +95,12 @@ small_spelled = (λ e. (codes "$Sys", (refl, refl)), (λ e. absurd cc, (λ e. (c
 small_once : AreOnce small.initials
 small_once = ((λ e. absurd cc, tt), (tt, tt))
 
+small_short : TextsAreShort small
+small_short = (omega arith, (omega arith, tt))
+
 -- so it begins with its variables as they are declared
 small_put : ItemsAre small
-small_put = items_put small small_sound small_laid small_written small_spelled small_once tt
+small_put = items_put small small_sound small_laid small_written small_spelled small_short small_once tt
 
 small_begins : globals_of small ≡ value.Num (pos 7) ∷ value.Chars (codes "ab") ∷ value.Num (pos 0) ∷ []
 unfolding int_wrap
@@ -117,6 +120,9 @@ notes_spelled = (
   ),
 )
 
+notes_short : TextsAreShort notes
+notes_short = (omega arith, (omega arith, tt))
+
 notes_ints : Each IsOfInt (all_data_of notes)
 notes_ints = (
   tt,
@@ -133,7 +139,7 @@ notes_ints = (
     few n l = record { above = omega (arith, ints, l); below = omega (arith, ints, l) }
 
 notes_put : ItemsAre notes
-notes_put = items_put notes notes_sound notes_laid notes_written notes_spelled tt notes_ints
+notes_put = items_put notes notes_sound notes_laid notes_written notes_spelled notes_short tt notes_ints
 
 -- ---- two initial values: the source takes the first, and the machine has the last
 

@@ -1,7 +1,13 @@
 -- All items of a module's object are put, and its instance stands for that of the module.
-use Rattle.std.proofs.Common.{◌≡◌, ℕ, suc, ◌+◌, ◌*◌, ◌<◌, ◌≤◌, ◌⊎◌, ◌%◌, inl, inr, List, [], ◌∷◌, ◌++◌, map, take}
+use Rattle.std.proofs.Common.{◌≡◌, ℕ, zero, suc, ◌+◌, ◌*◌, ◌<◌, ◌≤◌, ◌⊎◌, ◌%◌, inl, inr, List, [], ◌∷◌, ◌++◌, map, take}
 use Rattle.std.proofs.Common.{length, Bool, true, false, Some, None, refl, sym, ap, ◌∙◌, subst, arith, codes, append_assoc}
-use Rattle.std.specs.Prelude.{slice_get}
+use Rattle.std.specs.Prelude.{slice_get, encode_utf8_all, chars, ◌&&◌}
+use Rattle.std.specs.Str.{IsUtf8}
+use Rattle.std.proofs.lemmas.Str.{chars_from_encodes, scalars-chars}
+use Rattle.std.proofs.Math.Utf8.{scalar_cases}
+use lib.Utf8.{scalar, scalars}
+use Rattle.limbo_values.specs.Texts.{longest}
+use Rattle.limbo_kept.specs.Values.{AreCharacters}
 use Rattle.std.specs.Int.{next_multiple_of}
 use Rattle.heap_model.specs.Facts.{Chars}
 use Rattle.limbo_types.specs.Types as ty
@@ -28,7 +34,7 @@ use Rattle.dis_objects.specs.Objects.{string_item}
 use Rattle.dis_objects.specs.Spelled.{AreSpelled}
 use Rattle.dis_counts.specs.Opening.{loading, with_items, instance_of}
 use Rattle.value_words.specs.Forms.{Instances}
-use Rattle.value_words.specs.Facts.{Facts}
+use Rattle.value_words.specs.Facts.{Facts, IsString}
 use Rattle.value_words.specs.Stands.{Stands, AllStand, a_name, none_stand, more_stand}
 use Rattle.value_words.proofs.Blank.{has_map, mapped, all_within, laid_within, stands_zero}
 use Rattle.value_words.proofs.Bytes.{word_there}
@@ -42,7 +48,7 @@ use Rattle.value_frames.specs.Types.{AreOf}
 use Rattle.value_frames.proofs.Beginning.{frames_begin}
 use Rattle.value_code.specs.Objects.{globals, constants, end_of, data_references, data_place, data_size, all_data_of}
 use Rattle.value_code.specs.Objects.{object_of, initial_items, globals_items, items_from}
-use Rattle.value_opening.specs.Puts.{Put, OfText, item_of, text_of, texts_of, Takes, TakesAll}
+use Rattle.value_opening.specs.Puts.{Put, OfText, OfNumber, item_of, text_of, texts_of, Takes, TakesAll}
 use Rattle.value_opening.specs.Putting.{IsPut, ArePut, AllApart, state}
 use Rattle.value_opening.specs.Opening.{initial_put, type_of, globals_puts, puts_from, data_puts, data_texts, data_offsets, data_type}
 use Rattle.value_opening.specs.Opening.{Suits, AreOnce, outer}
@@ -468,13 +474,41 @@ module _ (m : typed.Module) (laid : AllLaid m.adts (globals m) (rooms_of (rooms_
           (λ w c e. inr (texts_only w c e))
           all_constants
 
+-- A text that is spelled in UTF-8 is of characters.
+scalars_are : (s : List ℕ) → scalars s ≡ true → AreCharacters s
+scalars_are [] e = tt
+scalars_are (c ∷ s) e = go (λ g. scalars_are s g) (scalar c) refl (scalars s) refl e
+  where
+    go : (scalars s ≡ true → AreCharacters s) → (a : Bool) → scalar c ≡ a → (b : Bool) → scalars s ≡ b → (a && b) ≡ true
+        → (c < 1114112) × AreCharacters s
+    go more true f true g e = (elim (scalar_cases c f) [ inl l ↦ omega (arith, l) | inr h ↦ h.1 ], more g)
+    go more true f false g e = absurd cc
+    go more false f b g e = absurd cc
+
+spelled_are : (s : List ℕ) → IsUtf8 (encode_utf8_all s) → AreCharacters s
+spelled_are s u =
+    let same : s ≡ chars (encode_utf8_all s) = chars_from_encodes s (encode_utf8_all s) u refl in
+    scalars_are s (ap scalars same ∙ scalars-chars (encode_utf8_all s) u)
+
+-- Texts that are put, and no longer than strings may be, are strings.
+texts_are : (size : ℕ) (offsets : List ℕ) (ps : List Put) → TakesAll size offsets ps → Each (λ (t : List ℕ). length t ≤ longest) (texts_of ps)
+    → (j : ℕ) (t : List ℕ) → slice_get (texts_of ps) j ≡ Some t → IsString t
+texts_are size offsets [] takes short j t e = absurd cc
+texts_are size offsets (OfText at s ∷ ps) takes short zero t e =
+    let same : s ≡ t = cc in subst IsString same (spelled_are s takes.0.2, short.0)
+texts_are size offsets (OfText at s ∷ ps) takes short (suc j) t e = texts_are size offsets ps takes.1 short.1 j t e
+texts_are size offsets (OfNumber at k z ∷ ps) takes short j t e = texts_are size offsets ps takes.1 short j t e
+
 pub items_put : ItemsPut
-items_put m sound adts written spelled once ints =
+items_put m sound adts written spelled short once ints =
     let laid = globals_laid m sound adts in
     let suit = data_suit m sound adts written ints in (
       refl,
       (put m laid suit sound.initials once spelled).0,
       items_found m laid suit sound.initials once spelled,
       λ k fact form texts. instance_is m laid suit sound.initials once spelled k
-          (λ j t e. ap k.fact (let f : suc (0 + j) ≡ suc j = omega arith in f) ∙ texts j t e) form,
+          (λ j t e. (
+            ap k.fact (let f : suc (0 + j) ≡ suc j = omega arith in f) ∙ texts j t e,
+            texts_are (data_size m) (data_offsets m) (data_puts m) (all_take m laid suit sound.initials once spelled) short j t e,
+          )) form,
     )

@@ -14,7 +14,7 @@ use Rattle.limbo_meaning.specs.Values as value
 use Rattle.limbo_meaning.specs.Values.{Value, Num}
 use Rattle.dis_meaning.specs.Words.{Word, Refer}
 use Rattle.value_words.specs.Contents.{SameBytes}
-use Rattle.value_words.specs.Facts.{Facts}
+use Rattle.value_words.specs.Facts.{Facts, IsText}
 use Rattle.value_words.specs.Stands.{Stands, a_number, a_text}
 use Rattle.value_words.proofs.Moved.{moved}
 use Rattle.value_words.proofs.Rows.{in_front, further}
@@ -23,17 +23,22 @@ use Rattle.value_moves.specs.Changing.{Changes}
 use Rattle.value_opening.specs.Puts.{Put, OfText, OfNumber, place, extent, text_of, texts_of}
 use Rattle.value_opening.specs.Putting.{IsPut, ArePut, none_put, more_put, IsApart, AllApart}
 
--- Of texts behind so many others it is known that their blocks have them.
+-- Of texts behind so many others, which are strings, it is known that their blocks have them.
 abbrev pub HasTexts : Facts → (before : ℕ) → List (List ℕ) → Type 0
-HasTexts k n ts = (j : ℕ) (t : List ℕ) → slice_get ts j ≡ Some t → k.fact (suc (n + j)) ≡ Some (Chars t)
+HasTexts k n ts = (j : ℕ) (t : List ℕ) → slice_get ts j ≡ Some t → IsText k (Some (suc (n + j))) t
+
+-- the first of them
+pub text_here : (k : Facts) (n : ℕ) (ts : List (List ℕ)) (t : List ℕ) → slice_get ts 0 ≡ Some t → HasTexts k n ts → IsText k (Some (suc n)) t
+text_here k n ts t e h =
+    let i = h 0 t e in (ap k.fact (let f : suc n ≡ suc (n + 0) = omega arith in f) ∙ i.0, i.1)
 
 pub texts_first : (k : Facts) (n : ℕ) (a b : List (List ℕ)) → HasTexts k n (a ++ b) → HasTexts k n a
 texts_first k n a b h j t e = h j t (in_front a b j t e)
 
 pub texts_rest : (k : Facts) (n : ℕ) (a b : List (List ℕ)) → HasTexts k n (a ++ b) → HasTexts k (n + length a) b
 texts_rest k n a b h j t e =
-    ap k.fact (let f : suc (n + length a + j) ≡ suc (n + (length a + j)) = omega arith in f)
-    ∙ h (length a + j) t (further a b j (length a + j) t refl e)
+    let i = h (length a + j) t (further a b j (length a + j) t refl e) in
+    (ap k.fact (let f : suc (n + length a + j) ≡ suc (n + (length a + j)) = omega arith in f) ∙ i.0, i.1)
 
 module _ (size : ℕ) (references : List ℕ) where
   abbrev All : (words others : List Word) → (n : ℕ) → List Put → Type 0
@@ -115,8 +120,8 @@ module _ (size : ℕ) (references : List ℕ) where
         first (inl f) = inl f
         first (inr f) = inr (
           f.0,
-          ap k.fact (f.2 ∙ (let g : suc n ≡ suc (n + 0) = omega arith in g))
-              ∙ texts_first k n (text_of p) (texts_of ps) texts 0 f.0 (ap (λ (ts : List (List ℕ)). slice_get ts 0) f.1),
+          ap k.fact f.2
+              ∙ (text_here k n (text_of p) f.0 (ap (λ (ts : List (List ℕ)). slice_get ts 0) f.1) (texts_first k n (text_of p) (texts_of ps) texts)).0,
         )
 
         go : (slice_get between w ≡ Some (Refer (Some b))) ⊎ ((t : List ℕ) × (k.fact b ≡ Some (Chars t)))
@@ -130,5 +135,5 @@ module _ (size : ℕ) (references : List ℕ) where
     number_stands words others n at j z p i = a_number at j z p.there i
 
     pub text_stands : (words others : List Word) (n at : ℕ) (t : List ℕ) → IsPut size references words others n (OfText at t)
-        → k.fact (suc n) ≡ Some (Chars t) → Stands defs k others at ty.Chars (value.Chars t)
+        → IsText k (Some (suc n)) t → Stands defs k others at ty.Chars (value.Chars t)
     text_stands words others n at t p f = a_text at (Some (suc n)) t p.there f

@@ -40,7 +40,7 @@ use Rattle.value_code.specs.Objects.{globals}
 use Rattle.value_opening.specs.Puts.{Put, OfText, place, extent, text_of, texts_of, Takes}
 use Rattle.value_opening.specs.Putting.{IsPut, ArePut, none_put, more_put, IsApart, AllApart}
 use Rattle.value_opening.specs.Opening.{initial_put, type_of, globals_puts, AreOnce}
-use Rattle.value_opening.proofs.Regions.{HasTexts, texts_first, texts_rest, stands_apart, first_put, number_stands, text_stands}
+use Rattle.value_opening.proofs.Regions.{HasTexts, text_here, texts_first, texts_rest, stands_apart, first_put, number_stands, text_stands}
 use Rattle.value_opening.proofs.Globals.{laid_at, offset_even, offset_ends, offsets_apart, about, references_there}
 
 -- ---- numbers that are the same, or not
@@ -264,8 +264,7 @@ module _ (m : typed.Module) (laid : AllLaid m.adts (globals m) (rooms_of (rooms_
           subst (λ (u : Ty). Stands defs k others at u (fitted defs u (value.Chars cs))) (sym i)
           (text_stands size offsets defs k ws others n at cs
           (subst (λ (u : Ty). IsPut size offsets ws others n (initial_put m u at (constant.Chars cs))) i p)
-          (ap k.fact (let g : suc n ≡ suc (n + 0) = omega arith in g)
-          ∙ subst (λ (u : Ty). HasTexts k n (text_of (initial_put m u at (constant.Chars cs)))) i h 0 cs refl))
+          (text_here k n (cs ∷ []) cs refl (subst (λ (u : Ty). HasTexts k n (text_of (initial_put m u at (constant.Chars cs)))) i h)))
 
       -- a variable without an initial value stays as it is, and one with one stands for that
       not_again : (x : ℕ) (t : Ty) → slice_get types x ≡ Some t → (is : List Initial) → Each (SoundInitial m) is

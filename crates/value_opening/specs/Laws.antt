@@ -18,7 +18,7 @@ use Rattle.value_heaps.specs.Blocks.{IsBlock}
 use Rattle.value_frames.specs.Types.{desc}
 use Rattle.value_code.specs.Objects.{globals, constants, all_data_of, object_of}
 use Rattle.value_opening.specs.Putting.{state}
-use Rattle.value_opening.specs.Opening.{data_type, data_texts, Suits, IsOfInt, AreOnce, outer}
+use Rattle.value_opening.specs.Opening.{data_type, data_texts, Suits, IsOfInt, TextsAreShort, AreOnce, outer}
 
 -- Words of a type as they are made: those at its offsets refer to nothing, and all others are zero.
 pub record WordsMade : Type 0 where
@@ -33,14 +33,14 @@ DataSuit =
     (m : typed.Module) → IsSound m → AdtsAreLaid m.adts → TextsAreWritten m → Each IsOfInt (all_data_of m) →
     Each (Suits m) (all_data_of m)
 
--- Of a sound module whose adts have layouts, whose written texts are of characters, and spelled in UTF-8, whose variables have one initial
--- value each at most, and of which each number in one word is an int: all items of its object are put; behind the instance are the texts,
--- in their order; and wherever it is known of them that they are these texts, the instance stands for that of the module's variables as
--- they begin, and has all constants.
+-- Of a sound module whose adts have layouts, whose written texts are of characters, spelled in UTF-8, and no longer than strings may be,
+-- whose variables have one initial value each at most, and of which each number in one word is an int: all items of its object are put;
+-- behind the instance are the texts, in their order; and wherever it is known of them that they are these texts, the instance stands for
+-- that of the module's variables as they begin, and has all constants.
 abbrev pub ItemsPut : Type 0
 ItemsPut =
-    (m : typed.Module) → IsSound m → AdtsAreLaid m.adts → TextsAreWritten m → AreSpelled (object_of m).items → AreOnce m.initials →
-    Each IsOfInt (all_data_of m) →
+    (m : typed.Module) → IsSound m → AdtsAreLaid m.adts → TextsAreWritten m → AreSpelled (object_of m).items → TextsAreShort m →
+    AreOnce m.initials → Each IsOfInt (all_data_of m) →
     (type_of (object_of m) 0 ≡ Found (data_type m))
     × (words : List Word)
     × (with_items (object_of m) (loading (instance_of (data_type m)) (record { serial = 0; from = 0 }) []) (object_of m).items

@@ -1,9 +1,10 @@
 -- The items of a module's object, as what they put, and what a machine of the object begins with in the module's data.
-use Rattle.std.specs.Prelude.{ℕ, ◌+◌, ◌≡◌, List, [], ◌∷◌, ◌++◌, map, codes, slice_index_or}
+use Rattle.std.specs.Prelude.{ℕ, ◌+◌, ◌≡◌, ◌≤◌, List, [], ◌∷◌, ◌++◌, length, map, codes, slice_index_or}
 use Rattle.limbo_types.specs.Types as ty
 use Rattle.limbo_types.specs.Types.{Ty}
 use Rattle.limbo_values.specs.declared.number.Kind.TheVariants as kind
 use Rattle.limbo_values.specs.Numbers.{InRange}
+use Rattle.limbo_values.specs.Texts.{longest}
 use Rattle.limbo_typed.specs.Typed as typed
 use Rattle.limbo_typed.specs.Sound.{Each}
 use Rattle.limbo_typed.specs.declared.module.Initial.{Initial}
@@ -75,6 +76,10 @@ module _ (m : typed.Module) where
 abbrev pub IsOfInt : Datum → Type 0
 IsOfInt (Word z) = InRange kind.Int z
 IsOfInt d = Unit {0}
+
+-- No text that the data have is longer than strings may be.
+abbrev pub TextsAreShort : typed.Module → Type 0
+TextsAreShort m = Each (λ (t : List ℕ). length t ≤ longest) (data_texts m)
 
 -- No variable has two initial values.
 abbrev pub AreOnce : List Initial → Type 0

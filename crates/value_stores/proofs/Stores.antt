@@ -1,5 +1,5 @@
 -- What lies in a block, and for what it stands once part of it is written.
-use Rattle.std.proofs.Common.{◌≡◌, ℕ, zero, suc, ◌+◌, ◌*◌, ◌<◌, ◌≤◌, ◌⊎◌, ◌%◌, ◌/◌, List, [], ◌∷◌, length, Option, Some}
+use Rattle.std.proofs.Common.{◌≡◌, ℕ, zero, suc, pos, ◌+◌, ◌*◌, ◌<◌, ◌≤◌, ◌⊎◌, ◌%◌, ◌/◌, List, [], ◌∷◌, length, Option, Some}
 use Rattle.std.proofs.Common.{refl, sym, ap, ◌∙◌, subst, arith, inl, inr}
 use Rattle.std.specs.Prelude.{slice_get, slice_set}
 use Rattle.std.proofs.Math.Nat.{mul-mod_left, mul-le-mul_right, mul_assoc, suc-mul, zero-mod}
@@ -11,6 +11,8 @@ use Rattle.limbo_types.specs.Types.{Ty}
 use Rattle.limbo_layout.specs.Adts.{Def, Has}
 use Rattle.limbo_layout.specs.Layout.{Room, Laid, AllLaid, nothing, all_behind}
 use Rattle.limbo_layout.specs.Laying.{rooms_of}
+use Rattle.limbo_values.specs.declared.number.Kind.TheVariants.{Int}
+use Rattle.limbo_values.specs.Numbers.{InRange}
 use Rattle.limbo_meaning.specs.Values.{Value}
 use Rattle.limbo_meaning.specs.Memory as source
 use Rattle.limbo_meaning.specs.Memory.{HeapValue}
@@ -123,6 +125,7 @@ module _ (defs : List Def) (globals : List Ty) (constants : List Constant) (k : 
   record Elements (t : Ty) (words : List Word) (vs : List Value) (r : Room) : Type 0 where
     formed : k.form serial ≡ Some (form.Elements t (length vs))
     laid : Laid defs t r
+    counted : InRange Int (pos (length vs))
     whole : AreWhole words 0 (length vs * r.size)
     each : (i : ℕ) (v : Value) → slice_get vs i ≡ Some v → Stands defs k words (i * r.size) t v
     only : (w : ℕ) (to : Option ℕ) → slice_get words w ≡ Some (Refer to)
@@ -150,6 +153,7 @@ module _ (defs : List Def) (globals : List Ty) (constants : List Constant) (k : 
             (record {
               formed = e ∙ ap (λ (m : ℕ). Some (form.Elements t m)) (sym count);
               laid = a.laid;
+              counted = subst (λ (m : ℕ). InRange Int (pos m)) (sym count) a.counted;
               whole = subst (λ (m : ℕ). AreWhole a.words 0 (m * a.room.size)) (sym count) a.whole;
               each = a.each;
               only = λ w to h.
@@ -230,6 +234,7 @@ module _ (defs : List Def) (globals : List Ty) (constants : List Constant) (k : 
     element_stands : Stand (source.Elements us) (block.Array (desc_of (room_for defs t)) (length us) others)
     element_stands =
         elements t r others us (a.formed ∙ ap (λ (m : ℕ). Some (form.Elements t m)) (sym many)) a.laid
+        (subst (λ (m : ℕ). InRange Int (pos m)) (sym many) a.counted)
         (subst (λ (m : ℕ). AreWhole others 0 (m * r.size)) (sym many)
         (whole_stays words others to p.source p.from size p.writes 0 (length vs * r.size) p.lies.whole.1 a.whole))
         each_stands
@@ -309,8 +314,8 @@ module _ (defs : List Def) (globals : List Ty) (constants : List Constant) (k : 
 
   instance_is : (v : HeapValue) (b : Block) → Stand v b → (object : ℕ) (words : List Word) (vs : List Value) → v ≡ source.Instance vs
       → b ≡ block.Instance object words → InstanceIs words vs
-  instance_is _ _ (elements t r ws us f l whole each only) object words vs e g = absurd cc
-  instance_is _ _ (cell t r ws v tail rest f l whole s there only i) object words vs e g = absurd cc
+  instance_is _ _ (elements t r ws us f l few whole each only) object words vs e g = absurd cc
+  instance_is _ _ (cell t r ws v tail rest f l whole s there only i older) object words vs e g = absurd cc
   instance_is _ _ (record_of n r ws v f l whole s there only) object words vs e g = absurd cc
   instance_is _ _ (channel t desc f) object words vs e g = absurd cc
   instance_is _ _ (instance_of o rs ws us f l whole all there only fixed) object words vs e g =

@@ -29,11 +29,11 @@ module _ (defs : List Def) (facts later : Facts) (words : List Word) (grows : Gr
   part_later t (Some b) None h = absurd h
   part_later t (Some b) (Some p) (inl h) = inl (formed_later (Elements t p.long) b p.array h.0, h.1)
   part_later t (Some b) (Some p) (inr h) =
-      inr (grows.facts b (Part p.array p.start p.long) h.0, (h.1.0, (h.1.1.0, formed_later (Elements t h.1.1.0) h.1.0 p.array h.1.1.1)))
+      inr (grows.facts b (Part p.array p.start p.long) h.0, (h.1.0, (h.1.1.0, (formed_later (Elements t h.1.1.0) h.1.0 p.array h.1.1.1.0, h.1.1.1.1))))
 
-  text_later : (r : Option ℕ) (s : List ℕ) → IsText facts r s → IsText later r s
+  pub text_later : (r : Option ℕ) (s : List ℕ) → IsText facts r s → IsText later r s
   text_later None s h = h
-  text_later (Some b) s h = grows.facts b (Chars s) h
+  text_later (Some b) s h = (grows.facts b (Chars s) h.0, h.1)
 
   mutual
     pub stands_later : (at : ℕ) (t : Ty) (v : Value) → Stands defs facts words at t v → Stands defs later words at t v

@@ -1,0 +1,172 @@
+-- A number on its way in the frame's linkage, while a record is filled.
+use Rattle.std.proofs.Common.{◌≡◌, ◌⊎◌, ℕ, ℤ, suc, pos, ◌+◌, ◌*◌, ◌/◌, ◌<◌, ◌≤◌, List, [], ◌∷◌, length, map, Option, Some, refl, ap, subst, ◌∙◌, arith, inl, inr}
+use Rattle.std.specs.Prelude.{slice_get}
+use Rattle.std.specs.List.{range_with_len}
+use Rattle.process_model.specs.Process.{Went}
+use Rattle.limbo_types.specs.Types.{Ty}
+use Rattle.limbo_layout.specs.Adts.{Def, Has}
+use Rattle.limbo_layout.proofs.Rooms.{has_cases}
+use Rattle.limbo_values.specs.declared.number.Kind.TheVariants as kind
+use Rattle.limbo_typed.specs.Typed as typed
+use Rattle.limbo_meaning.specs.Process.{Shared}
+use Rattle.system_model.specs.Limits.{frames_limit}
+use Rattle.core_code.specs.Machine as code
+use Rattle.dis_isa.specs.declared.inst.Inst.{Inst}
+use Rattle.dis_meaning.specs.Words.{Word, Plain, Refer, Address, Access, plain, Found, ◌>>=◌, or_wrong, type_check, number_in, word_at}
+use Rattle.dis_meaning.specs.Numbers.{number_at, joined, nth_number}
+use Rattle.dis_meaning.specs.Process.{Process}
+use Rattle.dis_memory.specs.Blocks.{World}
+use Rattle.dis_memory.specs.Step.{obey}
+use Rattle.value_words.specs.Facts.{Facts}
+use Rattle.value_words.proofs.Blank.{mapped}
+use Rattle.value_words.proofs.Bytes.{word_there}
+use Rattle.value_words.proofs.Rows.{is_there}
+use Rattle.value_frames.specs.Frames.{answer_place, passing_place, linkage_bytes, spare_place, reference_place, row_of, frame_bytes, frame_references}
+use Rattle.value_frames.specs.Types.{AreOf}
+use Rattle.value_frames.specs.Slots.{ElseAsWas}
+use Rattle.value_frames.proofs.Replacing.{kinds_stay}
+use Rattle.value_frames.proofs.Slots.{slots_change}
+use Rattle.value_moves.specs.Changing.{Changes}
+use Rattle.value_moves.specs.Operands.{own}
+use Rattle.value_moves.specs.Spots.{Leads}
+use Rattle.value_moves.proofs.Changing.{low_or_high}
+use Rattle.value_moves.proofs.Leading.{spots_lead}
+use Rattle.value_code.specs.Objects.{object_of}
+use Rattle.value_words.specs.Contents.{AreInRange}
+use Rattle.number_effects.specs.Giving.{after}
+use Rattle.number_effects.specs.Stepping.{Reaches}
+use Rattle.number_effects.proofs.Stepping.{steps_obey}
+use Rattle.value_follows.specs.Stands.{types_of, Awaited}
+use Rattle.value_follows.specs.Sides.{sides}
+use Rattle.value_follows.specs.Rows.{Base}
+use Rattle.value_follows.proofs.Standing.{stands_on}
+use Rattle.value_follows.proofs.Putting.{word_same}
+use Rattle.value_follows.proofs.Several.{moved_to}
+use Rattle.rows_boxes.proofs.Boxing.{Boxing, box_place}
+use Rattle.rows_boxes.proofs.Bigs.{has_number}
+
+is_plain : (w : Word) → ((r : Option ℕ) → w ≡ Refer r → ⊥) → plain w ≡ Found w
+is_plain (Plain z) none = refl
+is_plain (Refer r) none = absurd (none r refl)
+is_plain (Address place to) none = refl
+
+-- ---- no word of the linkage refers
+
+module _ (defs : List Def) (types : List Ty) (n : ℕ) (words : List Word) (are : AreOf (frame_bytes defs types n) (frame_references defs types n) words) where
+  past_linkage : (o : ℕ) → Has (frame_references defs types n) o → linkage_bytes ≤ o
+  past_linkage o h = elim (has_cases (map (λ o. linkage_bytes + o) (row_of defs types).references)
+      (spare_place defs types ∷ map (λ s. reference_place defs types s) (range_with_len 0 n)) o h) [
+        | inl i ↦ let a = mapped (λ o. linkage_bytes + o) (row_of defs types).references o i in let e = a.2 in omega (arith, e)
+        | inr (inl e) ↦ omega (arith, e)
+        | inr (inr i) ↦ let a = mapped (λ s. reference_place defs types s) (range_with_len 0 n) o i in let e = a.2 in omega (arith, e)
+      ]
+
+  pub record LinkageWord (w : ℕ) : Type 0 where
+    pub old : Word
+    pub there : slice_get words w ≡ Some old
+    pub no_refer : (r : Option ℕ) → old ≡ Refer r → ⊥
+    pub number : ℤ
+    pub read : nth_number words w ≡ Found number
+
+  pub linkage_word : (w : ℕ) → w < 8 → LinkageWord w
+  linkage_word w l =
+      let many = are.many in
+      let old = is_there words w (omega (arith, many, l)) in
+      let no : (r : Option ℕ) → old.0 ≡ Refer r → ⊥ = λ r e.
+      (let p = past_linkage (4 * w) (are.only w r (old.1 ∙ ap (λ (v : Word). Some v) e)) in absurd (omega (arith, p, l))) in
+      let z = has_number old.0 no in
+      record {
+        old = old.0;
+        there = old.1;
+        no_refer = no;
+        number = z.0;
+        read = ap (λ (o : Option Word). or_wrong type_check o >>= number_in) old.1 ∙ z.1;
+      }
+
+  -- the word there
+  pub record PassingWord : Type 0 where
+    pub old : Word
+    pub plainly : word_at words (pos passing_place) >>= plain ≡ Found old
+
+  pub passing_word : PassingWord
+  passing_word =
+      let a = linkage_word 5 (omega arith) in
+      record {
+        old = a.old;
+        plainly = ap (λ (o : Access Word). o >>= plain) (word_there words passing_place a.old (omega arith) a.there) ∙ is_plain a.old a.no_refer;
+      }
+
+  -- a number that may come to pass there is read
+  pub passing_int : (z : ℤ) × (number_at kind.Int words (pos passing_place) ≡ Found z)
+  passing_int = let a = linkage_word 5 (omega arith) in (a.number, a.read)
+
+  pub passing_big : (z : ℤ) × (number_at kind.Big words (pos passing_place) ≡ Found z)
+  passing_big =
+      let a = linkage_word 5 (omega arith) in
+      let c = linkage_word 6 (omega arith) in (
+        joined a.number c.number,
+        ap (λ (o : Access ℤ). o >>= λ high. nth_number words 6 >>= λ low. Found (joined high low)) a.read
+            ∙ ap (λ (o : Access ℤ). o >>= λ low. Found (joined a.number low)) c.read,
+      )
+
+-- ---- an int comes there
+
+module _ (m : typed.Module) (b : Base m) (number : ℕ) (f : typed.Function) (t : Ty) (into : ℕ) (j box : ℕ) (inner : List Word) (i : ℕ) (p : code.Process)
+    (q : Process) (k : Facts) (w : Shared) (x : World) (s : Boxing m number f t into j box inner k i x p q) where
+  abbrev pub passing_leads : Leads x q (own passing_place) q.frame.words passing_place
+  passing_leads = (spots_lead.own x q passing_place).0
+
+  pub old_int : (z : ℤ) × (number_at kind.Int q.frame.words (pos passing_place) ≡ Found z)
+  old_int = passing_int m.adts (types_of m s.stands.is.function) (length p.frame.slots) q.frame.words s.stands.is.words.kind
+
+  -- other words there
+  module _ (inst : Inst) (words : List Word) (changes : Changes q.frame.words words passing_place 4) (ranged : AreInRange words)
+      (obeys : obey frames_limit (object_of m) x q inst inst.op ≡ after x q passing_leads.place words) where
+    pub passed_goes : Reaches (object_of m ∷ []) x q (object_of m) inst
+        → (sides m).code.step x q ≡ Went x (moved_to q (suc q.frame.pc) words)
+    passed_goes reaches =
+        steps_obey.stores frames_limit (object_of m ∷ []) x q (object_of m) inst x passing_leads.place words _ reaches obeys
+        ((spots_lead.own x q passing_place).1 words)
+
+    -- what doesn't lie there is as it was
+    pub passed_stays : (at : ℕ) → (4 * (at / 4) + 4 ≤ passing_place) ⊎ (passing_place + 4 ≤ 4 * (at / 4))
+        → word_at words (pos at) ≡ word_at q.frame.words (pos at)
+    passed_stays at h = word_same q.frame.words words at (changes.words (at / 4) h)
+
+    else_as_was : ElseAsWas q.frame.words words 0 linkage_bytes
+    else_as_was = record {
+      each = λ u no. elim (low_or_high (4 * u) linkage_bytes) [
+        | inl low ↦ absurd (no (omega arith, low))
+        | inr high ↦ changes.words u (inr (omega (arith, high)))
+      ];
+    }
+
+    pub boxing_passed : Boxing m number f t into (suc j) box inner k i x p (moved_to q (suc q.frame.pc) words)
+    boxing_passed =
+        let is = s.stands.is in
+        let are = is.words in
+        let types = types_of m is.function in
+        let kind = kinds_stay.all (frame_bytes m.adts types (length p.frame.slots)) (frame_references m.adts types (length p.frame.slots))
+        q.frame.words words are.kind changes.many changes.refer changes.referred ranged in
+        let after = slots_change.linkage m.adts k x.heap q.frame.serial (into ∷ []) types is.known p.frame.variables p.frame.slots q.frame.words
+        words are else_as_was kind in
+        let on = stands_on m k i x (into ∷ []) Awaited p q s.stands (into ∷ []) p.frame.pc (suc q.frame.pc) is.known p.frame.variables p.frame.slots
+        words q.made refl after.0 (λ r c h. is.mine r c (subst (λ (o : ℕ → List ℕ). Has (o r) c) after.1 h)) s.stands.goes
+        (passed_stays answer_place (inl (omega arith))) in
+        record {
+          stands = record { number = on.stands.number; is = on.stands.is; goes = on.stands.goes; waits = on.stands.waits };
+          number_is = on.number ∙ s.number_is;
+          function_is = on.function ∙ s.function_is;
+          pc = (let e = s.pc in omega (arith, e));
+          spare = passed_stays (spare_place m.adts (types_of m f)) (inr (omega arith)) ∙ s.spare;
+          none_made = s.none_made;
+          word = passed_stays (box_place m number f t into) (inr (omega arith)) ∙ s.word;
+          there = s.there;
+          none = s.none;
+          made = s.made;
+          formed = s.formed;
+          kind = s.kind;
+          bare = s.bare;
+          apart = λ r h. s.apart r (subst (λ (o : ℕ → List ℕ). Has (o r) box) (on.own ∙ after.1) h);
+          unnamed = s.unnamed;
+        }

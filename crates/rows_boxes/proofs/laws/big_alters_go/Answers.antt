@@ -1,0 +1,5 @@
+use Rattle.rows_boxes.proofs.BigWorks as proved
+use Rattle.rows_boxes.proofs.laws.big_alters_go.Goals as goal
+
+pub returns : goal.returns
+returns c = proved.big_alters_go

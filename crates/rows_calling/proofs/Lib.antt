@@ -1,0 +1,17 @@
+pub mod OnTheWay
+pub mod Linking
+pub mod Making
+pub mod Clean
+pub mod Calling
+pub mod Framing
+pub mod Answering
+pub mod Plain
+pub mod Sound
+pub mod NextRow
+pub mod Ints
+pub mod Tidying
+pub mod Replies
+pub mod Blocks
+pub mod Boxing
+pub mod Boxed
+pub mod Parameters

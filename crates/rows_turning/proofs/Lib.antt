@@ -1,0 +1,10 @@
+pub mod Element
+pub mod Loops
+pub mod Nexts
+pub mod Reached
+pub mod Ends
+pub mod Regions
+pub mod Lifted
+pub mod Copied
+pub mod Marks
+pub mod Returned
