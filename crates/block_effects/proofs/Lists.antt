@@ -8,6 +8,7 @@ use Rattle.dis_file.specs.declared.object.Object.{Object}
 use Rattle.limbo_values.specs.declared.number.Kind.{Kind}
 use Rattle.limbo_values.specs.declared.number.Kind.TheVariants as kind
 use Rattle.limbo_values.specs.declared.number.Kind.TheVariants.{Int}
+use Rattle.limbo_values.specs.Numbers.{wrapped}
 use Rattle.dis_meaning.specs.Words.{Word, Refer, Access, Found, ◌>>=◌, at_least_zero, word_number, reference, blank}
 use Rattle.dis_meaning.specs.Numbers.{with_number_at}
 use Rattle.dis_meaning.specs.Process.{Process}
@@ -137,7 +138,7 @@ module _ (limit : ℕ) (o : Object) (x : World) (p : Process) where
         on (source_reference x p a >>= first_cell x) None _ (cell_read a None r) ∙ reference_raised x p b d _ nil_text refl;
     long = λ a b m r n others d e f g.
         on (source_reference x p a >>= list_length x) n _ (on (source_reference x p a) r (list_length x) e ∙ f)
-        ∙ number_given x p Int b d _ (pos n) others refl g;
+        ∙ number_given x p Int b d _ (wrapped Int (pos n)) others refl g;
   }
 
   -- ---- channels

@@ -1,5 +1,5 @@
 -- What instructions on strings come to.
-use Rattle.std.proofs.Common.{◌≡◌, ℕ, ℤ, pos, suc, List, length, Some, Result, Ok, Err, refl, ap, ◌∙◌}
+use Rattle.std.proofs.Common.{◌≡◌, ℕ, ℤ, pos, suc, List, length, Option, Some, Result, Ok, Err, refl, ap, ◌∙◌}
 use Rattle.std.specs.Prelude.{encode_utf8_all}
 use Rattle.dis_isa.specs.declared.inst.Inst.{Inst}
 use Rattle.dis_isa.specs.declared.inst.Middle.{Middle}
@@ -22,13 +22,13 @@ use Rattle.dis_memory.specs.Blocks.{Text, World}
 use Rattle.dis_memory.specs.Raising.{unless_raised}
 use Rattle.dis_memory.specs.Places.{spot, source_of, given_of, source_reference, middle_reference, reference_at}
 use Rattle.dis_memory.specs.Operands.{target}
-use Rattle.dis_memory.specs.Kinds.{text_at, elements_at}
+use Rattle.dis_memory.specs.Kinds.{Elements, text_at, elements_at}
 use Rattle.dis_memory.specs.Strings.{not_longer, with_character, inserted, bytes_in, array_of, text_row, left_text, compares}
 use Rattle.dis_memory.specs.Results.{gives_block, gives_block_at}
 use Rattle.dis_memory.specs.Step.{obey, by_texts}
 use Rattle.value_moves.specs.Operands.{inst}
 use Rattle.value_moves.proofs.Obeying.{on}
-use Rattle.block_effects.specs.Stored.{Comes, ReferenceThere, ReadsText, GivesText, AfterBlock}
+use Rattle.block_effects.specs.Stored.{Comes, ReferenceThere, ReadsText, GivesText, ReadsElements, AfterBlock}
 use Rattle.block_effects.specs.Strings.{TextsJoin, TextsAreRead, CharactersInsert, TextsCompare, TextsConvert, StringsComeAll}
 use Rattle.block_effects.proofs.Giving.{stops, gone_well, raises, number_given, number_raised, block_at_is, block_at_raised, block_given}
 use Rattle.block_effects.proofs.Giving.{block_raised, old_reference}
@@ -159,6 +159,14 @@ module _ (limit : ℕ) (o : Object) (x : World) (p : Process) where
 
   -- ---- conversions
 
+  bytes_given : (a b : Operand) (m : Middle) (es : Option Elements) (bytes : List ℕ) → ReadsElements x p a es → bytes_in es ≡ Found bytes
+      → obey limit o x p (inst op.Cvtac a m b) op.Cvtac
+      ≡ gives_block x p b (unless_raised (not_longer (characters 0 bytes)) >>= λ t. Found (Text t))
+  bytes_given a b m es bytes r e =
+      on (source_reference x p a >>= elements_at x >>= bytes_in) bytes
+      (λ bs. gives_block x p b (unless_raised (not_longer (characters 0 bs)) >>= λ t. Found (Text t)))
+      (on (source_reference x p a >>= elements_at x) es bytes_in (on (source_reference x p a) r.0 (elements_at x) r.1 ∙ r.2) ∙ e)
+
   convert : TextsConvert limit o x p
   convert = record {
     of_int = λ a b m z d r. on (source_of Int x p a) z _ r ∙ block_given x p b d _ (Text (number_text z)) refl;
@@ -171,10 +179,12 @@ module _ (limit : ℕ) (o : Object) (x : World) (p : Process) where
         on (source_reference x p a >>= text_at x) s _ (text_read a s r) ∙ block_given x p b d (array_of (encode_utf8_all s)) new e;
     as_bytes_raises = λ a b m s text d r e.
         on (source_reference x p a >>= text_at x) s _ (text_read a s r) ∙ block_raised x p b d (array_of (encode_utf8_all s)) text e;
-    of_bytes = λ a b m es bytes d r e.
-        on (source_reference x p a >>= elements_at x >>= bytes_in) bytes (λ bs. gives_block x p b (Found (Text (characters 0 bs))))
-        (on (source_reference x p a >>= elements_at x) es bytes_in (on (source_reference x p a) r.0 (elements_at x) r.1 ∙ r.2) ∙ e)
-        ∙ block_given x p b d _ (Text (characters 0 bytes)) refl;
+    of_bytes = λ a b m es bytes s d r e f.
+        bytes_given a b m es bytes r e ∙ block_given x p b d _ (Text s) (made (not_longer (characters 0 bytes)) s f);
+    of_bytes_raises = λ a b m es bytes raised d r e f.
+        bytes_given a b m es bytes r e
+        ∙ block_raised x p b d _ (text_of raised)
+        (stops (unless_raised (not_longer (characters 0 bytes))) _ _ (raises (not_longer (characters 0 bytes)) raised f));
   }
 
   -- ---- comparisons

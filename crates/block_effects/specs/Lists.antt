@@ -9,6 +9,7 @@ use Rattle.dis_file.specs.declared.object.Object.{Object}
 use Rattle.dis_file.specs.declared.types.TypeDesc.{TypeDesc}
 use Rattle.limbo_values.specs.declared.number.Kind.{Kind}
 use Rattle.limbo_values.specs.declared.number.Kind.TheVariants.{Byte, Int, Big}
+use Rattle.limbo_values.specs.Numbers.{wrapped}
 use Rattle.dis_meaning.specs.Words.{Word, Plain, Refer, Found, Raises, blank, word_at}
 use Rattle.dis_meaning.specs.Numbers.{number_at, with_number_at, with_byte, high_part, low_part}
 use Rattle.dis_meaning.specs.Process.{Process}
@@ -88,7 +89,7 @@ module _ (limit : ℕ) (o : Object) (x : World) (p : Process) where
         Comes limit o x p (inst op.Tail a m b) (Raises nil_text)
     pub long : (a b : Operand) (m : Middle) (r : Option ℕ) (n : ℕ) (others : List Word) (d : NumberThere x p Int b) →
         source_reference x p a ≡ Found r → list_length x r ≡ Found n →
-        with_number_at Int d.words (pos d.byte) (pos n) ≡ Found others →
+        with_number_at Int d.words (pos d.byte) (wrapped Int (pos n)) ≡ Found others →
         Comes limit o x p (inst op.Lenl a m b) (After x p d.leads.place others)
 
   pub record ChannelsAreMade : Type 0 where

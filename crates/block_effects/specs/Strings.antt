@@ -94,9 +94,12 @@ module _ (limit : ℕ) (o : Object) (x : World) (p : Process) where
         array_of (encode_utf8_all s) ≡ Found new → Comes limit o x p (inst op.Cvtca a m b) (AfterBlock x p d new)
     pub as_bytes_raises : (a b : Operand) (m : Middle) (s text : List ℕ) → ReferenceThere x p b → ReadsText x p a s →
         array_of (encode_utf8_all s) ≡ Raises text → Comes limit o x p (inst op.Cvtca a m b) (Raises text)
-    pub of_bytes : (a b : Operand) (m : Middle) (es : Option Elements) (bytes : List ℕ) (d : ReferenceThere x p b) →
-        ReadsElements x p a es → bytes_in es ≡ Found bytes →
-        Comes limit o x p (inst op.Cvtac a m b) (AfterBlock x p d (Text (characters 0 bytes)))
+    pub of_bytes : (a b : Operand) (m : Middle) (es : Option Elements) (bytes s : List ℕ) (d : ReferenceThere x p b) →
+        ReadsElements x p a es → bytes_in es ≡ Found bytes → not_longer (characters 0 bytes) ≡ Ok s →
+        Comes limit o x p (inst op.Cvtac a m b) (AfterBlock x p d (Text s))
+    pub of_bytes_raises : (a b : Operand) (m : Middle) (es : Option Elements) (bytes : List ℕ) (raised : Raised) →
+        ReferenceThere x p b → ReadsElements x p a es → bytes_in es ≡ Found bytes → not_longer (characters 0 bytes) ≡ Err raised →
+        Comes limit o x p (inst op.Cvtac a m b) (Raises (text_of raised))
 
   pub record StringsCome : Type 0 where
     pub join : TextsJoin

@@ -12,7 +12,8 @@ use Rattle.limbo_types.specs.Types.{Ty}
 use Rattle.limbo_layout.specs.Adts.{Def}
 use Rattle.system_model.specs.Ending.{Ending, Ended, Broken}
 use Rattle.system_model.specs.Prints.{Request, Writing, Printing, Answers, Requests, NoReply, print, hear}
-use Rattle.limbo_meaning.specs.Values.{Part, Value, Num, Chars, Ref, Parts, nothing, parts_of, number_of, part_of, name_of, fitted, all_fitted}
+use Rattle.limbo_meaning.specs.Values.{Part, Value, Num, Chars, Ref, Parts, nothing, parts_of, number_of, part_of, name_of, fitted}
+use Rattle.limbo_meaning.specs.Values.{all_fitted}
 use Rattle.limbo_meaning.specs.Values.{references_in, one, among, row}
 use Rattle.limbo_meaning.specs.Memory.{Cell, inside, Memory, made, next_name}
 use Rattle.limbo_meaning.specs.Exceptions.{Raising, dereference_of_nil, stack_overflow}
@@ -247,7 +248,8 @@ module _ (limit : ℕ) (program : Program) (w : Shared) (p : Process) where
       goes_with w p (made memory (Cell (fitted program.adts t (slot_value item)) (behind_of behind)))
       (put slots into (Holds (Ref (Some (next_name memory)))))
   does (Call t f into o) = calls program.adts limit w (with_operands [] p o) t into (slice_get program.functions f) (operands slots o)
-  does (Print ps into o) = prints w p (waiting (with_operands (Chars [] ∷ []) p o).frame into) (print w.outside (formatted ps (operands slots o)))
+  does (Print ps into o) =
+      prints w p (waiting (with_operands (Chars [] ∷ []) p o).frame into) (print w.outside (formatted ps (operands slots o)))
   does (Skip c into d from n) = left_decides into d from n (decides c (slot_value from))
   does (Truth into from) = goes_on w p (put slots into (Holds (truth_of (slot_value from))))
   does (Element t a i from) = part_or_none (part_of (slot_value a)) (λ part. stores (element_at t part i) (slot_value from))

@@ -1,5 +1,6 @@
 -- Slots: where the values of a statement's nodes stand while it is evaluated.
-use Rattle.std.specs.Prelude.{ℕ, ℤ, pos, negsuc, zero, suc, ◌+◌, ◌-◌, List, [], ◌∷◌, length, nat_lt, slice_set, slice_index_or, if◌then◌else◌, None}
+use Rattle.std.specs.Prelude.{ℕ, ℤ, pos, negsuc, zero, suc, ◌+◌, ◌-◌, List, [], ◌∷◌, length, nat_lt, None}
+use Rattle.std.specs.Prelude.{slice_set, slice_index_or, if◌then◌else◌}
 use Rattle.limbo_meaning.specs.Values.{Value, Num, Chars, Ref, Array, Parts, Values, NoValues, MoreValues, nothing, references}
 use Rattle.limbo_meaning.specs.Values.{references_in, among}
 

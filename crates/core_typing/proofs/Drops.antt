@@ -12,7 +12,7 @@ use Rattle.core_follows.proofs.Drops.{touch_more, touch_back, touch_others}
 use Rattle.core_follows.proofs.Holding.{has_front, has_back}
 use Rattle.core_follows.proofs.Moves.{spare_tail}
 use Rattle.core_typing.specs.Held.{Held, Of, Decided, Turns, Region, NoSlot, MoreSlots, Regions, NoRegion, MoreRegions, Slots, empty, slot}
-use Rattle.core_typing.specs.Held.{put, chain_of, region, cleared, placed, chained, type_held, Has, without, dropped}
+use Rattle.core_typing.specs.Held.{put, chain_of, region, cleared, placed, chained, slots_in, EachHas, type_held, Has, without, dropped}
 use Rattle.core_typing.specs.Needs.{IsClean}
 use Rattle.core_typing.specs.Written.{told}
 use Rattle.core_typing.specs.Going.{taken, mirrored, Goes}
@@ -20,10 +20,6 @@ use Rattle.core_typing.proofs.Going.{put_same, put_other, put_long, shorter, sam
 use Rattle.core_typing.proofs.Cleaning.{none_has, has_without, dropped_type, clean_same, put_equal, put_type, put_clean, drop_clean, Alike}
 use Rattle.core_typing.proofs.Cleaning.{alike_put, put_alike, drop_alike}
 use Rattle.core_typing.proofs.Telling.{Quiet, quiet_front, quiet_back, told_same, told_over}
-
-abbrev pub size : Region → ℕ
-size NoSlot = 0
-size (MoreSlots h g) = suc (size g)
 
 -- ---- what is known of the slots lets the drops of a row go well, and behind them nothing is named from one slot on and below another
 
@@ -50,7 +46,7 @@ mutual
   -- Wherever a region of the chain comes back, the drops of a turn go well, and the region's slots name nothing then.
   pub data HasTurns (defs : List Def) : (tells : ℕ → Option Ty) → (from words : ℕ) → List Instr → Regions → Type 0 where
     last : {tells : ℕ → Option Ty} {from words : ℕ} {es : List Instr} → HasTurns defs tells from words es NoRegion
-    more : {tells : ℕ → Option Ty} {from words : ℕ} {es : List Instr} {g : Region} {rs : Regions} → size g ≡ words
+    more : {tells : ℕ → Option Ty} {from words : ℕ} {es : List Instr} {g : Region} {rs : Regions} → slots_in g ≡ words
         → ((slots : Slots) → from + words ≤ length slots → Lets defs from (from + words) tells (placed slots from g) es)
         → HasTurns defs tells from words es rs → HasTurns defs tells from words es (MoreRegions g rs)
 
@@ -65,7 +61,7 @@ placed_below slots a s NoSlot l = refl
 placed_below slots a s (MoreSlots h g) l =
     put_other (placed slots (suc a) g) a s h (λ e. absurd (omega (arith, e, l))) ∙ placed_below slots (suc a) s g (omega arith)
 
-pub placed_above : (slots : Slots) (a : ℕ) (g : Region) (s : ℕ) → a + size g ≤ s → slot (placed slots a g) s ≡ slot slots s
+pub placed_above : (slots : Slots) (a : ℕ) (g : Region) (s : ℕ) → a + slots_in g ≤ s → slot (placed slots a g) s ≡ slot slots s
 placed_above slots a NoSlot s l = refl
 placed_above slots a (MoreSlots h g) s l =
     put_other (placed slots (suc a) g) a s h (λ e. absurd (omega (arith, e, l))) ∙ placed_above slots (suc a) g s (omega arith)
@@ -83,14 +79,14 @@ within from words r = ⊎_elim
     (cases_lt r (from + words)))
     (cases_lt r from)
 
-pub placed_other : (slots : Slots) (from words : ℕ) (g : Region) → size g ≡ words → (s : ℕ) → (from ≤ s → s < from + words → ⊥)
+pub placed_other : (slots : Slots) (from words : ℕ) (g : Region) → slots_in g ≡ words → (s : ℕ) → (from ≤ s → s < from + words → ⊥)
     → slot (placed slots from g) s ≡ slot slots s
 placed_other slots from words g sz s f = elim (outside from words s f) [
   | inl l ↦ placed_below slots from s g l
   | inr l ↦ placed_above slots from g s (omega (arith, l, sz))
 ]
 
-pub region_size : (slots : Slots) (a k : ℕ) → size (region slots a k) ≡ k
+pub region_size : (slots : Slots) (a k : ℕ) → slots_in (region slots a k) ≡ k
 region_size slots a zero = refl
 region_size slots a (suc k) = ap suc (region_size slots (suc a) k)
 
@@ -257,11 +253,20 @@ module _ (defs : List Def) where
   lets_if lo hi tells slots false is c h = none (c refl)
 
   pub turns_add : (tells : ℕ → Option Ty) (from words : ℕ) (es : List Instr) (rs : Regions) (g : Region)
-      → HasTurns defs tells from words es rs → size g ≡ words
+      → HasTurns defs tells from words es rs → slots_in g ≡ words
       → ((slots : Slots) → from + words ≤ length slots → Lets defs from (from + words) tells (placed slots from g) es)
       → HasTurns defs tells from words es (chained rs g)
   turns_add tells from words es rs g last e f = more e f last
   turns_add tells from words es rs g (more {g = h} {rs = rest} e' f' ts) e f = more e' f' (turns_add tells from words es rest g ts e f)
+
+-- Each region has as many slots.
+pub turns_have : (defs : List Def) (tells : ℕ → Option Ty) (from words : ℕ) (es : List Instr) (rs : Regions)
+    → HasTurns defs tells from words es rs → EachHas words rs
+turns_have defs tells from words es rs last = tt
+turns_have defs tells from words es rs (more {rs = rest} e f ts) = (e, turns_have defs tells from words es rest ts)
+
+pub chain_has : (words : ℕ) (h : Held) (rs : Regions) → h ≡ Turns rs → EachHas words rs → EachHas words (chain_of h)
+chain_has words h rs e w = subst (λ (x : Held). EachHas words (chain_of x)) (sym e) w
 
 -- ---- they go
 
@@ -326,7 +331,8 @@ module _ (s : Scope) (answer : Ty) (code : List Instr) where
       let u = touch_back (Between lo hi) es (back ∷ is) (subst (AllTouch (Between lo hi)) g t.1) in
       let a : length body ≡ length es + suc (length is) = ap length g ∙ length-append es (back ∷ is) in
       let quiet : (r : ℕ) → Quiet r (es ++ (back ∷ is)) = λ r. subst (Quiet r) g (h r).1 in
-      goes_next s answer code n pc (suc pc + p) slots slots1 (Take c from words p) has.0 ((NoRegion, e), cl) tt
+      goes_next s answer code n pc (suc pc + p) slots slots1 (Take c from words p) has.0 ((NoRegion, e), cl)
+      (lt, wl, chain_has words (slot slots c) NoRegion e tt)
       (ap (λ (h : Held). taken pc p slots c from (chain_of h)) e)
       (same_place s answer code n (suc (suc pc + length es)) (suc pc + p) slots1 (omega arith)
       (drops_go f n lo hi (suc (suc pc + length es)) tells slots1 is (omega arith) x
@@ -358,7 +364,8 @@ module _ (s : Scope) (answer : Ty) (code : List Instr) where
       (put_long back c (Turns rs))
       (λ s b. put_other back c s (Turns rs) (λ q. absurd (let r = b.0 in omega (arith, q, r, lt)))) (λ s b. tu s b.0 b.1)
       (fs slots (omega arith)) in
-      goes_next s answer code n pc (suc pc) slots slots1 (Take c from words p) has.0 ((MoreRegions y rs, e), cl) tt
+      goes_next s answer code n pc (suc pc) slots slots1 (Take c from words p) has.0 ((MoreRegions y rs, e), cl)
+      (lt, wl, chain_has words (slot slots c) (MoreRegions y rs) e (sz, turns_have s.adts turned from words es rs ts))
       (ap (λ (h : Held). taken pc p slots c from (chain_of h)) e)
       (drops_go f n from (from + words) (suc pc) tells slots1 es (omega arith) inner
       (λ r. told_same code pc r (Take c from words p) has.0 refl ∙ o r) (λ r. quiet_front r es (way ∷ is) (quiet r)) te (omega arith)

@@ -1,5 +1,5 @@
 -- Which references of slots may name something while the code of small trees runs, and small code that goes well.
-use Rattle.std.proofs.Common.{◌≡◌, ℕ, pos, false, List, [], ◌∷◌, replicate, Some, None, refl, inl, rules, arith, take}
+use Rattle.std.proofs.Common.{◌≡◌, ℕ, pos, true, false, List, [], ◌∷◌, replicate, Some, None, refl, inl, rules, arith, take}
 use Rattle.limbo_types.specs.Types as ty
 use Rattle.limbo_types.specs.Types.{Ty, Int, Chars, ListOf, Tuple, NoTys, MoreTys}
 use Rattle.limbo_layout.specs.Layout.{number, reference, is_alone}
@@ -12,7 +12,7 @@ use Rattle.limbo_typed.specs.declared.print.Piece.TheVariants as piece
 use Rattle.limbo_typed.specs.declared.stmt.Constant.TheVariants as constant
 use Rattle.limbo_meaning.specs.Places.{Way, Local}
 use Rattle.limbo_meaning.specs.Trees as tree
-use Rattle.limbo_meaning.specs.Trees.{Operate, Term, Node, NoTerms, MoreTerms, Eval, Then, Done}
+use Rattle.limbo_meaning.specs.Trees.{Operate, Term, Node, Fill, NoTerms, MoreTerms, NoItems, Eval, Then, Done}
 use Rattle.limbo_meaning.specs.Program.{Routine}
 use Rattle.limbo_kept.specs.Operating.{HasRoom}
 use Rattle.limbo_kept.specs.Permitting.{Anything}
@@ -22,6 +22,7 @@ use Rattle.core_code.specs.Terms.{lower}
 use Rattle.core_code.specs.Statements.{whole, function_of}
 use Rattle.core_typing.specs.Held.{Held, Of, Forming, Slots, empty}
 use Rattle.core_typing.specs.Going.{Stand, behind, Goes}
+use Rattle.core_typing.specs.Runs.{Runs}
 use Rattle.core_typing.proofs.Going.{goes_next}
 use Rattle.core_typing.proofs.Standing.{itself, tuple_room}
 
@@ -105,6 +106,29 @@ shown_known = refl
 shown_clean : behind_all (whole [] shown) (replicate 3 empty) ≡ empty ∷ Of text_and_int [] ∷ Of Int [] ∷ []
 shown_clean = refl
 
+-- ---- initialisers within others
+
+abbrev number_of : ℕ → Term
+number_of n = Node Int (tree.Literal (constant.Number (pos n))) NoTerms
+
+-- array[3] of {* => e}, and array[2] of {* => array[3] of {* => e}}
+abbrev line : Ty → Term → Term
+line t e = Fill t (number_of 3) NoItems (MoreTerms e NoTerms)
+
+abbrev grid : Ty → Term → Term
+grid t e = Fill (ty.ArrayOf t) (number_of 2) NoItems (MoreTerms (line t e) NoTerms)
+
+-- A constant holds nothing, so the inner one has no chain.
+constants_run : Runs [] (grid Int (number_of 0))
+constants_run = ((tt, tt), tt, (((tt, tt), tt, ((tt, tt), λ h. tt)), λ h. (tt, tt, refl)))
+
+-- What a function gives may be held: then the inner one has a chain, and is run where it stands alone, but not within the other.
+calls_run : Runs [] (line list (call list))
+calls_run = ((tt, tt), tt, ((tt, tt), λ h. tt))
+
+calls_run_not : Runs [] (grid list (call list)) → ⊥
+calls_run_not r = let e : true ≡ false = (r.2.1 refl).2 in absurd cc
+
 -- ---- f(a) + 1, of a list a, goes well to its end
 
 abbrev scope : Scope
@@ -181,7 +205,7 @@ adds =
       ((refl, refl), int_room, int_room, inl refl),
       refl,
       (omega arith, (omega arith, tt)),
-    ) tt refl
+    ) (refl, tt) refl
     drops
 
 counts : GoesIn 6 3 (known (whole_one (0 ∷ [])) Int ty.Nothing ty.Nothing)
@@ -203,7 +227,7 @@ calls =
       (list ∷ [], (itself list, tt), (0 ∷ [], refl)),
       refl,
     )
-    tt refl counts
+    (arguments, refl, refl) refl counts
 
 abbrev read : Slots
 read = Of list (0 ∷ []) ∷ empty ∷ empty ∷ empty ∷ empty ∷ []
@@ -218,7 +242,7 @@ places =
       (λ e. absurd cc),
       inl (refl, refl),
     )
-    tt refl calls
+    (λ h. h, refl, tt) refl calls
 
 nine_go : GoesIn 9 0 (replicate 5 empty)
 nine_go =

@@ -14,7 +14,7 @@ use Rattle.limbo_meaning.specs.Operations.{item_of}
 use Rattle.limbo_meaning.specs.Places.{Way}
 use Rattle.limbo_meaning.specs.Trees as tree
 use Rattle.limbo_meaning.specs.Trees.{Work, Operate, Node, Terms, NoTerms, MoreTerms}
-use Rattle.limbo_meaning.specs.Evaluation.{work_refers}
+use Rattle.limbo_meaning.specs.Evaluation.{work_refers, passes_on}
 use Rattle.limbo_kept.specs.Operating.{HasRoom}
 use Rattle.limbo_kept.specs.Processes.{AllHaveRooms}
 use Rattle.limbo_kept.specs.Trees.{Scope, WayIs, WorkIs}
@@ -32,13 +32,16 @@ use Rattle.core_typing.specs.Needs.{IsA, IsClean, IsCleanIf}
 use Rattle.core_typing.specs.Written.{told}
 use Rattle.core_typing.specs.Going.{IsTold, got_by}
 use Rattle.core_typing.specs.Trees.{TakesSo}
+use Rattle.core_typing.specs.Runs.{VariantsAreFew, NodeRuns}
 use Rattle.core_typing.proofs.Telling.{Gave, gave, gave_to, none_into, told_same, told_over, told_at, Quiet}
 use Rattle.core_typing.proofs.Going.{put_same, put_other, put_long, same_place, goes_one, goes_to, two_places}
 use Rattle.core_typing.proofs.Cleaning.{clean_same, put_clean}
 use Rattle.core_typing.proofs.Drops.{Lets, none, enters, passes, lets_same, lets_wide, lets_more, lets_from, lets_if}
 use Rattle.core_typing.proofs.Standing.{itself, is_on, these_on, these_same, all_stand_on}
-use Rattle.core_typing.proofs.Nodes.{GoesBy, AllBy, lets_put, lets_up, got_none, got_below, touch_row, gives_goes}
-use Rattle.core_typing.proofs.Nodes.{channel_goes, assign_goes, copy_goes, link_goes, pick_goes, all_told_in, root_told, are_below}
+use Rattle.core_typing.proofs.Nodes.{GoesBy, AllBy, lets_put, lets_up, got_none, got_below, touch_row, gives_with, gives_goes}
+use Rattle.core_typing.proofs.Nodes.{AllWith, all_plain, writes_some, channel_goes, assign_goes, copy_goes, link_goes, pick_goes}
+use Rattle.core_typing.proofs.Nodes.{all_told_in, root_told, are_below}
+use Rattle.core_typing.proofs.Comparing.{NilsClean, compares_so, updates_so}
 use Rattle.core_typing.proofs.Placing.{EachBy, gather_goes, call_goes, print_goes}
 
 -- ---- what was decided
@@ -83,16 +86,17 @@ module _ (s : Scope) (answer : Ty) (code : List Instr) where
   first_at NoTerms = refl
   first_at (MoreTerms t ts) = refl
 
-  pub node_goes : (lo : ℕ) (t : Ty) (o : Work) (ts : Terms) (us : List Ty) (u : Ty) (l : LoweredAll) → lo ≤ l.free
+  pub node_goes : VariantsAreFew s.adts → (lo : ℕ) (t : Ty) (o : Work) (ts : Terms) (us : List Ty) (u : Ty) (l : LoweredAll) → lo ≤ l.free
       → AllTouch (Between lo l.free) l.drops → AllValued lo l.free l.drops l.values → length l.values ≡ count ts
-      → Suits s.adts t o ts → WorkIs s t o us u → AllStand (types_in s.adts ts) us → TakesSo (types_in s.adts ts) o
-      → AllBy s answer code lo l (types_in s.adts ts) → EachBy s answer code lo l.free l.each l.drops l.values (types_in s.adts ts)
+      → Suits s.adts t o ts → WorkIs s t o us u → AllStand (types_in s.adts ts) us → TakesSo (types_in s.adts ts) o → NodeRuns s.adts o ts
+      → AllWith s answer code (λ after. NilsClean ts after l.values) lo l (types_in s.adts ts)
+      → EachBy s answer code lo l.free l.each l.drops l.values (types_in s.adts ts)
       → AllHaveRooms s.adts (types_in s.adts ts)
       → GoesBy s answer code lo (node s.adts (types_in s.adts ts) t o l) (type_of s.adts (Node t o ts))
-  node_goes lo t (Operate o) ts us u l p w vd c (inl h) is st f all each rooms =
+  node_goes few lo t (Operate o) ts us u l p w vd c (inl h) is st f runs all each rooms =
       subst (λ (b : Bool). GoesBy s answer code lo (if b then gathers s.adts t o l else gives s.adts t (Operate o) l) t) (sym h)
-      (gives_goes s answer code lo t (Operate o) l (types_in s.adts ts) p w
-      (λ pc after a agree c. (
+      (gives_with s answer code (λ after. NilsClean ts after l.values) lo t (Operate o) l (types_in s.adts ts) p w
+      (λ pc after a agree c nils. (
         (
           us,
           these_on after l.values (types_in s.adts ts) us a st,
@@ -100,12 +104,12 @@ module _ (s : Scope) (answer : Ty) (code : List Instr) where
           c,
           are_below lo l.free l.drops l.values vd,
         ),
-        tt,
+        (h, compares_so s o ts us t after l.values runs is.0 st a nils),
       )) all)
-  node_goes lo t (Operate o) ts us u l p w vd c (inr h) is st f all each rooms =
+  node_goes few lo t (Operate o) ts us u l p w vd c (inr h) is st f runs all each rooms =
       subst (λ (b : Bool). GoesBy s answer code lo (if b then gathers s.adts t o l else gives s.adts t (Operate o) l) t) (sym h.0)
-      (gather_goes s answer code lo t o l (types_in s.adts ts) us p w vd h.1 st (is.0, is.1, is.2, inl refl) each)
-  node_goes lo t (tree.Literal k) ts us u l p w vd c h is st f all each rooms =
+      (gather_goes s answer code few lo t o l (types_in s.adts ts) us p w vd h.0 h.1 st (is.0, is.1, is.2, inl refl) each)
+  node_goes few lo t (tree.Literal k) ts us u l p w vd c h is st f runs all each rooms =
       gives_goes s answer code lo t (tree.Literal k) l (types_in s.adts ts) p w
       (λ pc after a agree c. (
         (
@@ -116,8 +120,8 @@ module _ (s : Scope) (answer : Ty) (code : List Instr) where
           are_below lo l.free l.drops l.values vd,
         ),
         tt,
-      )) all
-  node_goes lo t tree.Nil ts us u l p w vd c h is st f all each rooms =
+      )) (all_plain s answer code (λ after. NilsClean ts after l.values) lo l (types_in s.adts ts) all)
+  node_goes few lo t tree.Nil ts us u l p w vd c h is st f runs all each rooms =
       gives_goes s answer code lo t tree.Nil l (types_in s.adts ts) p w
       (λ pc after a agree c. (
         (
@@ -128,41 +132,35 @@ module _ (s : Scope) (answer : Ty) (code : List Instr) where
           are_below lo l.free l.drops l.values vd,
         ),
         tt,
-      )) all
-  node_goes lo t (tree.Read r) ts us u l p w vd c h is st f all each rooms =
+      )) (all_plain s answer code (λ after. NilsClean ts after l.values) lo l (types_in s.adts ts) all)
+  node_goes few lo t (tree.Read r) ts us u l p w vd c h is st f runs all each rooms =
       gives_goes s answer code lo t (tree.Read r) l (types_in s.adts ts) p w
       (λ pc after a agree c.
       let those = these_on after l.values (types_in s.adts ts) us a st in (
         (us, those, (is.0, is.1, inl refl), c, are_below lo l.free l.drops l.values vd),
         root_told s (told code pc) after r.root l.values us is.0.root agree those is.0.begins,
-      )) all
-  node_goes lo t (tree.Sprint ps) ts us u l p w vd c h is st f all each rooms =
-      gives_goes s answer code lo t (tree.Sprint ps) l (types_in s.adts ts) p w
-      (λ pc after a agree c. (
-        (
-          us,
-          these_on after l.values (types_in s.adts ts) us a st,
-          (is.0, is.1, inl refl),
-          c,
-          are_below lo l.free l.drops l.values vd,
-        ),
-        tt,
-      )) all
-  node_goes lo t (tree.Assign aims) ts us u l p w vd c h is st f all each rooms =
-      assign_goes s answer code lo (types_in s.adts ts) t aims ts us is.0 l p h st is.1 is.2 is.3 all
-  node_goes lo t (tree.TakePart k) ts us u l p w vd c h is st f all each rooms =
+      )) (all_plain s answer code (λ after. NilsClean ts after l.values) lo l (types_in s.adts ts) all)
+  node_goes few lo t (tree.Sprint ps) ts us u l p w vd c h is st f runs all each rooms = absurd runs
+  node_goes few lo t (tree.Assign aims) ts us u l p w vd c h is st f runs all each rooms =
+      assign_goes s answer code lo (types_in s.adts ts) t aims ts us is.0 l p h st is.1 is.2 is.3
+      (all_plain s answer code (λ after. NilsClean ts after l.values) lo l (types_in s.adts ts) all)
+  node_goes few lo t (tree.TakePart k) ts us u l p w vd c h is st f runs all each rooms =
       subst (λ (x : Ty). GoesBy s answer code lo (picks s.adts x t k l) t) (first_at ts)
-      (pick_goes s answer code lo t is.0 k ts l us p w vd c h st is.1 is.2 is.3 all)
-  node_goes lo t tree.Copy ts us u l p w vd c h is st f all each rooms =
-      copy_goes s answer code lo (types_in s.adts ts) t ts us is.0 l p h st is.1 is.2 f all
-  node_goes lo t tree.Link ts us u l p w vd c h is st f all each rooms =
-      link_goes s answer code lo (types_in s.adts ts) t is.0 l (types_in s.adts ts) us p w vd is.1 is.2 st is.3 all
-  node_goes lo t tree.NewChannel ts us u l p w vd c h is st f all each rooms =
-      channel_goes s answer code lo (types_in s.adts ts) t l (types_in s.adts ts) is.0 p w is.1 all
-  node_goes lo t (tree.Call k) ts us u l p w vd c h is st f all each rooms =
+      (pick_goes s answer code lo t is.0 k ts l us p w vd c h st is.1 is.2 is.3
+      (all_plain s answer code (λ after. NilsClean ts after l.values) lo l (types_in s.adts ts) all))
+  node_goes few lo t tree.Copy ts us u l p w vd c h is st f runs all each rooms =
+      copy_goes s answer code lo (types_in s.adts ts) t ts us is.0 l p h st is.1 is.2 f
+      (all_plain s answer code (λ after. NilsClean ts after l.values) lo l (types_in s.adts ts) all)
+  node_goes few lo t tree.Link ts us u l p w vd c h is st f runs all each rooms =
+      link_goes s answer code lo (types_in s.adts ts) t is.0 l (types_in s.adts ts) us p w vd is.1 is.2 st is.3
+      (all_plain s answer code (λ after. NilsClean ts after l.values) lo l (types_in s.adts ts) all)
+  node_goes few lo t tree.NewChannel ts us u l p w vd c h is st f runs all each rooms =
+      channel_goes s answer code lo (types_in s.adts ts) t l (types_in s.adts ts) is.0 p w is.1
+      (all_plain s answer code (λ after. NilsClean ts after l.values) lo l (types_in s.adts ts) all)
+  node_goes few lo t (tree.Call k) ts us u l p w vd c h is st f runs all each rooms =
       call_goes s answer code lo t k l.free l.code l.each l.drops l.values (types_in s.adts ts) p w vd each rooms
       (is.0, is.1, all_stand_on (types_in s.adts ts) us is.0.takes st is.2, is.3, inl refl)
-  node_goes lo t (tree.Print ps) ts us u l p w vd c h is st f all each rooms =
+  node_goes few lo t (tree.Print ps) ts us u l p w vd c h is st f runs all each rooms =
       subst (λ (x : Ty). GoesBy s answer code lo (node s.adts (types_in s.adts ts) x (tree.Print ps) l) x) (sym h)
       (print_goes s answer code lo ps l.free l.code l.each l.drops l.values (types_in s.adts ts) p w vd each rooms f)
 
@@ -306,7 +304,8 @@ module _ (s : Scope) (answer : Ty) (code : List Instr) where
   pub update_goes : (o : Operation) (g : Given) (t : Ty) (w : Way) (lo : ℕ) (a b : LoweredAll) (Ps Qs ps qs : List Ty) → lo ≤ a.free
       → suc a.free ≤ b.free → AllTouch (Between lo a.free) a.drops → AllTouch (Between (suc a.free) b.free) b.drops
       → ((r : ℕ) → Beside (suc a.free) b.free r → Quiet r b.code) → AllValued lo a.free a.drops a.values
-      → AllValued (suc a.free) b.free b.drops b.values → AllStand Ps ps → AllStand Qs qs → WayIs s w ps t → Gives s.adts o (t ∷ qs) t
+      → AllValued (suc a.free) b.free b.drops b.values → AllStand Ps ps → AllStand Qs qs → passes_on o ≡ false → WayIs s w ps t
+      → Gives s.adts o (t ∷ qs) t
       → HasRoom s.adts t → HasRoom s.adts (item_of t) → AllBy s answer code lo a Ps → AllBy s answer code (suc a.free) b Qs
       → GoesBy s answer code lo (record {
         code = update_code o t w a b;
@@ -314,7 +313,7 @@ module _ (s : Scope) (answer : Ty) (code : List Instr) where
         value = given_slot s.adts g a.free b.free;
         free = suc b.free;
       }) t
-  update_goes o g t w lo a b Ps Qs ps qs p q wa wb quiet va vb sp sq way gives room item ga gb pc slots n has fits clean k =
+  update_goes o g t w lo a b Ps Qs ps qs p q wa wb quiet va vb sp sq plain way gives room item ga gb pc slots n has fits clean k =
       let read = Give t (tree.Read w) a.free a.values in
       let operate = Give t (Operate o) b.free (a.free ∷ b.values) in
       let write = Write t w a.values [] b.free in
@@ -382,7 +381,7 @@ module _ (s : Scope) (answer : Ty) (code : List Instr) where
         clean_same (slot next b.free) (slot two b.free) (left2.same b.free (inr (omega arith)))
             (clean_next b.free (omega arith) (omega arith)),
         (q, are_below (suc a.free) b.free b.drops b.values vb),
-      ) tt refl
+      ) (plain, updates_so s.adts o t qs two (a.free ∷ b.values) gives) refl
       (goes_to s answer code n (suc pc2) (suc (suc pc2)) three three write has4.1.0
       (ps, these_on three a.values Ps ps those sp, way, inl (t, t_new, room, (t, refl, itself t))) (
         (t, t_new, g2.there),
@@ -392,6 +391,7 @@ module _ (s : Scope) (answer : Ty) (code : List Instr) where
             ∙ told_over code (suc pc1) r b.code has3.1 (quiet r (inl (omega (arith, l))))
             ∙ g1.others r (λ e. absurd (omega (arith, e, l)))) left.agree)
             (these_on three a.values Ps ps those sp) way.begins,
+        writes_some s three b.free t t t [] w ps way (t, t_new, itself t) refl (inl refl),
       ) refl
       (same_place s answer code n (pc + length (update_code o t w a b)) (suc (suc pc2)) three (omega arith)
       (k three (record {

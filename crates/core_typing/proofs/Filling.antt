@@ -29,8 +29,9 @@ use Rattle.core_typing.proofs.Telling.{gave, told_same, told_over, told_at, Quie
 use Rattle.core_typing.proofs.Going.{put_same, put_other, put_long, shorter, same_place, goes_to, goes_back, two_places}
 use Rattle.core_typing.proofs.Cleaning.{clean_same, put_clean, put_empty}
 use Rattle.core_typing.proofs.Drops.{Lets, HasTurns, none, takes, last, lets_kept, lets_same, lets_told, lets_wide, lets_more, lets_from}
-use Rattle.core_typing.proofs.Drops.{lets_nothing, turns_add, long_placed}
+use Rattle.core_typing.proofs.Drops.{lets_nothing, turns_add, turns_have, chain_has, long_placed}
 use Rattle.core_typing.proofs.Drops.{region_size, placed_region, long_cleared, cleared_below, cleared_above}
+use Rattle.core_typing.proofs.Chains.{TakesNone, lets_bare}
 use Rattle.core_typing.proofs.Standing.{itself, is_on}
 use Rattle.core_typing.proofs.Nodes.{Left, GoesBy, got_below}
 
@@ -161,6 +162,7 @@ module _ (s : Scope) (answer : Ty) (code : List Instr) where
     pub below : a < lo
     pub value : Between (suc lo) x.free x.value
     pub touches : AllTouch (Between (suc lo) x.free) x.drops
+    pub chainless : TakesNone x.drops
     pub has : HasAt code pc (loop_own t a lo zs x)
 
   -- In front of the decision whether another turn follows.
@@ -287,7 +289,14 @@ module _ (s : Scope) (answer : Ty) (code : List Instr) where
             let three = put (cleared two from words) lo (Turns rs3) in
             goes_to s answer code n pc2 (suc pc2) two two store has_store.0
             (own.room, (ty.ArrayOf t, array2, itself (ty.ArrayOf t)), (rs, loop2), is_on two x.value u t left.is own.stands) tt refl
-            (goes_to s answer code n (suc pc2) (suc (suc pc2)) two three keep has_store.1.0 (rs, loop2) tt refl
+            (goes_to s answer code n (suc pc2) (suc (suc pc2)) two three keep has_store.1.0 (rs, loop2) (
+              (
+                omega arith,
+                omega arith,
+                chain_has words (slot two lo) rs loop2 (turns_have s.adts (told code pc2) from words x.drops rs b.turns),
+              ),
+              λ r p q. lets_bare s.adts from x.free (told code pc2) two x.drops own.chainless left.lets r p (omega (arith, q, v0, v1)),
+            ) refl
             (goes_back s answer code n (suc (suc pc2)) pc m three at_back (omega arith)
             (λ j lj. turns_own f j t u x a lo pc zs own (omega arith) before three rs3
             (kept_turn (told code pc2) before slots two t u x a lo rs la own.value own.touches b left)
@@ -374,6 +383,7 @@ module _ (s : Scope) (answer : Ty) (code : List Instr) where
   pub others_go : (h : Bool) (t u : Ty) (a shared from lo : ℕ) (zs : List ℤ) (e : Term) → may_hold s.adts e ≡ h
       → HasRoom s.adts t → Stands u t → a < shared → shared ≤ from → from ≤ lo
       → (if h then shared else (lower s.adts shared e).free) ≤ from
+      → (h ≡ true → (base : ℕ) → TakesNone (lower s.adts base e).drops)
       → ((base : ℕ) → GoesBy s answer code base (lower s.adts base e) u)
       → ((base : ℕ) → Between base (lower s.adts base e).free (lower s.adts base e).value)
       → (pc : ℕ) (slots : Slots) (n : ℕ) → type_held (slot slots a) ≡ Some (ty.ArrayOf t)
@@ -386,7 +396,7 @@ module _ (s : Scope) (answer : Ty) (code : List Instr) where
       (others s.adts h t a zs lo (lower s.adts (if h then suc lo else shared) e)).drops
       → Goes s answer code n (pc + length (others s.adts h t a zs lo (lower s.adts (if h then suc lo else shared) e)).code) after)
       → Goes s answer code n pc slots
-  others_go true t u a shared from lo zs e eh room st l m f end go val pc slots n array has fits clean fresh k =
+  others_go true t u a shared from lo zs e eh room st l m f end chainless go val pc slots n array has fits clean fresh k =
       let x = lower s.adts (suc lo) e in
       let v = val (suc lo) in
       let v0 = v.0 in
@@ -400,6 +410,7 @@ module _ (s : Scope) (answer : Ty) (code : List Instr) where
         below = omega arith;
         value = v;
         touches = drops_within s.adts (suc lo) e;
+        chainless = chainless refl (suc lo);
         has = has.1;
       }) (omega arith) slots next NoRegion (record {
         long = put_long slots lo (Turns NoRegion);
@@ -422,7 +433,7 @@ module _ (s : Scope) (answer : Ty) (code : List Instr) where
             (λ r. told_at code (pc + suc (length (loop_own t a lo zs x))) (suc pc + length (loop_own t a lo zs x)) r (omega arith)) lets;
         clean = λ r p q. clean_same (slot slots r) (slot after r) (same r (inl (omega (arith, q, f)))) (clean r p q);
       }))))
-  others_go false t u a shared from lo zs e eh room st l m f end go val pc slots n array has fits clean fresh k =
+  others_go false t u a shared from lo zs e eh room st l m f end chainless go val pc slots n array has fits clean fresh k =
       let x = lower s.adts shared e in
       let next = put slots lo (Turns NoRegion) in
       goes_to s answer code n pc (suc pc) slots next (Start lo) has.0 (fresh lo (omega arith) (omega arith)) tt refl
@@ -506,7 +517,7 @@ module _ (s : Scope) (answer : Ty) (code : List Instr) where
         ((t, refl, refl), (reference, is_alone (ty.ArrayOf t) reference refl), room, inl refl),
         clean_first l.free (omega arith) (omega arith),
         (up, tt),
-      ) tt refl
+      ) (refl, tt) refl
       (ge (suc pc1) next n (ap type_held array) has3.1 (omega arith) (λ d y z. clean_next d y (omega (arith, z, m, r)))
       (λ d y z. clean_next d (omega (arith, y, q)) (omega (arith, z, r)))
       (λ two g2.

@@ -14,6 +14,7 @@ use Rattle.core_follows.specs.Does.{LoopIn, tested_body, tested_head, entered_bo
 use Rattle.core_follows.specs.Does.{entered_test, Ready, Does, TestedAt, tested_at, EnteredAt, entered_at}
 use Rattle.core_follows.proofs.Holding.{has_front, has_back}
 use Rattle.core_typing.specs.Trees.{LoopFormed, BlockFormed}
+use Rattle.core_typing.specs.Runs.{LoopRuns, BlockRuns}
 
 -- ---- the form of blocks
 
@@ -43,6 +44,32 @@ module _ (s : Scope) where
   at_turn_formed k (Again l b) f = at_turn_formed k b f.1
   at_turn_formed zero (Turn l b) f = f
   at_turn_formed (suc k) (Turn l b) f = at_turn_formed k b f.1
+
+-- ---- what is run of blocks
+
+module _ (defs : List Def) where
+  pub joined_runs : (a b : Block) → BlockRuns defs a → BlockRuns defs b → BlockRuns defs (join a b)
+  joined_runs Done b f g = g
+  joined_runs (Then x a) b f g = (f.0, joined_runs a b f.1 g)
+  joined_runs (Turn l a) b f g = (f.0, joined_runs a b f.1 g)
+  joined_runs (Again l a) b f g = (f.0, joined_runs a b f.1 g)
+
+  pub entered_runs : (l : Loop) (b : Block) → LoopRuns defs l → BlockRuns defs b → BlockRuns defs (entered l b)
+  entered_runs (Looping c n body) b f g = joined_runs body (Turn (Looping c n body) b) f.2 (f, g)
+
+  pub behind_runs : (k : ℕ) (b : Block) → BlockRuns defs b → BlockRuns defs (behind k b)
+  behind_runs k Done f = f
+  behind_runs k (Then x b) f = behind_runs k b f.1
+  behind_runs k (Again l b) f = behind_runs k b f.1
+  behind_runs zero (Turn l b) f = f.1
+  behind_runs (suc k) (Turn l b) f = behind_runs k b f.1
+
+  pub at_turn_runs : (k : ℕ) (b : Block) → BlockRuns defs b → BlockRuns defs (at_turn k b)
+  at_turn_runs k Done f = f
+  at_turn_runs k (Then x b) f = at_turn_runs k b f.1
+  at_turn_runs k (Again l b) f = at_turn_runs k b f.1
+  at_turn_runs zero (Turn l b) f = f
+  at_turn_runs (suc k) (Turn l b) f = at_turn_runs k b f.1
 
 -- ---- the code of loops
 

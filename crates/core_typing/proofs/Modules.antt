@@ -414,9 +414,9 @@ routine_there (f ∷ fs) zero g e = (routine_of f, refl)
 routine_there (f ∷ fs) (suc k) g e = routine_there fs k g e
 
 pub sound_modules_go_well : TreesGoWell → ValuesGoWell → SoundModulesGoWell
-sound_modules_go_well trees values m x laid written part f g r there e n =
+sound_modules_go_well trees values m x laid few written part runs f g r there e n =
     let is : ProgramIs (outline_of m) (program_of m) =
     modules_keep_types.programs Anything m x laid written (modules_keep_types.anything m) in
     functions_go_well trees values (outline_of m) g r (is.routines f g r there e) (modules_are_handled m x laid part f r e)
-    (functions_formed m laid m.functions x.functions f r e (part f r e))
-    (λ k h q. let a = routine_there m.functions k h q in (is.routines k h a.0 q a.1).answer) n
+    (functions_formed m laid m.functions x.functions f r e (part f r e)) (runs f r e)
+    (λ k h q. let a = routine_there m.functions k h q in (is.routines k h a.0 q a.1).answer) few n

@@ -9,13 +9,13 @@ use Rattle.limbo_types.specs.Types.{Ty}
 use Rattle.limbo_layout.specs.Adts.{Def}
 use Rattle.limbo_typed.specs.Fitting.{HasPart, Stands, AllStand, EachStands}
 use Rattle.limbo_meaning.specs.Values.{Ref}
-use Rattle.limbo_meaning.specs.Places.{Root, Local, Global, Element, Target, operands_of}
+use Rattle.limbo_meaning.specs.Places.{Root, Local, Global, Element, Target, Way, operands_of}
 use Rattle.limbo_meaning.specs.Trees as tree
 use Rattle.limbo_meaning.specs.Trees.{Aim, Work, Operate, Node, Terms}
 use Rattle.limbo_meaning.specs.Evaluation.{work_refers, operands_for}
 use Rattle.limbo_kept.specs.Operating.{HasRoom}
-use Rattle.limbo_kept.specs.Places.{Leads}
-use Rattle.limbo_kept.specs.Trees.{Scope, BeginsAt, AimsAre, DeclaresAll}
+use Rattle.limbo_kept.specs.Places.{Leads, Ends}
+use Rattle.limbo_kept.specs.Trees.{Scope, BeginsAt, WayIs, AimsAre, DeclaresAll}
 use Rattle.core_code.specs.Code.{Instr, Give, Pick, Known, Write, CopyInto, Cell, Drop}
 use Rattle.core_code.specs.Terms.{Lowered, LoweredAll, count_of, slot_at, drops_from, drops_if, drops_after}
 use Rattle.core_code.specs.Terms.{gives}
@@ -30,7 +30,7 @@ use Rattle.core_follows.proofs.Valued.{AllValued, valued_at, spare_outside}
 use Rattle.core_typing.specs.Held.{Held, Of, Slots, slot, put, type_held, live_in, Has, moved, left_by}
 use Rattle.core_typing.specs.Needs.{StandsAs, IsA, AreThese, Below, IsAIf, Fills, Finds, IsClean, AreClean}
 use Rattle.core_typing.specs.Written.{told}
-use Rattle.core_typing.specs.Going.{stand, behind, IsTold, RootIsTold, Agrees, Goes, all_of, got_by, picked, out_of}
+use Rattle.core_typing.specs.Going.{stand, behind, IsTold, RootIsTold, HasSome, IfCharacter, Agrees, Goes, all_of, got_by, picked, out_of}
 use Rattle.core_typing.proofs.Telling.{Gave, gave, told_same, told_over, told_at, writes_quiet, cells_quiet, cells_told}
 use Rattle.core_typing.proofs.Going.{put_same, put_other, put_long, same_place, goes_to}
 use Rattle.core_typing.proofs.Cleaning.{clean_same, has_number}
@@ -251,6 +251,51 @@ fills_from s slots from v t u (n ∷ ns) a r l k =
     let e = exactly a.0 v (solid_part s.adts v n l.0 l.1) a.2 in
     inl (v, a.1 ∙ ap (λ (x : Ty). Some x) e, r, (t, l, inl k))
 
+-- ---- characters that are written
+
+if_character : (b : Bool) (A : Type 0) → (b ≡ true → A) → IfCharacter b A
+if_character true A f = f refl
+if_character false A f = tt
+
+ends_int : (b : Bool) (t u : Ty) → b ≡ true → Ends b t u → u ≡ ty.Int
+ends_int true t u e w = w.1
+ends_int false t u e w = absurd cc
+
+nothing_leads : (defs : List Def) (part : List ℕ) (t : Ty) → Leads defs ty.Nothing part t → t ≡ ty.Nothing
+nothing_leads defs [] t l = sym l
+nothing_leads defs (n ∷ ns) t l = absurd l.1
+
+nothing_stands : (t : Ty) → Stands ty.Nothing t → t ≡ ty.Nothing
+nothing_stands t (inl e) = sym e
+nothing_stands t (inr e) = absurd e
+
+nothing_as : (t : Ty) → StandsAs ty.Nothing t → t ≡ ty.Nothing
+nothing_as t (inl a) = nothing_stands t a
+nothing_as t (inr a) = absurd (let e = a.0 in cc)
+
+-- A part that stands for an int is part of a value.
+has_some : (defs : List Def) (slots : Slots) (from : ℕ) (v t u : Ty) (part : List ℕ) → IsA slots from v → Leads defs v part t → Stands t u
+    → u ≡ ty.Int → HasSome slots from
+has_some defs slots from v t u part a l k e held =
+    let same : a.0 ≡ ty.Nothing = let f = a.1 in cc in
+    let whole : v ≡ ty.Nothing = nothing_as v (subst (λ (x : Ty). StandsAs x v) same a.2) in
+    let inner : t ≡ ty.Nothing = nothing_leads defs part t (subst (λ (x : Ty). Leads defs x part t) whole l) in
+    let outer : u ≡ ty.Nothing = nothing_stands u (subst (λ (x : Ty). Stands x u) inner k) in
+    cc
+
+pub writes_some : (s : Scope) (slots : Slots) (from : ℕ) (v t u : Ty) (part : List ℕ) (w : Way) (us : List Ty) → WayIs s w us u
+    → IsA slots from v → Leads s.adts v part t → Stands t u → IfCharacter w.character (HasSome slots from)
+writes_some s slots from v t u part w us way a l k =
+    if_character w.character (HasSome slots from)
+    (λ e. has_some s.adts slots from v t u part a l k (ends_int w.character way.inner u e way.ends))
+
+-- Where a variable is declared no character is written.
+declares_some : (s : Scope) (slots : Slots) (from : ℕ) (u : Ty) (w : Way) → WayIs s w [] u → IfCharacter w.character (HasSome slots from)
+declares_some s slots from u w way =
+    if_character w.character (HasSome slots from) (λ e. absurd (let f = way.indexed e in cc))
+
+-- ---- code in front of what goes well
+
 module _ (s : Scope) (answer : Ty) (code : List Instr) where
   abbrev pub GoesBy : (lo : ℕ) → Lowered → Ty → Type 0
   GoesBy lo x t =
@@ -266,6 +311,24 @@ module _ (s : Scope) (answer : Ty) (code : List Instr) where
       → Goes s answer code n (pc + length x.code) after)
       → Goes s answer code n pc slots
 
+  -- The same where more is known of the slots behind them.
+  abbrev pub GoesWith : (Q : Slots → Type 0) → (lo : ℕ) → Lowered → Ty → Type 0
+  GoesWith Q lo x t =
+      (pc : ℕ) (slots : Slots) (n : ℕ) → HasAt code pc x.code → x.free ≤ length slots → AreClean slots lo x.free
+      → ((after : Slots) → Left s.adts (told code (pc + length x.code)) slots after lo x.free x.value x.drops t → Q after
+      → Goes s answer code n (pc + length x.code) after)
+      → Goes s answer code n pc slots
+
+  abbrev pub AllWith : (Q : Slots → Type 0) → (lo : ℕ) → LoweredAll → List Ty → Type 0
+  AllWith Q lo x ts =
+      (pc : ℕ) (slots : Slots) (n : ℕ) → HasAt code pc x.code → x.free ≤ length slots → AreClean slots lo x.free
+      → ((after : Slots) → AllLeft s.adts (told code (pc + length x.code)) slots after lo x.free x.values x.drops ts → Q after
+      → Goes s answer code n (pc + length x.code) after)
+      → Goes s answer code n pc slots
+
+  pub all_plain : (Q : Slots → Type 0) (lo : ℕ) (x : LoweredAll) (ts : List Ty) → AllWith Q lo x ts → AllBy lo x ts
+  all_plain Q lo x ts all pc slots n has fits clean k = all pc slots n has fits clean (λ after left q. k after left)
+
   -- Instructions go well in front of what goes well behind them.
   abbrev pub Leaves : (pc : ℕ) (before after : Slots) → (lo hi value : ℕ) → (is ds : List Instr) → Ty → Type 0
   Leaves pc before after lo hi value is ds t =
@@ -280,19 +343,29 @@ module _ (s : Scope) (answer : Ty) (code : List Instr) where
       left_on s.adts (told code pc') (told code pc) before after lo hi value ds t (λ r. told_at code pc pc' r e) left
 
   -- Instructions behind operands.
+  pub behind_with : (Q : Slots → Type 0) (lo : ℕ) (t : Ty) (l : LoweredAll) (ts : List Ty) (is ds : List Instr) (value free : ℕ)
+      → lo ≤ l.free → l.free ≤ free → AllWith Q lo l ts
+      → ((pc : ℕ) (before after : Slots) → AllLeft s.adts (told code pc) before after lo l.free l.values l.drops ts → Q after
+      → free ≤ length before → AreClean after l.free free → Leaves pc before after lo free value is ds t)
+      → GoesBy lo (record { code = l.code ++ is; drops = ds; value = value; free = free }) t
+  behind_with Q lo t l ts is ds value free up u all f pc slots n has fits clean k =
+      let e : pc + length (l.code ++ is) ≡ pc + length l.code + length is = let e = length-append l.code is in omega arith in
+      all pc slots n (has_front code pc l.code is has) (omega arith) (λ r p q. clean r p (omega arith))
+      (λ after left more. f (pc + length l.code) slots after left more fits
+      (λ r p q. clean_same (slot slots r) (slot after r) (left.same r (inr p)) (clean r (omega (arith, up, p)) q)) n
+      (has_back code pc l.code is has)
+      (λ last left2. same_place s answer code n (pc + length (l.code ++ is)) (pc + length l.code + length is) last e
+      (k last (left_at (pc + length (l.code ++ is)) (pc + length l.code + length is) slots last lo free value ds t e left2))))
+
   pub behind_all : (lo : ℕ) (t : Ty) (l : LoweredAll) (ts : List Ty) (is ds : List Instr) (value free : ℕ) → lo ≤ l.free → l.free ≤ free
       → AllBy lo l ts
       → ((pc : ℕ) (before after : Slots) → AllLeft s.adts (told code pc) before after lo l.free l.values l.drops ts
       → free ≤ length before → AreClean after l.free free → Leaves pc before after lo free value is ds t)
       → GoesBy lo (record { code = l.code ++ is; drops = ds; value = value; free = free }) t
-  behind_all lo t l ts is ds value free up u all f pc slots n has fits clean k =
-      let e : pc + length (l.code ++ is) ≡ pc + length l.code + length is = let e = length-append l.code is in omega arith in
-      all pc slots n (has_front code pc l.code is has) (omega arith) (λ r p q. clean r p (omega arith))
-      (λ after left. f (pc + length l.code) slots after left fits
-      (λ r p q. clean_same (slot slots r) (slot after r) (left.same r (inr p)) (clean r (omega (arith, up, p)) q)) n
-      (has_back code pc l.code is has)
-      (λ last left2. same_place s answer code n (pc + length (l.code ++ is)) (pc + length l.code + length is) last e
-      (k last (left_at (pc + length (l.code ++ is)) (pc + length l.code + length is) slots last lo free value ds t e left2))))
+  behind_all lo t l ts is ds value free up u all f =
+      behind_with (λ after. Unit {0}) lo t l ts is ds value free up u
+      (λ pc slots n has fits clean k. all pc slots n has fits clean (λ after left. k after left tt))
+      (λ pc before after left more. f pc before after left)
 
   -- One instruction, which changes slots in one way.
   pub one_leaves : (pc : ℕ) (before after last : Slots) (lo hi value : ℕ) (i : Instr) (ds : List Instr) (t : Ty)
@@ -306,15 +379,17 @@ module _ (s : Scope) (answer : Ty) (code : List Instr) where
 
   -- ---- one instruction that gives a value
 
-  pub gives_goes : (lo : ℕ) (t : Ty) (o : Work) (l : LoweredAll) (ts : List Ty) → lo ≤ l.free → AllTouch (Between lo l.free) l.drops
+  pub gives_with : (Q : Slots → Type 0) (lo : ℕ) (t : Ty) (o : Work) (l : LoweredAll) (ts : List Ty) → lo ≤ l.free
+      → AllTouch (Between lo l.free) l.drops
       → ((pc : ℕ) (after : Slots) → AreThese after l.values ts → AllTold (told code pc) after l.values → IsClean (slot after l.free)
+      → Q after
       → Finds s answer after (Give t o l.free l.values) × Agrees s answer code pc after (Give t o l.free l.values))
-      → AllBy lo l ts
+      → AllWith Q lo l ts
       → GoesBy lo (gives s.adts t o l) t
-  gives_goes lo t o l ts p w f all =
-      behind_all lo t l ts (Give t o l.free l.values ∷ []) _ l.free (suc l.free) p (omega arith) all
-      (λ pc before after left fits clean.
-      let needs = f pc after left.these left.agree (clean l.free (omega arith) (omega arith)) in
+  gives_with Q lo t o l ts p w f all =
+      behind_with Q lo t l ts (Give t o l.free l.values ∷ []) _ l.free (suc l.free) p (omega arith) all
+      (λ pc before after left more fits clean.
+      let needs = f pc after left.these left.agree (clean l.free (omega arith) (omega arith)) more in
       one_leaves pc before after (put after l.free (Of t (got_by s.adts t o))) lo (suc l.free) l.free _ _ t needs.0 needs.1 refl
       (λ e. let g = gave code pc l.free t (Give t o l.free l.values) e (λ r. refl) in
       left_put s.adts (told code pc) (told code (suc pc)) before after lo l.free l.values l.drops _ ts t (got_by s.adts t o) g p
@@ -322,6 +397,15 @@ module _ (s : Scope) (answer : Ty) (code : List Instr) where
       (lets_own s.adts (told code pc) (told code (suc pc)) after lo l.free t (work_refers s.adts t o) (got_by s.adts t o) l.drops
       (got_none s.adts t o) (got_below s.adts t o) g p
       (let q = left.long in omega arith) w left.lets)))
+
+  pub gives_goes : (lo : ℕ) (t : Ty) (o : Work) (l : LoweredAll) (ts : List Ty) → lo ≤ l.free → AllTouch (Between lo l.free) l.drops
+      → ((pc : ℕ) (after : Slots) → AreThese after l.values ts → AllTold (told code pc) after l.values → IsClean (slot after l.free)
+      → Finds s answer after (Give t o l.free l.values) × Agrees s answer code pc after (Give t o l.free l.values))
+      → AllBy lo l ts
+      → GoesBy lo (gives s.adts t o l) t
+  gives_goes lo t o l ts p w f all =
+      gives_with (λ after. Unit {0}) lo t o l ts p w (λ pc after a agree c more. f pc after a agree c)
+      (λ pc slots n has fits clean k. all pc slots n has fits clean (λ after left. k after left tt))
 
   pub channel_goes : (lo : ℕ) (u : List Ty) (t : Ty) (l : LoweredAll) (ts : List Ty) (i : Ty) → lo ≤ l.free
       → AllTouch (Between lo l.free) l.drops → t ≡ ty.ChanOf i → AllBy lo l ts → GoesBy lo (node s.adts u t tree.NewChannel l) t
@@ -362,6 +446,7 @@ module _ (s : Scope) (answer : Ty) (code : List Instr) where
         z,
         root_told s (told code pc) slots x.way.root (take (operands_of x.way) ss) (take (operands_of x.way) us) w.0.root
             (told_take (told code pc) slots (operands_of x.way) ss ts) (these_take slots (operands_of x.way) ss us a) w.0.begins,
+        writes_some s slots value v w.2.0 x.type x.part x.way (take (operands_of x.way) us) w.0 e w.2.1 w.2.2,
       ) refl
       (writes_go aims slots (drop (operands_of x.way) us) (drop (operands_of x.way) ss) value v n (suc pc)
       (these_drop slots (operands_of x.way) ss us a)
@@ -381,7 +466,11 @@ module _ (s : Scope) (answer : Ty) (code : List Instr) where
         subst (λ (k : ℕ). AreThese slots (take k ss) []) (sym w.0.1) tt,
         w.0.0,
         inr (e, w.0.2, w.0.3),
-      ) ((ty.Nothing, e, z), root_alone s (told code pc) slots x.way.root (take (operands_of x.way) ss) w.0.0.root w.0.0.begins) refl
+      ) (
+        (ty.Nothing, e, z),
+        root_alone s (told code pc) slots x.way.root (take (operands_of x.way) ss) w.0.0.root w.0.0.begins,
+        declares_some s slots value x.type x.way w.0.0,
+      ) refl
       (declares_go aims slots (drop (operands_of x.way) ss) value n (suc pc) e
       (told_same code pc value (Write x.type x.way (take (operands_of x.way) ss) x.part value) has.0 refl ∙ z) w.1 has.1
       (same_place s answer code n (pc + suc (length rest)) (suc pc + length rest) slots (omega arith) k))

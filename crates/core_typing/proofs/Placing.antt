@@ -3,18 +3,22 @@ use Rattle.std.proofs.Common.{◌≡◌, ℕ, zero, suc, ◌+◌, ◌-◌, ◌<�
 use Rattle.std.proofs.Common.{refl, sym, ap}
 use Rattle.std.proofs.Common.{subst, ◌∙◌, arith, inl, inr, ⊎_elim, ◌⊎◌, take, drop, append-nil, append_assoc, length-append}
 use Rattle.std.proofs.lemmas.Bool.{cases_eq, ne_eqb}
-use Rattle.std.specs.Prelude.{slice_get, slice_index_or, nat_eq, if◌then◌else◌}
+use Rattle.std.proofs.lemmas.Int.{ints}
+use Rattle.std.specs.Prelude.{pos, slice_get, slice_index_or, nat_eq, if◌then◌else◌}
 use Rattle.limbo_types.specs.Types as ty
 use Rattle.limbo_types.specs.Types.{Ty}
 use Rattle.limbo_types.specs.View.{tys_of}
 use Rattle.limbo_layout.specs.Layout.{reference, is_alone}
 use Rattle.limbo_layout.specs.Adts.{Def, Field, Variant, listed, parts, tag, types_of, variant_types}
+use Rattle.limbo_values.specs.declared.number.Kind.TheVariants as kind
+use Rattle.limbo_values.specs.Numbers.{InRange}
 use Rattle.limbo_typed.specs.Fitting.{HasPart, Stands, AllStand, Gives, TakesFields}
 use Rattle.limbo_typed.specs.declared.operation.Operation.{Operation}
 use Rattle.limbo_typed.specs.declared.operation.Operation.TheVariants as operation
 use Rattle.limbo_typed.specs.declared.print.Piece.{Piece}
 use Rattle.limbo_meaning.specs.Trees as tree
 use Rattle.limbo_meaning.specs.Trees.{Operate}
+use Rattle.limbo_meaning.specs.Evaluation.{passes_on}
 use Rattle.limbo_kept.specs.Operating.{HasRoom}
 use Rattle.limbo_kept.specs.Trees.{Scope, WorkIs}
 use Rattle.limbo_kept.specs.Processes.{AllHaveRooms}
@@ -26,14 +30,15 @@ use Rattle.core_follows.specs.Handled.{HasLayout, Makes}
 use Rattle.core_follows.proofs.Holding.{has_front, has_back}
 use Rattle.core_follows.proofs.Static.{after_touch, touch_wide}
 use Rattle.core_follows.proofs.Valued.{AllValued, spare_outside}
-use Rattle.core_typing.specs.Held.{Held, Of, Forming, Decided, Turns, Slots, empty, slot, put, type_held, live_in, moved, with_operand}
-use Rattle.core_typing.specs.Held.{or_nothing, live_formed, formed, Has}
+use Rattle.core_typing.specs.Held.{Held, Of, Forming, Decided, Turns, Slots, empty, slot, put, type_held, live_in, moved}
+use Rattle.core_typing.specs.Held.{type_forming, with_operand, or_nothing, live_formed, formed, Has, parts_in}
 use Rattle.core_typing.specs.Needs.{AllStandAs, AreThese, Finds, printed, IsBegun, AreArguments, IsClean, AreClean}
 use Rattle.core_typing.specs.Written.{given_to, told}
-use Rattle.core_typing.specs.Going.{stand, behind, Agrees, Goes, into_part, all_of}
+use Rattle.core_typing.specs.Going.{stand, behind, IsFirst, IsTagged, FormsAsTold, Agrees, Goes, into_part, all_of}
+use Rattle.core_typing.specs.Runs.{VariantsAreFew}
 use Rattle.core_typing.proofs.Telling.{Quiet, quiet_more, Gave, gave, none_into, some_into, told_same, told_over, told_at, told_given}
 use Rattle.core_typing.proofs.Going.{put_same, put_other, put_long, same_place, goes_to}
-use Rattle.core_typing.proofs.Cleaning.{clean_same}
+use Rattle.core_typing.proofs.Cleaning.{clean_same, has_either, has_number}
 use Rattle.core_typing.proofs.Drops.{Lets, none, lets_same, lets_more}
 use Rattle.core_typing.proofs.Standing.{as_on, itself, count_as, is_same, all_as_on, all_stand_on, all_stand_long, all_stand_itself}
 use Rattle.core_typing.proofs.Standing.{listed_types, tuple_room}
@@ -172,6 +177,69 @@ made_fit defs (ty.Adt k) (operation.Adt n v) ts us m a g =
     (fields_fit defs g.def v ts us a g.fields))
 made_fit defs _ _ ts us m a g = absurd m
 
+-- ---- parts at which no operand is yet
+
+-- Operands come to parts of these numbers, one after the other, none of which has one of those that are there.
+abbrev pub Fresh : (done numbers : List ℕ) → Type 0
+Fresh done [] = Unit {0}
+Fresh done (k ∷ ks) = (Has done k → ⊥) × Fresh (done ++ (k ∷ [])) ks
+
+fresh_row : (defs : List Def) (done : List ℕ) (p n : ℕ) → ((k : ℕ) → Has done k → k < p) → Fresh done (numbers_from defs p n)
+fresh_row defs done p zero f = tt
+fresh_row defs done p (suc n) f = (
+  λ h. absurd (let x = f p h in omega (arith, x)),
+  fresh_row defs (done ++ (p ∷ [])) (suc p) n (λ k h. elim (has_either done (p ∷ []) k h) [
+    | inl y ↦ let x = f k y in omega (arith, x)
+    | inr y ↦ elim y [ inl e ↦ omega (arith, e) | inr z ↦ absurd z ]
+  ]),
+)
+
+fresh_more : (done ks ls : List ℕ) → Fresh done ks → Fresh (done ++ ks) ls → Fresh done (ks ++ ls)
+fresh_more done [] ls f g = subst (λ (xs : List ℕ). Fresh xs ls) (append-nil done) g
+fresh_more done (k ∷ ks) ls f g =
+    (f.0, fresh_more (done ++ (k ∷ [])) ks ls f.1 (subst (λ (xs : List ℕ). Fresh xs ls) (sym (append_assoc done (k ∷ []) ks)) g))
+
+fresh_adt : (defs : List Def) (d : Option Def) (v : Option ℕ) (n : ℕ) → Fresh [] (adt_numbers defs d v n)
+fresh_adt defs (Some d) (Some v) n =
+    let c : ℕ = length d.fields in
+    let z : ℕ = length (variant_types (take v d.picks)) in
+    fresh_more [] (numbers_from defs 1 c) (numbers_from defs (1 + c + z) (n - c))
+    (fresh_row defs [] 1 c (λ k h. absurd h))
+    (fresh_row defs (numbers_from defs 1 c) (1 + c + z) (n - c)
+    (λ k h. let x = has_number defs 1 c k h in omega (arith, x)))
+fresh_adt defs (Some d) None n = fresh_row defs [] 0 n (λ k h. absurd h)
+fresh_adt defs None v n = fresh_row defs [] 0 n (λ k h. absurd h)
+
+-- So are the parts of a tuple and of an adt's value.
+fresh_parts : (defs : List Def) (o : Operation) (n : ℕ) → Fresh [] (part_numbers defs o n)
+fresh_parts defs (operation.Adt j v) n = fresh_adt defs (slice_get defs j) v n
+fresh_parts defs _ n = fresh_row defs [] 0 n (λ k h. absurd h)
+
+-- ---- the number of a variant
+
+small_int : (k : ℕ) → k < 2147483648 → InRange kind.Int (pos k)
+small_int k l = record { above = omega (arith, ints); below = omega (arith, ints) }
+
+get_less : {A : Type 0} (xs : List A) (k : ℕ) (x : A) → slice_get xs k ≡ Some x → k < length xs
+get_less [] k x e = absurd cc
+get_less (y ∷ xs) zero x e = omega arith
+get_less (y ∷ xs) (suc k) x e = let l = get_less xs k x e in omega (arith, l)
+
+made_tagged : (defs : List Def) → VariantsAreFew defs → (t : Ty) (o : Operation) (ts : List Ty) → Makes defs t o ts
+    → IsTagged defs t (variant_of defs o)
+made_tagged defs few (ty.Tuple vs) operation.Tuple ts m = tt
+made_tagged defs few (ty.Adt k) (operation.Adt n None) ts m = tt
+made_tagged defs few (ty.Adt k) (operation.Adt n (Some v)) ts m =
+    let d = m.1.0 in
+    let w = m.1.3 in
+    let tagged = tag_there d.picks v w.0 w.1 in
+    let there : slice_get (parts d) 0 ≡ Some ty.Int =
+    subst (λ (xs : List Ty). slice_get (xs ++ (types_of d.fields ++ variant_types d.picks)) 0 ≡ Some ty.Int) (sym tagged) refl in
+    let l = get_less d.picks v w.0 w.1 in
+    let m2 = few k d m.1.1 in
+    ((d, m.1.1, there), small_int v (omega (arith, l, m2)))
+made_tagged defs few _ _ ts m = absurd m
+
 -- ---- what is put together
 
 -- So many operands are there, or none, and nothing is named.
@@ -203,6 +271,22 @@ formed_live h t v ks us live (inr f) = clean h f.0 ∙ sym f.3
     clean (Forming w x ls vs ns) c = absurd c
     clean (Decided b) c = refl
     clean (Turns rs) c = refl
+
+-- At the parts of the others there are none.
+part_free : (h : Held) (t : Ty) (v : Option ℕ) (ks : List ℕ) (us : List Ty) (live : List ℕ) (k : ℕ) → HasFormed h t v ks us live
+    → (Has ks k → ⊥) → Has (parts_in h) k → ⊥
+part_free h t v ks us live k (inl e) f x = f (subst (λ (y : Held). Has (parts_in y) k) e x)
+part_free h t v ks us live k (inr c) f x = clean h c.0 x
+  where
+    clean : (h : Held) → IsClean h → Has (parts_in h) k → ⊥
+    clean (Of w ns) c x = x
+    clean (Forming w y ls vs ns) c x = c
+    clean (Decided b) c x = x
+    clean (Turns rs) c x = x
+
+none_first : (n : ℕ) (h : Held) → (n ≡ 0 → IsClean h) → IsFirst n h
+none_first zero h f = f refl
+none_first (suc n) h f = tt
 
 begun : (h : Held) (t : Ty) (v : Option ℕ) (ks : List ℕ) (us : List Ty) (live : List ℕ) (j : ℕ) → HasFormed h t v ks us live
     → length us ≡ j → IsBegun h t v j
@@ -243,6 +327,7 @@ pub record Placed (defs : List Def) (tells tells' : ℕ → Option Ty) (before l
   pub forms : HasFormed (slot last into) t v (done ++ numbers) (us ++ types)
       (live ++ all_moved (moves_into defs (part_types defs t) into numbers values) ghost)
   pub tell : (tells into ≡ Some t) ⊎ (0 < length values) → tells' into ≡ Some t
+  pub kept : length values ≡ 0 → slot last into ≡ slot before into
 
 -- ---- operands
 
@@ -313,17 +398,18 @@ module _ (s : Scope) (answer : Ty) (code : List Instr) where
       )
 
   -- Each comes to its part.
-  pub each_goes : (t : Ty) (v : Option ℕ) (into : ℕ) → HasRoom s.adts t
+  pub each_goes : (t : Ty) (v : Option ℕ) (into : ℕ) → HasRoom s.adts t → IsTagged s.adts t v
       → ((k : ℕ) (w : Ty) → slice_get (part_types s.adts t) k ≡ Some w → HasPart s.adts t k w)
       → (j : ℕ) (ks : List ℕ) (lo hi : ℕ) (cs : List (List Instr)) (ds : List Instr) (vs : List ℕ) (ts : List Ty)
       → EachBy lo hi cs ds vs ts → Fit (part_types s.adts t) ks ts → hi ≤ into
       → (done : List ℕ) (us : List Ty) (live : List ℕ) (slots : Slots) (n pc : ℕ) → HasFormed (slot slots into) t v done us live
-      → length us ≡ j → into < length slots → AreClean slots lo hi → HasAt code pc (placed s.adts t v into j ks cs vs)
+      → length us ≡ j → IsFirst j (slot slots into) → Fresh done ks → into < length slots
+      → AreClean slots lo hi → HasAt code pc (placed s.adts t v into j ks cs vs)
       → ((last : Slots) → Placed s.adts (told code pc) (told code (pc + length (placed s.adts t v into j ks cs vs))) slots last lo hi into
       vs ds ts t v ks done us live
       → Goes s answer code n (pc + length (placed s.adts t v into j ks cs vs)) last)
       → Goes s answer code n pc slots
-  each_goes t v into room has j [] lo hi [] ds [] [] e f l done us live slots n pc h m inside clean at k =
+  each_goes t v into room tagged has j [] lo hi [] ds [] [] e f l done us live slots n pc h m first fresh inside clean at k =
       same_place s answer code n (pc + 0) pc slots (omega arith)
       (k slots (record {
         ghost = slots;
@@ -341,14 +427,23 @@ module _ (s : Scope) (answer : Ty) (code : List Instr) where
           | inl y ↦ told_at code (pc + 0) pc into (omega arith) ∙ y
           | inr y ↦ absurd (omega (arith, y))
         ];
+        kept = λ x. refl;
       }))
-  each_goes t v into room has j (x ∷ ks) lo hi [] ds [] [] e f l done us live slots n pc h m inside clean at k = absurd f
-  each_goes t v into room has j ks lo hi [] ds [] (u ∷ ts) e f l done us live slots n pc h m inside clean at k = absurd e
-  each_goes t v into room has j ks lo hi [] ds (x ∷ vs) ts e f l done us live slots n pc h m inside clean at k = absurd e
-  each_goes t v into room has j ks lo hi (c ∷ cs) ds [] ts e f l done us live slots n pc h m inside clean at k = absurd e
-  each_goes t v into room has j ks lo hi (c ∷ cs) ds (x ∷ vs) [] e f l done us live slots n pc h m inside clean at k = absurd e
-  each_goes t v into room has j [] lo hi (c ∷ cs) ds (x ∷ vs) (u ∷ ts) e f l done us live slots n pc h m inside clean at k = absurd f
-  each_goes t v into room has j (i ∷ ks) lo hi (c ∷ cs) ds (x ∷ vs) (u ∷ ts) e f l done us live slots n pc h m inside clean at k =
+  each_goes t v into room tagged has j (x ∷ ks) lo hi [] ds [] [] e f l done us live slots n pc h m first fresh inside clean at k =
+      absurd f
+  each_goes t v into room tagged has j ks lo hi [] ds [] (u ∷ ts) e f l done us live slots n pc h m first fresh inside clean at k =
+      absurd e
+  each_goes t v into room tagged has j ks lo hi [] ds (x ∷ vs) ts e f l done us live slots n pc h m first fresh inside clean at k =
+      absurd e
+  each_goes t v into room tagged has j ks lo hi (c ∷ cs) ds [] ts e f l done us live slots n pc h m first fresh inside clean at k =
+      absurd e
+  each_goes t v into room tagged has j ks lo hi (c ∷ cs) ds (x ∷ vs) [] e f l done us live slots n pc h m first fresh inside clean at k =
+      absurd e
+  each_goes t v into room tagged has j [] lo hi (c ∷ cs) ds (x ∷ vs) (u ∷ ts) e f l done us live slots n pc h m first fresh inside
+      clean at k =
+      absurd f
+  each_goes t v into room tagged has j (i ∷ ks) lo hi (c ∷ cs) ds (x ∷ vs) (u ∷ ts) e f l done us live slots n pc h m first fresh inside
+      clean at k =
       let mid = e.0 in
       let a = e.1 in
       let b = e.2 in
@@ -395,9 +490,14 @@ module _ (s : Scope) (answer : Ty) (code : List Instr) where
         (part.0, has i part.0 part.1, as_on w u part.0 left.is.2 part.2),
         apart,
         begun (slot one into) t v done us live j before1 m,
-      ) tt refl
-      (each_goes t v into room has (suc j) ks mid hi cs b vs ts e.8 f.1 l (done ++ (i ∷ [])) (us ++ (w ∷ [])) (live ++ came) two n (suc pc1)
-      (inl (there ∙ grown)) (let y = length-append us (w ∷ []) in omega (arith, y, m)) (omega (arith, long2, long_out, long1, inside))
+      ) (
+        part_free (slot one into) t v done us live i before1 fresh.0,
+        subst (IsFirst j) (sym into1) first,
+        tagged,
+      ) refl
+      (each_goes t v into room tagged has (suc j) ks mid hi cs b vs ts e.8 f.1 l (done ++ (i ∷ [])) (us ++ (w ∷ [])) (live ++ came)
+      two n (suc pc1) (inl (there ∙ grown)) (let y = length-append us (w ∷ []) in omega (arith, y, m)) tt fresh.1
+      (omega (arith, long2, long_out, long1, inside))
       (λ r p q. clean_same (slot slots r) (slot two r)
       (other r (λ y. absurd (omega (arith, y, q, l))) (λ y. absurd (let z = x_in.1 in omega (arith, y, z, p))) ∙ left.same r (inr p))
       (clean r (omega arith) q)) at1.1
@@ -454,6 +554,7 @@ module _ (s : Scope) (answer : Ty) (code : List Instr) where
             (all_moved (moves_into s.adts (part_types s.adts t) into ks vs) ghost) (ap (λ (y : Held). moved move (live_in y)) g_here)
             (moved_same s.adts (part_types s.adts t) behind x into here ks vs differs) p.forms;
         tell = λ y. to_end into ∙ p.tell (inl (told_given code pc1 into place t at1.0 (some_into into t)));
+        kept = λ y. absurd (omega (arith, y));
       })))))
 
   -- ---- the slots of operands
@@ -530,10 +631,11 @@ module _ (s : Scope) (answer : Ty) (code : List Instr) where
 
   -- ---- a tuple, and a value of an adt
 
-  pub gather_goes : (lo : ℕ) (t : Ty) (o : Operation) (l : LoweredAll) (ts us : List Ty) → lo ≤ l.free
-      → AllTouch (Between lo l.free) l.drops → AllValued lo l.free l.drops l.values → Makes s.adts t o ts → AllStand ts us
+  pub gather_goes : VariantsAreFew s.adts → (lo : ℕ) (t : Ty) (o : Operation) (l : LoweredAll) (ts us : List Ty) → lo ≤ l.free
+      → AllTouch (Between lo l.free) l.drops → AllValued lo l.free l.drops l.values → passes_on o ≡ true → Makes s.adts t o ts
+      → AllStand ts us
       → WorkIs s t (Operate o) us t → EachBy lo l.free l.each l.drops l.values ts → GoesBy s answer code lo (gathers s.adts t o l) t
-  gather_goes lo t o l ts us p w v m st work each pc slots n at fits clean k =
+  gather_goes few lo t o l ts us p w v passes m st work each pc slots n at fits clean k =
       let mid = l.free in
       let vs = l.values in
       let ks = part_numbers s.adts o (length vs) in
@@ -546,8 +648,10 @@ module _ (s : Scope) (answer : Ty) (code : List Instr) where
       let long = each_long lo mid l.each l.drops vs ts each in
       let fit : Fit (part_types s.adts t) ks ts =
       subst (λ (j : ℕ). Fit (part_types s.adts t) (part_numbers s.adts o j) ts) (sym long) (made_fit s.adts t o ts us m st work.0) in
-      each_goes t (variant_of s.adts o) mid work.1 (λ i x e. fit_has s.adts t o ts i x m e) 0 ks lo mid l.each l.drops vs ts each fit
-      (omega arith) [] [] [] slots n pc (inr (clean mid p (omega arith), refl, refl, refl)) refl fits
+      let tagged = made_tagged s.adts few t o ts m in
+      each_goes t (variant_of s.adts o) mid work.1 tagged (λ i x e. fit_has s.adts t o ts i x m e) 0 ks lo mid l.each l.drops vs ts each fit
+      (omega arith) [] [] [] slots n pc (inr (clean mid p (omega arith), refl, refl, refl)) refl (clean mid p (omega arith))
+      (fresh_parts s.adts o (length vs)) fits
       (λ r x y. clean r x (omega (arith, y))) (has_front code pc is (gather ∷ []) at)
       (λ last q.
       let h = slot last mid in
@@ -566,7 +670,12 @@ module _ (s : Scope) (answer : Ty) (code : List Instr) where
           | inl e ↦ inr (q.types, all_as_on q.types ts us q.stand st, (_, e))
           | inr e ↦ inl (long ∙ sym (as_long q.types ts q.stand) ∙ ap length e.2, e.0)
         ],
-      ) tt refl
+      ) (
+        passes,
+        none_first (length vs) h
+            (λ e. clean_same (slot slots mid) (slot last mid) (q.kept e) (clean mid p (omega arith))),
+        tagged,
+      ) refl
       (same_place s answer code n at_end (suc pc1) final (omega arith)
       (k final (left_at s answer code at_end (suc pc1) slots final lo (suc mid) mid _ t (omega arith) (record {
         long = put_long last mid now ∙ long_last;
@@ -599,7 +708,7 @@ module _ (s : Scope) (answer : Ty) (code : List Instr) where
       → EachBy lo mid cs ds vs ts → AllHaveRooms s.adts (front ++ ts)
       → ((r : ℕ) → given_to i r ≡ (if nat_eq (suc mid) r then Some t else None))
       → ((slots : Slots) → AreArguments s.adts (slot slots mid) front ts → IsClean (slot slots (suc mid)) → Finds s answer slots i)
-      → ((pc : ℕ) (slots : Slots) → Agrees s answer code pc slots i)
+      → ((pc : ℕ) (slots : Slots) → FormsAsTold (told code pc) slots (Some mid) → Agrees s answer code pc slots i)
       → ((pc : ℕ) (slots : Slots) → behind s.adts pc slots i
       ≡ stand (suc pc) (put (put slots mid (formed (slot slots mid))) (suc mid) (Of t live)) ∷ [])
       → (b ≡ false → live ≡ []) → ((j : ℕ) → Has live j → j < count_of s.adts t)
@@ -625,8 +734,9 @@ module _ (s : Scope) (answer : Ty) (code : List Instr) where
       subst (λ (P : List Ty). Fit P ks ts) (sym listed_ts)
       (subst (λ (j : ℕ). Fit (front ++ ts) (numbers_from s.adts (length front) j) ts) (sym long)
       (fit_row (front ++ ts) ts (length front) s.adts ts (get_back front ts) (all_stand_itself ts))) in
-      each_goes T None mid (tuple_room s.adts (front ++ ts) rooms) (λ j x e. e) 0 ks lo mid cs ds vs ts each fit (omega arith) [] [] []
-      slots n pc (inr (clean mid p (omega arith), refl, refl, refl)) refl (omega arith)
+      each_goes T None mid (tuple_room s.adts (front ++ ts) rooms) tt (λ j x e. e) 0 ks lo mid cs ds vs ts each fit (omega arith) [] [] []
+      slots n pc (inr (clean mid p (omega arith), refl, refl, refl)) refl (clean mid p (omega arith))
+      (fresh_row s.adts [] (length front) (length vs) (λ k h. absurd h)) (omega arith)
       (λ r x y. clean r x (omega (arith, y))) (has_front code pc is (i ∷ []) at)
       (λ last q.
       let long_last : length last ≡ length slots = ap length q.is ∙ long_emptied q.ghost vs ∙ q.long in
@@ -667,7 +777,8 @@ module _ (s : Scope) (answer : Ty) (code : List Instr) where
           is_formed ∙ ap (λ (j : ℕ). Forming T None (numbers_from s.adts (length front) j) q.types (all_moved moves q.ghost)) long,
         ),
       ) in
-      goes_to s answer code n pc1 (suc pc1) last final i at1.0 (finds last arguments clean_value) (agrees pc1 last) (goes pc1 last)
+      goes_to s answer code n pc1 (suc pc1) last final i at1.0 (finds last arguments clean_value)
+      (agrees pc1 last (T, ap type_forming is_formed, told_mid.there)) (goes pc1 last)
       (same_place s answer code n at_end (suc pc1) final (omega arith)
       (k final (left_at s answer code at_end (suc pc1) slots final lo (suc (suc mid)) (suc mid) _ t (omega arith) (record {
         long = put_long whole (suc mid) now ∙ long_whole ∙ long_last;
@@ -714,7 +825,7 @@ module _ (s : Scope) (answer : Ty) (code : List Instr) where
         free = suc (if b then mid else suc mid);
       }) t) (sym (ne_eqb (suc (length vs)) 0 (λ e. absurd cc)))
       (together_goes lo [] t (Call t f (suc mid) (Some mid)) mid cs ds (x ∷ vs) ts true (all_of s.adts t) p w v (omega arith) each rooms
-      (λ r. refl) (λ slots a c. (ts, work, a, c)) (λ pc slots. tt) (λ pc slots. refl) (λ e. absurd cc) (all_below s.adts t))
+      (λ r. refl) (λ slots a c. (ts, work, a, c)) (λ pc slots f. f) (λ pc slots. refl) (λ e. absurd cc) (all_below s.adts t))
   call_goes lo t f mid all (c ∷ cs) ds [] ts p w v each rooms work = absurd each
   call_goes lo t f mid all [] ds [] (u ∷ ts) p w v each rooms work = absurd each
 
@@ -761,6 +872,6 @@ module _ (s : Scope) (answer : Ty) (code : List Instr) where
       }) ty.Int) (append-nil gone)
       (together_goes lo (ty.Chars ∷ []) ty.Int (Print ps (suc mid) (Some mid)) mid cs ds (x ∷ vs) ts false [] p w v (omega arith) each
       (text_room, rooms) (λ r. refl) (λ slots a c. (subst (AreArguments s.adts (slot slots mid) (ty.Chars ∷ [])) same a, c))
-      (λ pc slots. tt) (λ pc slots. refl) (λ e. refl) (λ j h. absurd h)))
+      (λ pc slots f. f) (λ pc slots. refl) (λ e. refl) (λ j h. absurd h)))
   print_goes lo ps mid all (c ∷ cs) ds [] ts p w v each rooms same = absurd each
   print_goes lo ps mid all [] ds [] (u ∷ ts) p w v each rooms same = absurd each

@@ -83,7 +83,6 @@ room_as defs _ v r (inl (inr e)) = absurd e
 room_as defs w v r (inr e) = subst (HasRoom defs) (sym e.0) (reference, is_alone ty.Nil reference refl)
 
 nil_counts : (defs : List Def) (t : Ty) → MayBeNil t → count_of defs ty.Nil ≡ count_of defs t
-nil_counts defs (ty.ArrayOf t) m = refl
 nil_counts defs (ty.ListOf t) m = refl
 nil_counts defs (ty.ChanOf t) m = refl
 nil_counts defs (ty.RefAdt n) m = refl

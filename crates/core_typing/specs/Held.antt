@@ -44,6 +44,11 @@ abbrev pub type_held : Held → Option Ty
 type_held (Of t ns) = Some t
 type_held h = None
 
+-- Of which type that is which is put together in a slot.
+abbrev pub type_forming : Held → Option Ty
+type_forming (Forming t v ks us ns) = Some t
+type_forming h = None
+
 abbrev pub or_nothing : Option Ty → Ty
 or_nothing None = ty.Nothing
 or_nothing (Some t) = t
@@ -75,7 +80,22 @@ abbrev pub chained : Regions → Region → Regions
 chained NoRegion g = MoreRegions g NoRegion
 chained (MoreRegions h rs) g = MoreRegions h (chained rs g)
 
+-- How many slots a region has.
+abbrev pub slots_in : Region → ℕ
+slots_in NoSlot = 0
+slots_in (MoreSlots h g) = suc (slots_in g)
+
+-- Each region of a chain has so many.
+abbrev pub EachHas : (words : ℕ) → Regions → Type 0
+EachHas n NoRegion = Unit {0}
+EachHas n (MoreRegions g rs) = (slots_in g ≡ n) × EachHas n rs
+
 -- ---- what is put together
+
+-- The parts at which operands are, of what is put together.
+abbrev pub parts_in : Held → List ℕ
+parts_in (Forming t v ks us ns) = ks
+parts_in h = []
 
 -- An operand of a type more is there, at the part of a number, and of its references these come along.
 abbrev pub with_operand : Ty → (variant : Option ℕ) → (part : ℕ) → (type : Ty) → (live : List ℕ) → Held → Held

@@ -3,4 +3,5 @@ pub mod Needs
 pub mod Written
 pub mod Going
 pub mod Trees
+pub mod Runs
 pub mod Functions

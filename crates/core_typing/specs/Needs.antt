@@ -20,9 +20,9 @@ use Rattle.core_code.specs.Code.{Other, Keep, Take, Drop, Mirror, Unless, Jump, 
 use Rattle.core_code.specs.Terms.{count_of, numbers_from, part_numbers, variant_of}
 use Rattle.core_typing.specs.Held.{Held, Of, Forming, Decided, Turns, Regions, NoRegion, MoreRegions, Slots, slot, type_held}
 
--- Types whose values are references, or nothing.
+-- Types whose values are references, or nothing. (Of an array a value says which part of it is meant, so `nil` of no type in particular is
+-- none.)
 abbrev pub MayBeNil : Ty → Type 0
-MayBeNil (ty.ArrayOf t) = Unit {0}
 MayBeNil (ty.ListOf t) = Unit {0}
 MayBeNil (ty.ChanOf t) = Unit {0}
 MayBeNil (ty.RefAdt n) = Unit {0}
@@ -98,6 +98,22 @@ AreClean slots a b = (r : ℕ) → a ≤ r → r < b → IsClean (slot slots r)
 
 abbrev pub AllClean : Slots → Type 0
 AllClean slots = (r : ℕ) → IsClean (slot slots r)
+
+-- ---- slots that have values
+
+-- A value stands there, or a decision, or a loop none of whose turns held anything.
+abbrev pub IsBare : Held → Type 0
+IsBare (Of t ns) = Unit {0}
+IsBare (Forming t v ks us ns) = ⊥
+IsBare (Decided b) = Unit {0}
+IsBare (Turns NoRegion) = Unit {0}
+IsBare (Turns (MoreRegions g rs)) = ⊥
+
+-- So it is in so many slots, from one on.
+abbrev pub AreBare : Slots → (from words : ℕ) → Type 0
+AreBare slots from words = (r : ℕ) → from ≤ r → r < from + words → IsBare (slot slots r)
+
+-- ---- values that are known
 
 abbrev pub NamesNothing : Value → Type 0
 NamesNothing v = (n : ℕ) → among n (references v) ≡ 0

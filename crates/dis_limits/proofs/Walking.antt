@@ -574,7 +574,7 @@ module _ (Fits : ℕ → Type 0) (o : Object) (a : Allows Fits o) (n k : ℕ) (x
         (λ s b. to_block i.dst (strings.array_of (encode_utf8_all s)) (array_fits (encode_utf8_all s)))
     data_keeps op.Cvtac =
         chain (source_reference x p i.src >>= elements_at x >>= strings.bytes_in) _ (λ bs b.
-        to_block i.dst (Found (Text (characters 0 bs))) (given (Text (characters 0 bs)) tt))
+        to_block i.dst _ (text_fits (unless_raised (strings.not_longer (characters 0 bs)))))
     data_keeps op.Consb =
         chain (source_of Byte x p i.src) _ (λ z b. conses_keep (with_number_at Byte (lists.holder_of Byte) (pos 0) z) (holder_fits Byte z))
     data_keeps op.Consw =
@@ -593,7 +593,7 @@ module _ (Fits : ℕ → Type 0) (o : Object) (a : Allows Fits o) (n k : ℕ) (x
     data_keeps op.Headm = headm_keeps
     data_keeps op.Headmp = headmp_keeps
     data_keeps op.Tail = chain (lists.first o x p i) _ (λ c b. to_reference i.dst _)
-    data_keeps op.Lenl = chain (source_reference x p i.src >>= list_length x) _ (λ l b. to_number Int i.dst (Found (pos l)))
+    data_keeps op.Lenl = chain (source_reference x p i.src >>= list_length x) _ (λ l b. to_number Int i.dst (Found (wrapped Int (pos l))))
     data_keeps op.Newcb = channel_keeps i.middle (type_of_size 1 [])
     data_keeps op.Newcw = channel_keeps i.middle (type_of_size 4 [])
     data_keeps op.Newcl = channel_keeps i.middle (type_of_size 8 [])

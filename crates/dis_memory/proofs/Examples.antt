@@ -158,6 +158,7 @@ cells : after 6 [] (nil ∷ zero_word ∷ zero_word ∷ []) (
       blocks = Some (Cell (Plain (pos 1) ∷ []) None) ∷ Some (Cell (Plain (pos 2) ∷ []) (Some 1)) ∷ None ∷ [];
       trace = Released 0 (3 ∷ []) ∷ [];
     })
+unfolding int_wrap
 cells = refl
 
 -- ---- records: both strings that a record refers to go with it, in one step

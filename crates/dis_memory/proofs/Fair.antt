@@ -28,7 +28,6 @@ use Rattle.limbo_values.specs.Numbers.{wrapped}
 use Rattle.limbo_values.specs.Operators.{shifted}
 use Rattle.limbo_values.specs.Texts.{bounds_in}
 use Rattle.limbo_values.specs.Conversions.{number_text, number_read}
-use Rattle.limbo_bytes.specs.Bytes.{characters}
 use Rattle.dis_memory.specs.Blocks.{Block, Record, Text, Channel, Sys, World, block, with_block, next_serial}
 use Rattle.dis_memory.specs.Raising.{not_nil, unless_raised}
 use Rattle.dis_memory.specs.Kinds.{Elements, elements_at, length_of, text_at, list_length}
@@ -315,7 +314,7 @@ module _ (limit : ℕ) (o : Object) (x : World) (p : Process) (i : Inst) where
   data_fair op.Cvtcw = chain (strings.source_text o x p i) _ (λ s a. to_number x p Int i.dst (Found (number_read Int s)))
   data_fair op.Cvtcl = chain (strings.source_text o x p i) _ (λ s a. to_number x p Big i.dst (Found (number_read Big s)))
   data_fair op.Cvtca = chain (strings.source_text o x p i) _ (λ s a. to_block x p i.dst (strings.array_of (encode_utf8_all s)))
-  data_fair op.Cvtac = chain (source_reference x p i.src >>= elements_at x >>= strings.bytes_in) _ (λ bs a. to_block x p i.dst (Found (Text (characters 0 bs))))
+  data_fair op.Cvtac = chain (source_reference x p i.src >>= elements_at x >>= strings.bytes_in) _ (λ bs a. to_block x p i.dst _)
   data_fair op.Consb = chain (source_of Byte x p i.src) _ (λ z a. conses_fair (with_number_at Byte (lists.holder_of Byte) (pos 0) z))
   data_fair op.Consw = chain (source_of Int x p i.src) _ (λ z a. conses_fair (with_number_at Int (lists.holder_of Int) (pos 0) z))
   data_fair op.Consl = chain (source_of Big x p i.src) _ (λ z a. conses_fair (with_number_at Big (lists.holder_of Big) (pos 0) z))
@@ -334,7 +333,7 @@ module _ (limit : ℕ) (o : Object) (x : World) (p : Process) (i : Inst) where
   data_fair op.Headm = headm_fair
   data_fair op.Headmp = headmp_fair
   data_fair op.Tail = chain (lists.first o x p i) _ (λ c a. to_reference x p i.dst _)
-  data_fair op.Lenl = chain (source_reference x p i.src >>= list_length x) _ (λ n a. to_number x p Int i.dst (Found (pos n)))
+  data_fair op.Lenl = chain (source_reference x p i.src >>= list_length x) _ (λ n a. to_number x p Int i.dst (Found (wrapped Int (pos n))))
   data_fair op.Newcb = channel_fair i.middle (type_of_size 1 [])
   data_fair op.Newcw = channel_fair i.middle (type_of_size 4 [])
   data_fair op.Newcl = channel_fair i.middle (type_of_size 8 [])

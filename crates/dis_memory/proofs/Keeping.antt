@@ -672,7 +672,7 @@ module _ (limit : ℕ) (o : Object) (x : World) (p : Process) (i : Inst) (d : No
   data_keeps op.Cvtcw = chain (strings.source_text o x p i) _ (λ s a. to_number x p d Int i.dst (Found (number_read Int s)))
   data_keeps op.Cvtcl = chain (strings.source_text o x p i) _ (λ s a. to_number x p d Big i.dst (Found (number_read Big s)))
   data_keeps op.Cvtca = chain (strings.source_text o x p i) _ (λ s a. to_new x p d i.dst (strings.array_of (encode_utf8_all s)) (array_of_none (encode_utf8_all s)))
-  data_keeps op.Cvtac = chain (source_reference x p i.src >>= elements_at x >>= strings.bytes_in) _ (λ bs a. to_new x p d i.dst (Found (Text (characters 0 bs))) (λ b e. given_none (Text (characters 0 bs)) b (λ n r. r) e))
+  data_keeps op.Cvtac = chain (source_reference x p i.src >>= elements_at x >>= strings.bytes_in) _ (λ bs a. to_new x p d i.dst _ (text_none (unless_raised (strings.not_longer (characters 0 bs)))))
   data_keeps op.Consb = chain (source_of Byte x p i.src) _ (λ z a. conses_keep (with_number_at Byte (lists.holder_of Byte) (pos 0) z) (holder_none Byte z))
   data_keeps op.Consw = chain (source_of Int x p i.src) _ (λ z a. conses_keep (with_number_at Int (lists.holder_of Int) (pos 0) z) (holder_none Int z))
   data_keeps op.Consl = chain (source_of Big x p i.src) _ (λ z a. conses_keep (with_number_at Big (lists.holder_of Big) (pos 0) z) (holder_none Big z))
@@ -686,7 +686,7 @@ module _ (limit : ℕ) (o : Object) (x : World) (p : Process) (i : Inst) (d : No
   data_keeps op.Headm = headm_keeps
   data_keeps op.Headmp = headmp_keeps
   data_keeps op.Tail = chain (lists.first o x p i) _ (λ c a. to_reference x p d i.dst _ (tail_sound c a))
-  data_keeps op.Lenl = chain (source_reference x p i.src >>= list_length x) _ (λ n a. to_number x p d Int i.dst (Found (pos n)))
+  data_keeps op.Lenl = chain (source_reference x p i.src >>= list_length x) _ (λ n a. to_number x p d Int i.dst (Found (wrapped Int (pos n))))
   data_keeps op.Newcb = channel_keeps i.middle (type_of_size 1 [])
   data_keeps op.Newcw = channel_keeps i.middle (type_of_size 4 [])
   data_keeps op.Newcl = channel_keeps i.middle (type_of_size 8 [])

@@ -7,6 +7,7 @@ use Rattle.dis_file.specs.declared.object.Object.{Object}
 use Rattle.dis_file.specs.declared.types.TypeDesc.{TypeDesc}
 use Rattle.limbo_values.specs.declared.number.Kind.{Kind}
 use Rattle.limbo_values.specs.declared.number.Kind.TheVariants.{Int, Big}
+use Rattle.limbo_values.specs.Numbers.{wrapped}
 use Rattle.dis_meaning.specs.Words.{Word, Plain, Refer, Access, Found, Wrong, ◌>>=◌, type_check, blank, at_least_zero, word_number}
 use Rattle.dis_meaning.specs.Words.{word_at, reference}
 use Rattle.dis_meaning.specs.Numbers.{number_at, with_number_at}
@@ -100,8 +101,9 @@ module _ (o : Object) (x : World) (p : Process) (i : Inst) where
   abbrev pub tail : Access Does
   tail = first >>= λ c. gives_reference x p i.dst (not_nil c >>= λ c. Found c.rest)
 
+  -- How many cells a list has, as an int: what is left of that number in its bits.
   abbrev pub lenl : Access Does
-  lenl = source_reference x p i.src >>= list_length x >>= λ n. gives_number x p Int i.dst (Found (pos n))
+  lenl = source_reference x p i.src >>= list_length x >>= λ n. gives_number x p Int i.dst (Found (wrapped Int (pos n)))
 
   -- ---- channels
 

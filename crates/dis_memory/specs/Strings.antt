@@ -124,13 +124,14 @@ module _ (o : Object) (x : World) (p : Process) (i : Inst) where
   abbrev pub number_of_text : Kind → Access Does
   number_of_text kind = source_text >>= λ s. gives_number x p kind i.dst (Found (number_read kind s))
 
-  -- A string as an array of bytes, and back.
+  -- A string as an array of bytes, and back, where these spell no string that is too long.
   abbrev pub cvtca : Access Does
   cvtca = source_text >>= λ s. gives_block x p i.dst (array_of (encode_utf8_all s))
 
   abbrev pub cvtac : Access Does
   cvtac =
-      source_reference x p i.src >>= elements_at x >>= bytes_in >>= λ bs. gives_block x p i.dst (Found (Text (characters 0 bs)))
+      source_reference x p i.src >>= elements_at x >>= bytes_in >>= λ bs.
+      gives_block x p i.dst (unless_raised (not_longer (characters 0 bs)) >>= λ t. Found (Text t))
 
   -- The process goes on there where the source stands so to the middle.
   abbrev pub compares : Comparison → Access Does

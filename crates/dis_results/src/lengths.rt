@@ -1,17 +1,20 @@
 //! Instructions that count (Dis Virtual Machine Specification, the instructions by name): lenc, lena, lenl.
 
-ghost use Rattle.std.specs.Prelude.{◌≡◌, ◌+◌, ◌<◌, ◌^◌, OnErr};
+ghost use Rattle.std.specs.Prelude.{◌≡◌, ◌+◌, ◌<◌, ◌^◌, pos, OnErr};
 ghost use Rattle.dis_file.specs.declared.object.Object.{Object};
+ghost use Rattle.limbo_values.specs.declared.number.Kind.TheVariants as kind;
+ghost use Rattle.limbo_values.specs.Numbers.{wrapped};
 ghost use Rattle.dis_memory.specs.Arrays as arrays;
 ghost use Rattle.dis_memory.specs.Lists as lists;
 ghost use Rattle.dis_memory.specs.Strings as strings;
 ghost use Rattle.dis_places.specs.View.{view_process, view_world};
 ghost use Rattle.dis_results.specs.Going.{Goes};
 
-use crate::operands::{natural_to, source_reference};
+use crate::operands::{natural_to, number_to, source_reference};
 use dis_isa::Inst;
 use dis_kinds::{elements_of, list_length, text_of};
 use dis_places::{Halt, Memory, Process};
+use limbo_values::{Kind, Number};
 
 /// `lenc`: how many characters a string has.
 pub fn lenc(memory: &mut Memory, process: &mut Process, inst: Inst) -> Result<(), Halt>
@@ -49,7 +52,14 @@ pub fn lena(memory: &mut Memory, process: &mut Process, inst: Inst) -> Result<()
     }
 }
 
-/// `lenl`: how many cells a list has.
+// What is left of a number in the bits of an int.
+fn wrap(count: u64) -> i32
+    ensures { result ≡ wrapped kind.Int (pos count) }
+{
+    ((count % (1 << 32)) as u32).cast_signed()
+}
+
+/// `lenl`: how many cells a list has, as an int: what is left of that number in its bits.
 pub fn lenl(memory: &mut Memory, process: &mut Process, inst: Inst) -> Result<(), Halt>
     requires place { process.old.frame.pc + 1 < 2 ^ 64 }
     ensures goes { (o : Object) → Goes memory.old process.old result
@@ -61,7 +71,13 @@ pub fn lenl(memory: &mut Memory, process: &mut Process, inst: Inst) -> Result<()
         Err(halt) => return Err(halt),
     };
     match list_length(memory, block) {
-        Ok(count) => natural_to(memory, process, inst.dst, count),
+        Ok(count) => number_to(
+            memory,
+            process,
+            Kind::Int,
+            inst.dst,
+            Ok(Number::Int(wrap(count))),
+        ),
         Err(fault) => Err(Halt::Fault(fault)),
     }
 }

@@ -11,7 +11,6 @@ use Rattle.limbo_values.specs.declared.number.Kind.TheVariants.{Byte, Int, Big}
 use Rattle.limbo_values.specs.declared.operator.Comparison.{Comparison}
 use Rattle.limbo_values.specs.Numbers.{wrapped}
 use Rattle.limbo_values.specs.Operators.{applied, shifted, compared}
-use Rattle.limbo_bytes.specs.Bytes.{characters}
 use Rattle.limbo_values.specs.Conversions.{number_text, number_read}
 use Rattle.limbo_values.specs.Texts.{bounds_in, text_compared}
 use Rattle.dis_isa.specs.declared.inst.Inst.{Inst}
@@ -422,7 +421,7 @@ module _ (x : World) (p : Process) (h : HasGiven x p) (o : Object) (i : Inst) wh
       any x p h (source_reference x p i.src >>= text_at x) _ (λ s. block_on x p h i.dst (strings.array_of (encode_utf8_all s)))
   obey_given limit op.Cvtac =
       any x p h (source_reference x p i.src >>= elements_at x >>= strings.bytes_in) _
-      (λ bs. block_on x p h i.dst (Found (Text (characters 0 bs))))
+      (λ bs. block_on x p h i.dst _)
   obey_given limit op.Consb = any x p h (source_of Byte x p i.src) _ (λ z. consed (with_number_at Byte (lists.holder_of Byte) (pos 0) z))
   obey_given limit op.Consw = any x p h (source_of Int x p i.src) _ (λ z. consed (with_number_at Int (lists.holder_of Int) (pos 0) z))
   obey_given limit op.Consl = any x p h (source_of Big x p i.src) _ (λ z. consed (with_number_at Big (lists.holder_of Big) (pos 0) z))
@@ -447,7 +446,7 @@ module _ (x : World) (p : Process) (h : HasGiven x p) (o : Object) (i : Inst) wh
       any x p h (words_at x p d) _ (λ target. any x p h (word_number (place_in d)) _ (λ to. any x p h (not_nil c) _ (λ c.
       words_on x p h d (typed_words desc c.element 0 >>= copies.put target to)))))))
   obey_given limit op.Tail = any x p h first _ (λ c. reference_on x p h i.dst _)
-  obey_given limit op.Lenl = any x p h (source_reference x p i.src >>= list_length x) _ (λ n. number_on x p h Int i.dst (Found (pos n)))
+  obey_given limit op.Lenl = any x p h (source_reference x p i.src >>= list_length x) _ (λ n. number_on x p h Int i.dst (Found (wrapped Int (pos n))))
   obey_given limit op.Newcb = channel_given i.middle _
   obey_given limit op.Newcw = channel_given i.middle _
   obey_given limit op.Newcl = channel_given i.middle _

@@ -9,6 +9,7 @@ ghost use Rattle.dis_memory.specs.Blocks as blocks;
 ghost use Rattle.dis_memory.specs.Kinds.{elements_at};
 ghost use Rattle.dis_memory.specs.Naming.{names};
 ghost use Rattle.dis_memory.specs.Places as places;
+ghost use Rattle.dis_memory.specs.Raising.{unless_raised};
 ghost use Rattle.dis_memory.specs.Results.{gives_block_at};
 ghost use Rattle.dis_memory.specs.Strings as strings;
 ghost use Rattle.dis_places.specs.View.{view_process, view_spot, view_world};
@@ -16,6 +17,7 @@ ghost use Rattle.dis_places.specs.Words.{Gives};
 ghost use Rattle.dis_kinds.specs.Views.{view_elements};
 ghost use Rattle.dis_code.specs.Loaded.{HasFirst};
 ghost use Rattle.dis_results.specs.Going.{Goes};
+ghost use Rattle.dis_strings.specs.Telling.{told_text};
 ghost use Rattle.dis_text_numbers.specs.Packed.{words_of};
 
 use crate::bytes::packed;
@@ -26,6 +28,7 @@ use dis_kinds::{Elements, bytes_from, elements_of};
 use dis_places::{Fault, Halt, Memory, Process, Raise, Region, Spot, spot_of};
 use dis_results::{advance, has_reference, size_of, source_reference};
 use dis_strings::{source_text, text_to};
+use limbo_values::Raised;
 use ref_heap::{Kind, Words};
 use std::alloc::Global;
 
@@ -34,6 +37,9 @@ const BYTE: u32 = 0;
 
 // How many bytes an array takes at most.
 const MOST_BYTES: usize = 268_435_456;
+
+// How many characters a string has at most.
+const LONGEST: usize = 16_777_216;
 
 // Makes an array of these bytes and stores a reference to it where one stands, and the process goes on.
 fn finish_bytes(
@@ -168,7 +174,19 @@ fn source_bytes(
     }
 }
 
-/// `cvtac`: an array of bytes as the string that they spell in UTF-8, with U+FFFD for each byte that begins no character.
+// A string, or that it is too long.
+fn not_longer(text: Vec<u32>) -> Result<Vec<u32>, Raise>
+    ensures { told_text result ≡ unless_raised (strings.not_longer text.items) }
+{
+    if text.len() > LONGEST {
+        Err(Raise::Value(Raised::StringTooLong))
+    } else {
+        Ok(text)
+    }
+}
+
+/// `cvtac`: an array of bytes as the string that they spell in UTF-8, with U+FFFD for each byte that begins no character, or that this
+/// string would be too long.
 pub fn cvtac(
     alloc: Global,
     memory: &mut Memory,
@@ -186,7 +204,7 @@ pub fn cvtac(
         Err(halt) => return Err(halt),
     };
     match read_bytes(alloc, &bytes) {
-        Ok(text) => text_to(memory, process, inst.dst, Ok(text)),
+        Ok(text) => text_to(memory, process, inst.dst, not_longer(text)),
         Err(_) => Err(Halt::NoMemory),
     }
 }

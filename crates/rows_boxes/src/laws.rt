@@ -1,7 +1,8 @@
 //! What holds of rows whose values have a record of their own.
 
 ghost use Rattle.rows_boxes.specs.Differing.{SlotsDiffer};
-ghost use Rattle.rows_boxes.specs.Rows.{BigLiteralsGo, BigArithmeticGoes, BigShiftsGo, BigAltersGo, BigConvertsGo, BoxReadsGo, BoxGlobalsGo, BigsShortenGo, AltersGo, BigNumbersReadGo, BoxHeadsGo, BigComparesGo, BigTextsGo};
+ghost use Rattle.rows_boxes.specs.Rows.{BigLiteralsGo, BigArithmeticGoes, BigShiftsGo, BigAltersGo, BigConvertsGo, BoxReadsGo};
+ghost use Rattle.rows_boxes.specs.Rows.{BoxGlobalsGo, BigsShortenGo, AltersGo, BigNumbersReadGo, BoxHeadsGo, BigComparesGo, BigTextsGo};
 
 /// A constant that is a big comes into a slot.
 pub fn big_literals_go()

@@ -62,7 +62,8 @@ use Rattle.value_follows.proofs.Slots.{uses}
 use Rattle.value_follows.proofs.Several.{names_as, moved_names}
 use Rattle.value_follows.proofs.Waiting.{all_wait_later}
 use Rattle.value_follows.proofs.Standing.{all_wait}
-use Rattle.rows_calling.specs.Rows.{IsBehindPrint, RepliesGo}
+use Rattle.value_follows.specs.Stands.{IsBehindPrint}
+use Rattle.rows_calling.specs.Rows.{RepliesGo}
 use Rattle.rows_calling.proofs.Ints.{AnswersInt, hear_int}
 use Rattle.rows_calling.proofs.Making.{older_stay}
 use Rattle.rows_calling.proofs.Tidying.{AtLast, tidy_step, long_print}
@@ -147,6 +148,13 @@ module _ (m : typed.Module) (b : Base m) (k : Facts) (i : ℕ) (w : Shared) (x :
         goes = a.goes;
         waits = waits_then q.frame refl refl;
         pc = a.pc;
+        behind = record {
+          before = behind.before;
+          pieces = behind.pieces;
+          operands = behind.operands;
+          next = behind.next;
+          there = behind.there;
+        };
         spare = a.spare;
         none_made = a.none_made;
         refers = a.refers;
@@ -371,4 +379,4 @@ module _ (m : typed.Module) (b : Base m) (k : Facts) (i : ℕ) (w : Shared) (x :
       (replies (hear reply w.outside a.writing) (hear_int reply w.outside a.writing)))
 
 pub replies_go : RepliesGo
-replies_go m b k i reply w x p q asking behind worlds = replies_here m b k i w x p q asking.0 behind asking.1 worlds reply
+replies_go m b k i reply w x p q asking worlds = replies_here m b k i w x p q asking.0 asking.0.behind asking.1 worlds reply

@@ -23,7 +23,7 @@ all_laid defs (t ∷ ts) h =
     (subst (Laid defs t) (sym (rounds_give_rooms.rooms defs t h.0.0 h.0.1)) h.0.1) (all_laid defs ts h.1)
 
 pub sound_functions_begin : SoundFunctionsBegin
-sound_functions_begin m x laid written part = record {
+sound_functions_begin m x laid few written part runs = record {
   laid = λ n f e.
       let is : ProgramIs (outline_of m) (program_of m) =
       modules_keep_types.programs Anything m x laid written (modules_keep_types.anything m) in
@@ -35,6 +35,6 @@ sound_functions_begin m x laid written part = record {
       let room = (is.routines n (signature_of f) (routine_of f) (get_map signature_of m.functions n f e) (get_map routine_of m.functions n f e)).answer in
       subst (Laid m.adts f.of.answer) (sym (rounds_give_rooms.rooms m.adts f.of.answer room.0 room.1)) room.1;
   goes = λ n f e.
-      sound_modules_go_well trees_go_well values_go_well m x laid written part n (signature_of f) (routine_of f)
+      sound_modules_go_well trees_go_well values_go_well m x laid few written part runs n (signature_of f) (routine_of f)
       (get_map signature_of m.functions n f e) (get_map routine_of m.functions n f e);
 }

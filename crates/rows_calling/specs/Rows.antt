@@ -1,5 +1,5 @@
 -- Rows of calls.
-use Rattle.std.specs.Prelude.{ℕ, suc, ◌≡◌, ◌<◌, List, Option, None, Some, replicate, slice_get}
+use Rattle.std.specs.Prelude.{ℕ, ◌≡◌, ◌<◌, None, Some, replicate, slice_get}
 use Rattle.styx_msg.specs.declared.message.Rmsg.{Rmsg}
 use Rattle.process_model.specs.Follows.{MatchesReply}
 use Rattle.process_ways.specs.Ways.{with_ways}
@@ -8,7 +8,6 @@ use Rattle.limbo_layout.specs.Layout.{Laid, AllLaid}
 use Rattle.limbo_layout.specs.Laying.{rooms_of}
 use Rattle.limbo_typed.specs.Typed as typed
 use Rattle.limbo_typed.specs.Sound.{IsSound}
-use Rattle.limbo_typed.specs.declared.print.Piece.{Piece}
 use Rattle.limbo_meaning.specs.Process.{Shared}
 use Rattle.limbo_meaning.specs.Program.{program_of}
 use Rattle.limbo_kept.specs.Modules.{AdtsAreLaid, TextsAreWritten}
@@ -17,6 +16,7 @@ use Rattle.core_code.specs.Rooms.{rooms_in}
 use Rattle.core_code.specs.Code as core
 use Rattle.core_code.specs.Machine as code
 use Rattle.core_typing.specs.Held as held
+use Rattle.core_typing.specs.Runs.{VariantsAreFew, ProgramRuns}
 use Rattle.dis_meaning.specs.Process.{Process}
 use Rattle.dis_memory.specs.Blocks.{World}
 use Rattle.value_words.specs.Facts.{Facts}
@@ -48,23 +48,17 @@ BoxedCallsGo =
     (m : typed.Module) → Base m → FunctionsBegin m → (t : Ty) (f into : ℕ) → form_of t ≡ Boxed → 0 < (room_for m.adts t).size →
     InstrGoes m (core.Call t f into None)
 
--- The functions of each sound module of this part of the language begin well, where its adts have layouts and its texts are written well.
+-- The functions of each sound module of this part of the language begin well, where its adts have layouts and few variants, its texts are
+-- written well and its trees are run.
 abbrev pub SoundFunctionsBegin : Type 0
 SoundFunctionsBegin =
-    (m : typed.Module) → IsSound m → AdtsAreLaid m.adts → TextsAreWritten m → ProgramPart (program_of m) → FunctionsBegin m
-
--- In front of where the process is stands the print whose answer it waits for.
-pub record IsBehindPrint (p : code.Process) : Type 0 where
-  pub before : ℕ
-  pub pieces : List Piece
-  pub operands : Option ℕ
-  pub next : p.frame.pc ≡ suc before
-  pub there : slice_get p.frame.code before ≡ Some (core.Print pieces p.frame.into operands)
+    (m : typed.Module) → IsSound m → AdtsAreLaid m.adts → VariantsAreFew m.adts → TextsAreWritten m → ProgramPart (program_of m) →
+    ProgramRuns m.adts (program_of m) → FunctionsBegin m
 
 -- At a reply to a print both processes do the same: they ask again; or the answer comes to its slot, and the machine's process has one
 -- instruction more until both are ready again.
 abbrev pub RepliesGo : Type 0
 RepliesGo =
     (m : typed.Module) → Base m → (k : Facts) (i : ℕ) (a : Rmsg) (w : Shared) (x : World) (p : code.Process) (q : Process) →
-    (sides m).asking k i x p q → IsBehindPrint p → (sides m).worlds k w x →
+    (sides m).asking k i x p q → (sides m).worlds k w x →
     MatchesReply (with_ways (sides m) (place m)) k i x ((sides m).program.answer a w p) ((sides m).code.answer a x q)

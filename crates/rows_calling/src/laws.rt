@@ -7,7 +7,8 @@ pub fn plain_calls_go()
     ensures { PlainCallsGo }
 {}
 
-/// Each function of a sound module begins well: its variables have a layout, and its code finds what it needs.
+/// Each function of a sound module, whose adts have few variants and whose trees are run, begins well: its variables have a layout, and its
+/// code finds what it needs.
 pub fn sound_functions_begin()
     ensures { SoundFunctionsBegin }
 {}

@@ -44,7 +44,8 @@ use Rattle.value_follows.proofs.Jumps.{row as row_at}
 use Rattle.value_follows.proofs.Several.{Next}
 use Rattle.value_follows.proofs.Slots.{slot_is, uses}
 use Rattle.value_follows.proofs.Standing.{finds, code_here, goes_behind}
-use Rattle.rows_forming.specs.Rows.{EmptyGathersGo, IsTagged}
+use Rattle.core_typing.specs.Going.{IsTagged}
+use Rattle.rows_forming.specs.Rows.{EmptyGathersGo}
 use Rattle.number_effects.specs.Stepping.{Reaches}
 use Rattle.value_follows.proofs.Standing.{instance_here}
 use Rattle.rows_forming.proofs.Builds.{Builds, builds_hold, builds_later}
@@ -220,7 +221,7 @@ module _ (m : typed.Module) (b : Base m) (t : Ty) (o : Operation) (into : ℕ) (
 
   -- ---- with a variant its number comes by a second one
 
-  module _ (v : ℕ) (some : variant_of m.adts o ≡ Some v) (tagged : IsTagged m t (Some v)) where
+  module _ (v : ℕ) (some : variant_of m.adts o ≡ Some v) (tagged : IsTagged m.adts t (Some v)) where
     size_is : (f : typed.Function) (pc : ℕ) → size_at m f.of.answer (of_function m f) pc (Some instr) ≡ 2
     size_is f pc =
         ap (λ (v : Option ℕ). suc (length (written.tagged (blank_site m f.of.answer (of_function m f) pc).scene v into))) some
@@ -362,6 +363,6 @@ module _ (m : typed.Module) (b : Base m) (t : Ty) (o : Operation) (into : ℕ) (
 pub empty_gathers_go : EmptyGathersGo
 empty_gathers_go m b t o into passes tagged k i x p q r here clean = go (variant_of m.adts o) refl tagged
   where
-    go : (c : Option ℕ) → variant_of m.adts o ≡ c → IsTagged m t c → RowGoes m k i x p q
+    go : (c : Option ℕ) → variant_of m.adts o ≡ c → IsTagged m.adts t c → RowGoes m k i x p q
     go None e tag = none_goes m b t o into passes i p here e k x q r.0 r.1 clean
     go (Some v) e tag = some_goes m b t o into passes i p here v e tag k x q r.0 r.1 clean

@@ -14,7 +14,7 @@ use Rattle.core_code.specs.Machine as code
 use Rattle.core_code.specs.Slots as core
 use Rattle.core_code.specs.Slots.{Slot, Forms, slot_names}
 use Rattle.core_typing.specs.Held as held
-use Rattle.core_typing.specs.Held.{Held, Forming, type_held, with_operand}
+use Rattle.core_typing.specs.Held.{Held, Forming, type_held, with_operand, parts_in}
 use Rattle.core_typing.specs.Needs.{StandsAs}
 use Rattle.dis_meaning.specs.Words.{Word}
 use Rattle.dis_meaning.specs.Process.{Process}
@@ -37,13 +37,18 @@ use Rattle.value_follows.specs.Sides.{HoldTheSame}
 use Rattle.value_follows.specs.Rows.{Base, RowGoes}
 use Rattle.value_follows.proofs.Slots.{slot_is, uses}
 use Rattle.value_follows.proofs.Standing.{finds, code_here}
-use Rattle.rows_forming.specs.Rows.{LaterPlacesGo, IsApt, IsSmall, part_of, parts_in}
+use Rattle.rows_forming.specs.Rows.{LaterPlacesGo, IsApt, IsSmall, part_of}
 use Rattle.rows_forming.proofs.Builds.{Builds, builds_way}
 use Rattle.rows_forming.proofs.Placing.{instr, Task}
 use Rattle.rows_forming.proofs.Putting.{part_type, slot_among}
 use Rattle.rows_forming.proofs.SoFar.{so_far, forming_so}
 use Rattle.rows_forming.proofs.Ways.{way_from, site_now, tail_of, code_now}
 use Rattle.rows_forming.proofs.Moving.{Moving, at_once, behind_size, moving, size_inst}
+
+among : (ks : List ℕ) (k : ℕ) → Has ks k → held.Has ks k
+among [] k h = absurd h
+among (n ∷ ns) k (inl e) = inl e
+among (n ∷ ns) k (inr h) = inr (among ns k h)
 
 -- ---- a slot gives away what it has
 
@@ -194,7 +199,7 @@ module _ (m : typed.Module) (t : Ty) (variant : Option ℕ) (j part into from : 
               live = live;
               vs = z.0;
               so = forming_so m.adts t variant k ks us live z.0 z.3 z.6;
-              new = λ h. apt.0 (subst (λ (y : Held). Has (parts_in y) part) (sym so) h);
+              new = λ h. apt.0 (subst (λ (y : Held). held.Has (parts_in y) part) (sym so) (among ks part h));
               values = ap core.operands_of z.1;
               named = λ n l. subst (λ (y : Slot). 0 < slot_names y n) z.1 l;
               puts = λ ms. ap (λ (y : Held). with_operand t variant part u ms y) so;

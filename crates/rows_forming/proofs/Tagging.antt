@@ -66,7 +66,8 @@ use Rattle.value_follows.proofs.RootedValues.{has_at, stands_laid}
 use Rattle.value_follows.proofs.Slots.{number_there}
 use Rattle.value_follows.proofs.Standing.{code_here}
 use Rattle.value_follows.proofs.Several.{Next, moved_to}
-use Rattle.rows_forming.specs.Rows.{FirstPlacesGo, IsAptFirst, IsTagged, IsSmall, part_of}
+use Rattle.core_typing.specs.Going.{IsTagged}
+use Rattle.rows_forming.specs.Rows.{FirstPlacesGo, IsAptFirst, IsSmall, part_of}
 use Rattle.rows_forming.proofs.Builds.{Builds, box_place, builds_hold, builds_way}
 use Rattle.rows_forming.proofs.First.{found_so, starts}
 use Rattle.rows_forming.proofs.Opening.{moved_some, nowhere_nothing, nothing_or}
@@ -125,7 +126,7 @@ writes_again target others to size c ranged = record {
   ranged = λ s t. ranged;
 }
 
-module _ (m : typed.Module) (b : Base m) (t : Ty) (v : ℕ) (tagged : IsTagged m t (Some v)) (number : ℕ) (f : typed.Function) (into : ℕ)
+module _ (m : typed.Module) (b : Base m) (t : Ty) (v : ℕ) (tagged : IsTagged m.adts t (Some v)) (number : ℕ) (f : typed.Function) (into : ℕ)
     (known : held.Slots) (i : ℕ) (p : code.Process) (q : Process) (k : Facts) (w : Shared) (x : World) (far box : ℕ)
     (s : Builds m number f t into far box (new_words m.adts t) (zero_of m.adts t) known k i x p q) (hold : HoldTheSame m k i x p q)
     (worlds : (sides m).worlds k w x) where
@@ -251,7 +252,7 @@ module _ (m : typed.Module) (b : Base m) (t : Ty) (v : ℕ) (tagged : IsTagged m
       (builds_way m number f t into b n (suc far) box tag_words (begun m.adts t (Some v)) known i p tag_process k tag_world tag_builds
       (builds_hold m number f t into b (suc far) box tag_words (begun m.adts t (Some v)) known i p tag_process k tag_world tag_builds w tag_alike live) does)
 
-some_first : (m : typed.Module) (b : Base m) (t : Ty) (v part into from : ℕ) → IsTagged m t (Some v) → IsSmall m t part
+some_first : (m : typed.Module) (b : Base m) (t : Ty) (v part into from : ℕ) → IsTagged m.adts t (Some v) → IsSmall m t part
     → (part_of m t part ≡ ty.Nothing → ⊥) → (k : Facts) (i : ℕ) (x : World) (p : code.Process) (q : Process) (r : (sides m).ready k i x p q)
     → (here : slice_get p.frame.code p.frame.pc ≡ Some (instr m t (Some v) 0 part into from)) → IsAptFirst m r.0.stands.is.known t part into from
     → RowGoes m k i x p q
@@ -342,7 +343,7 @@ none_lacking m b t part into from lacks k i x p q first_ready here apt = (
   ),
 )
 
-some_lacking : (m : typed.Module) (b : Base m) (t : Ty) (v part into from : ℕ) → IsTagged m t (Some v) → part_of m t part ≡ ty.Nothing
+some_lacking : (m : typed.Module) (b : Base m) (t : Ty) (v part into from : ℕ) → IsTagged m.adts t (Some v) → part_of m t part ≡ ty.Nothing
     → (k : Facts) (i : ℕ) (x : World) (p : code.Process) (q : Process) (r : (sides m).ready k i x p q)
     → (here : slice_get p.frame.code p.frame.pc ≡ Some (instr m t (Some v) 0 part into from)) → IsAptFirst m r.0.stands.is.known t part into from
     → RowGoes m k i x p q

@@ -2,12 +2,8 @@
 use Rattle.std.specs.Prelude.{ℕ, pos, suc, ◌≡◌, ◌≤◌, true, List, [], Option, None, Some, slice_get, slice_index_or}
 use Rattle.limbo_types.specs.Types as ty
 use Rattle.limbo_types.specs.Types.{Ty}
-use Rattle.limbo_layout.specs.Adts.{Has}
 use Rattle.limbo_layout.specs.Layout.{limit}
-use Rattle.limbo_values.specs.declared.number.Kind.TheVariants as kind
-use Rattle.limbo_values.specs.Numbers.{InRange}
 use Rattle.limbo_typed.specs.Typed as typed
-use Rattle.limbo_typed.specs.Fitting.{HasPart}
 use Rattle.limbo_typed.specs.declared.operation.Operation.{Operation}
 use Rattle.limbo_meaning.specs.Evaluation.{passes_on}
 use Rattle.limbo_meaning.specs.Trees.{Operate}
@@ -16,8 +12,9 @@ use Rattle.core_code.specs.Code.{Instr}
 use Rattle.core_code.specs.Machine as code
 use Rattle.core_code.specs.Terms.{part_types, variant_of}
 use Rattle.core_typing.specs.Held as held
-use Rattle.core_typing.specs.Held.{Held, Forming, type_held}
+use Rattle.core_typing.specs.Held.{Has, type_held, parts_in}
 use Rattle.core_typing.specs.Needs.{IsClean}
+use Rattle.core_typing.specs.Going.{IsTagged}
 use Rattle.dis_meaning.specs.Process.{Process}
 use Rattle.dis_memory.specs.Blocks.{World}
 use Rattle.value_words.specs.Facts.{Facts}
@@ -29,11 +26,6 @@ use Rattle.value_follows.specs.Rows.{Base, InstrGoes, RowGoes}
 abbrev pub IsNoNilArray : (from to : Ty) → Type 0
 IsNoNilArray ty.Nil (ty.ArrayOf t) = ⊥
 IsNoNilArray u t = Unit {0}
-
--- The parts at which operands are, of what is put together.
-abbrev pub parts_in : Held → List ℕ
-parts_in (Forming t v ks us live) = ks
-parts_in h = []
 
 module _ (m : typed.Module) where
   -- The type of a part.
@@ -69,11 +61,6 @@ module _ (m : typed.Module) where
   IsAptFirst known t part into from =
       IsClean (held.slot known into) × ((u : Ty) → type_held (held.slot known from) ≡ Some u → IsNoNilArray u (part_of m t part))
 
-  -- The number of a variant is an int, and comes to an int in front.
-  abbrev pub IsTagged : Ty → Option ℕ → Type 0
-  IsTagged t None = Unit {0}
-  IsTagged t (Some v) = HasPart m.adts t 0 ty.Int × InRange kind.Int (pos v)
-
   abbrev pub FirstPlaceGoes : Ty → Option ℕ → (part into from : ℕ) → Type 0
   FirstPlaceGoes t v part into from =
       (k : Facts) (i : ℕ) (x : World) (p : code.Process) (q : Process) (r : (sides m).ready k i x p q) →
@@ -83,7 +70,7 @@ module _ (m : typed.Module) where
 -- The first operand does, once a record is made for what is put together.
 abbrev pub FirstPlacesGo : Type 0
 FirstPlacesGo =
-    (m : typed.Module) → Base m → (t : Ty) (v : Option ℕ) (part into from : ℕ) → IsTagged m t v → IsSmall m t part →
+    (m : typed.Module) → Base m → (t : Ty) (v : Option ℕ) (part into from : ℕ) → IsTagged m.adts t v → IsSmall m t part →
     FirstPlaceGoes m t v part into from
 
 -- A tuple, or a value of an adt, is there, whose operands are: from then on the slot stands for it.
@@ -95,7 +82,7 @@ GathersGo =
 -- One without operands is there once a record is made, where nothing is put together in its slot yet.
 abbrev pub EmptyGathersGo : Type 0
 EmptyGathersGo =
-    (m : typed.Module) → Base m → (t : Ty) (o : Operation) (into : ℕ) → passes_on o ≡ true → IsTagged m t (variant_of m.adts o) →
+    (m : typed.Module) → Base m → (t : Ty) (o : Operation) (into : ℕ) → passes_on o ≡ true → IsTagged m.adts t (variant_of m.adts o) →
     (k : Facts) (i : ℕ) (x : World) (p : code.Process) (q : Process) (r : (sides m).ready k i x p q) →
     slice_get p.frame.code p.frame.pc ≡ Some (core.Gather t (Operate o) into 0) → IsClean (held.slot r.0.stands.is.known into) →
     RowGoes m k i x p q

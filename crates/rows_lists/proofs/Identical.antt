@@ -26,6 +26,7 @@ use Rattle.core_code.specs.Machine as code
 use Rattle.core_code.specs.Slots as core
 use Rattle.core_code.specs.Slots.{Slot, Holds}
 use Rattle.core_typing.specs.Needs.{AreThese}
+use Rattle.core_typing.specs.Going.{MayCompare}
 use Rattle.dis_isa.specs.declared.inst.Operand.TheVariants as operand
 use Rattle.dis_isa.specs.declared.op.Op.{Op}
 use Rattle.dis_isa.specs.declared.op.Op.TheVariants as op
@@ -52,7 +53,7 @@ use Rattle.value_follows.proofs.Standing.{finds, code_here}
 use Rattle.value_follows.proofs.Slots.{uses}
 use Rattle.value_follows.proofs.Arithmetic.{two_slots}
 use Rattle.value_follows.proofs.Decided.{IsDecided, decided_goes, truth_range}
-use Rattle.rows_lists.specs.Rows.{AreComparable, MayCompare, KnownComparable, IdenticalsGo, DistinctsGo}
+use Rattle.rows_lists.specs.Rows.{AreComparable, KnownComparable, IdenticalsGo, DistinctsGo}
 use Rattle.rows_lists.proofs.Held.{RefersTo, a_named, a_part, RefersIs, refers_is, array_known, name_known}
 
 -- ---- blocks are compared as names are

@@ -5,8 +5,8 @@ use Rattle.heap_model.proofs.Heap as heap
 use Rattle.limbo_types.specs.Types as ty
 use Rattle.limbo_types.specs.Types.{Ty}
 use Rattle.limbo_values.specs.declared.number.Kind.TheVariants.{Int}
-use Rattle.limbo_values.specs.Numbers.{InRange}
-use Rattle.limbo_values.proofs.Ranges.{within}
+use Rattle.limbo_values.specs.Numbers.{InRange, wrapped}
+use Rattle.limbo_values.proofs.Ranges.{within, always}
 use Rattle.limbo_typed.specs.declared.operation.Operation.TheVariants.{Length}
 use Rattle.limbo_typed.specs.declared.operation.Sequence.TheVariants as sequence
 use Rattle.limbo_typed.specs.declared.operation.Sequence.{Sequence}
@@ -50,7 +50,7 @@ use Rattle.value_follows.proofs.Slots.{uses}
 use Rattle.value_follows.proofs.Single.{single}
 use Rattle.value_follows.proofs.Jumps.{behind_it}
 use Rattle.value_follows.proofs.Comparing.{one_slot}
-use Rattle.rows_lists.specs.Rows.{LengthsGo, ListsAreShort, CountsGo}
+use Rattle.rows_lists.specs.Rows.{LengthsGo, CountsGo}
 use Rattle.rows_lists.proofs.Blocks.{lead, word_leads}
 use Rattle.rows_lists.proofs.Giving.{number_given}
 use Rattle.rows_lists.proofs.Held.{name_is, part_is}
@@ -143,8 +143,8 @@ module _ (m : typed.Module) (k : Facts) (w : Shared) (x : World) (worlds : (side
   list_ends : (r n : Option ℕ) → IsName k (Some (Cells t)) r n → IsThere x r → Ends n
   list_ends r n named live = lists_end (length x.heap) r n named live (λ c e. heap.within x.heap c (live c e))
 
-list_long : (m : typed.Module) (b : Base m) (short : ListsAreShort m) (into a : ℕ) → InstrGoes m (Give ty.Int (Operate (Length sequence.List)) into (a ∷ []))
-list_long m b short into a k i x p q ready here =
+list_long : (m : typed.Module) (b : Base m) (into a : ℕ) → InstrGoes m (Give ty.Int (Operate (Length sequence.List)) into (a ∷ []))
+list_long m b into a k i x p q ready here =
     single m b i p q k x ready (λ now w y r hold worlds.
     let it = Give ty.Int (Operate (Length sequence.List)) into (a ∷ []) in
     let is = r.stands.is in
@@ -159,9 +159,8 @@ list_long m b short into a k i x p q ready here =
     let to = number_place m.adts (types_of m is.function) into in
     let there = word_leads m now i y p q hold at l.refers l.word in
     let ends = list_ends m now w y worlds list.0 l.refers l.name l.named there in
-    let range = short now w y worlds list.0 l.refers l.name ends.0 l.named there ends.1 in
     number_given m b now i w y p q r hold worlds it here into named.0 found.3 refl
-    (inst op.Lenl (own at) middle.None (own to)) refl Int refl (pos ends.0) range (omega arith) []
+    (inst op.Lenl (own at) middle.None (own to)) refl Int refl (wrapped Int (pos ends.0)) (always Int (pos ends.0)) (omega arith) []
     (λ d others e. (lists_come frames_limit (object_of m) y q).read.long (own at) (own to) middle.None l.refers ends.0 others d
     (operands_are_read.source_referring y q (own at) q.frame.words at (spots_lead.own y q at).0 ∙ ap (λ (g : Access Word). g >>= reference) l.word)
     ((lead m now w y worlds).list list.0 l.refers l.name ends.0 l.named there ends.1) e)
@@ -169,17 +168,16 @@ list_long m b short into a k i x p q ready here =
     (ap (code.next frames_limit (program m) w p) here
     ∙ ap (λ (s : Slot). code.goes_on w p (core.put p.frame.slots into (Holds (fitted m.adts ty.Int (Num (pos
     (source.list_length w.heap (length w.heap) (name_of (core.value_of s))))))))) l.holds
-    ∙ ap (λ (n : ℕ). code.goes_on w p (core.put p.frame.slots into (Holds (fitted m.adts ty.Int (Num (pos n)))))) (lists_are_counted w.heap l.name ends.0 ends.1)
-    ∙ ap (λ (z : ℤ). code.goes_on w p (core.put p.frame.slots into (Holds (Num z)))) (within Int (pos ends.0) range)))
+    ∙ ap (λ (n : ℕ). code.goes_on w p (core.put p.frame.slots into (Holds (fitted m.adts ty.Int (Num (pos n)))))) (lists_are_counted w.heap l.name ends.0 ends.1)))
 
 pub counts_go : CountsGo
-counts_go m b short t into from k i x p q ready here =
+counts_go m b t into from k i x p q ready here =
     let it = Give t (Operate (Length sequence.List)) into from in
     let r = ready.0 in
     let known = r.stands.is.known in
     let found = finds m r.stands.is.function p.frame.pc known it r.stands.goes (code_here m k i x p q r it here) in
     let of = one_of sequence.List found.0 t found.2.0 in
     let slot = one_slot known from of.type (subst (AreThese known from) of.one found.1) in
-    list_long m b short into slot.0 k i x p q ready
+    list_long m b into slot.0 k i x p q ready
     (here ∙ ap (λ (u : Ty). Some (Give u (Operate (Length sequence.List)) into from)) of.int
     ∙ ap (λ (rs : List ℕ). Some (Give ty.Int (Operate (Length sequence.List)) into rs)) slot.1)

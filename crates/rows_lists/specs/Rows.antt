@@ -1,29 +1,21 @@
 -- Rows of arrays, lists and channels.
-use Rattle.std.specs.Prelude.{ℕ, pos, ◌≡◌, ◌⊎◌, Bool, List, Option, None, Some, slice_get}
-use Rattle.limbo_types.specs.Types as ty
+use Rattle.std.specs.Prelude.{ℕ, ◌≡◌, ◌⊎◌, Bool, List, Option, None, Some, slice_get}
 use Rattle.limbo_types.specs.Types.{Ty}
-use Rattle.limbo_values.specs.declared.number.Kind.TheVariants.{Int}
-use Rattle.limbo_values.specs.Numbers.{InRange}
 use Rattle.limbo_typed.specs.Typed as typed
 use Rattle.limbo_typed.specs.declared.operation.Operation.{Operation}
 use Rattle.limbo_typed.specs.declared.operation.Operation.TheVariants.{Cons, Distinct, Head, Identical, Length, NewArray, Slice, Tag, Tail}
 use Rattle.limbo_typed.specs.declared.operation.Sequence.TheVariants as sequence
 use Rattle.limbo_meaning.specs.Operations.{item_of}
 use Rattle.limbo_meaning.specs.Places.{operand}
-use Rattle.limbo_meaning.specs.Process.{Shared}
 use Rattle.limbo_meaning.specs.Trees.{Work, NewChannel, Operate}
 use Rattle.limbo_meaning.specs.Values.{Value, Ref, Array}
 use Rattle.core_code.specs.Code as core
 use Rattle.core_code.specs.Machine as code
 use Rattle.core_code.specs.Slots.{values_of}
-use Rattle.core_typing.specs.Held as held
-use Rattle.core_typing.specs.Held.{type_held}
-use Rattle.core_typing.specs.Needs.{IsClean}
+use Rattle.core_typing.specs.Going.{MayCompare}
 use Rattle.dis_meaning.specs.Process.{Process}
 use Rattle.dis_memory.specs.Blocks.{World}
-use Rattle.value_words.specs.Forms.{Cells}
-use Rattle.value_words.specs.Facts.{Facts, IsName}
-use Rattle.block_effects.specs.Contents.{IsThere, IsList}
+use Rattle.value_words.specs.Facts.{Facts}
 use Rattle.value_code.specs.Operands.{first_slot, second_slot}
 use Rattle.value_follows.specs.Stands.{Ready}
 use Rattle.value_follows.specs.Sides.{sides}
@@ -55,14 +47,6 @@ ComparesReferences o =
     AreComparable (operand 0 (values_of p.frame.slots from)) (operand 1 (values_of p.frame.slots from)) → RowGoes m k i x p q
 
 -- By what is known of slots it is so where neither has an array, or both do, of which one names nothing.
-abbrev pub HasArray : held.Slots → (slot : ℕ) → Type 0
-HasArray known s = (t : Ty) × (type_held (held.slot known s) ≡ Some (ty.ArrayOf t))
-
-abbrev pub MayCompare : held.Slots → (first second : ℕ) → Type 0
-MayCompare known a c =
-    ((HasArray known a → ⊥) × (HasArray known c → ⊥))
-    ⊎ (HasArray known a × HasArray known c × (IsClean (held.slot known a) ⊎ IsClean (held.slot known c)))
-
 abbrev pub KnownComparable : Type 0
 KnownComparable =
     (m : typed.Module) (o : Operation) → (o ≡ Identical) ⊎ (o ≡ Distinct) → (t : Ty) (into : ℕ) (from : List ℕ) (k : Facts) (i : ℕ)
@@ -114,14 +98,8 @@ LengthsGo =
     (m : typed.Module) → Base m → (t : Ty) (into : ℕ) (from : List ℕ) →
     InstrGoes m (core.Give t (Operate (Length sequence.Array)) into from)
 
--- Wherever the two sides stand for one another, no list has more cells than ints count.
-abbrev pub ListsAreShort : typed.Module → Type 0
-ListsAreShort m =
-    (k : Facts) (w : Shared) (x : World) → (sides m).worlds k w x → (t : Ty) (r n : Option ℕ) (long : ℕ) → IsName k (Some (Cells t)) r n →
-    IsThere x r → IsList w.heap n long → InRange Int (pos long)
-
--- Then the number of a list's cells comes into a slot.
+-- How many cells a list has comes into a slot.
 abbrev pub CountsGo : Type 0
 CountsGo =
-    (m : typed.Module) → Base m → ListsAreShort m → (t : Ty) (into : ℕ) (from : List ℕ) →
+    (m : typed.Module) → Base m → (t : Ty) (into : ℕ) (from : List ℕ) →
     InstrGoes m (core.Give t (Operate (Length sequence.List)) into from)

@@ -1,5 +1,5 @@
 -- Parts of elements of arrays that have a record of their own, where they are read into slots.
-use Rattle.std.proofs.Common.{◌≡◌, ◌≢◌, ℕ, ℤ, Bool, true, false, if◌then◌else◌, suc, pos, ◌+◌, ◌*◌, ◌/◌, ◌<◌, ◌≤◌, List, [], ◌∷◌, length, Option, Some, None, refl, sym, ap, ◌∙◌, subst, arith, inl}
+use Rattle.std.proofs.Common.{◌≡◌, ◌≢◌, ℕ, ℤ, Bool, true, false, suc, pos, ◌+◌, ◌*◌, ◌/◌, ◌<◌, ◌≤◌, List, [], ◌∷◌, length, Option, Some, None, refl, sym, ap, ◌∙◌, subst, arith, inl, inr}
 use Rattle.limbo_values.specs.declared.raised.Raised.{Raised}
 use Rattle.std.specs.Prelude.{Result, Ok, slice_get, slice_index_or}
 use Rattle.inf_text.specs.Steps.{◌>>=◌}
@@ -9,7 +9,7 @@ use Rattle.heap_model.specs.Facts.{Named}
 use Rattle.heap_model.proofs.Heap.{there_of}
 use Rattle.limbo_types.specs.Types as ty
 use Rattle.limbo_types.specs.Types.{Ty}
-use Rattle.limbo_layout.specs.Adts.{Def, Has}
+use Rattle.limbo_layout.specs.Adts.{Has}
 use Rattle.limbo_layout.specs.Layout.{Laid}
 use Rattle.limbo_typed.specs.Typed as typed
 use Rattle.limbo_values.specs.Texts.{index_in}
@@ -47,7 +47,7 @@ use Rattle.value_roots.proofs.Words.{has_counts}
 use Rattle.value_frames.specs.Frames.{Boxed, form_of, number_place, reference_place, element_place, room_for, within, type_within}
 use Rattle.value_frames.specs.Standing.{SlotStands}
 use Rattle.value_frames.proofs.Rest.{slots_rest}
-use Rattle.value_moves.specs.Operands.{Code, inst, own, of_own, behind, moved, fits_middle, has_references}
+use Rattle.value_moves.specs.Operands.{Code, inst, own, of_own, behind, moved}
 use Rattle.value_moves.specs.Spots.{Leads}
 use Rattle.value_moves.specs.Writing.{Lies}
 use Rattle.value_moves.proofs.Leading.{spots_lead}
@@ -76,8 +76,22 @@ use Rattle.rows_boxes.proofs.Moving.{SourceLies, target_leads, box_room, write_f
 use Rattle.rows_boxes.proofs.Names.{names_got}
 use Rattle.rows_boxes.proofs.Numbers.{finds_on, uses_on}
 use Rattle.rows_boxes.proofs.Starting.{new_words}
-use Rattle.rows_boxes.proofs.Typed.{is_sized, moves_once}
-use Rattle.rows_places.specs.Rows.{IsWhole, way_from, PlacesFit, BoxElementsGo}
+use Rattle.limbo_layout.specs.Layout.{limit}
+use Rattle.dis_meaning.specs.Words.{Plain}
+use Rattle.core_typing.specs.Needs.{StandsAs}
+use Rattle.value_frames.specs.Frames.{passing_place}
+use Rattle.number_effects.specs.Giving.{with_word}
+use Rattle.number_effects.proofs.Reading.{operands_are_read}
+use Rattle.number_effects.proofs.Records.{words_move}
+use Rattle.value_follows.proofs.Single.{nothing_changes}
+use Rattle.rows_boxes.proofs.Boxing.{boxing_holds, boxing_later}
+use Rattle.rows_boxes.proofs.Passing.{passing_leads, passing_word, passed_goes, boxing_passed}
+use Rattle.rows_boxes.proofs.Starting.{steps_silently, further}
+use Rattle.rows_boxes.proofs.Whole.{small_range}
+use Rattle.rows_boxes.proofs.Typed.{is_sized, sizing}
+use Rattle.rows_places.proofs.Sizing.{many_of, IsOnWay, last_moves, last_there, front_long, passing_is}
+use Rattle.rows_places.specs.Rows.{way_from, BoxElementsGo}
+use Rattle.rows_places.proofs.Fitting.{PlacesFit, places_fit}
 use Rattle.rows_places.proofs.Going.{going_on}
 use Rattle.rows_places.proofs.Last.{site_now}
 use Rattle.rows_places.proofs.Arrays.{array_here, ArrayIs, array_is, array_form, are_blocks}
@@ -85,21 +99,6 @@ use Rattle.rows_places.proofs.Elements.{AddressHere, address_later, below_long, 
 use Rattle.rows_places.proofs.Looking.{ElementSlots, element_slots, Behind, element_way, so_far}
 use Rattle.rows_places.proofs.Reading.{does_raise}
 use Rattle.rows_places.proofs.BoxStart.{started, stored}
-
--- a value that one instruction moves
-whole_once : (defs : List Def) (t : Ty) → IsWhole defs t → is_sized defs t ≡ false
-whole_once defs ty.Big h = refl
-whole_once defs (ty.Tuple ts) h = by_parts (has_references defs (ty.Tuple ts)) (fits_middle (pos (room_for defs (ty.Tuple ts)).size)) h.1
-  where
-    by_parts : (c g : Bool) → g ≡ true → (if c then false else (if g then false else true)) ≡ false
-    by_parts true g e = refl
-    by_parts false g e = ap (λ (o : Bool). if o then false else true) e
-whole_once defs (ty.Adt n) h = by_parts (has_references defs (ty.Adt n)) (fits_middle (pos (room_for defs (ty.Adt n)).size)) h.1
-  where
-    by_parts : (c g : Bool) → g ≡ true → (if c then false else (if g then false else true)) ≡ false
-    by_parts true g e = refl
-    by_parts false g e = ap (λ (o : Bool). if o then false else true) e
-whole_once defs t h = absurd (let e = h.0 in cc)
 
 -- ---- an array in a slot that isn't busy
 
@@ -159,7 +158,8 @@ module _ (m : typed.Module) (w : Shared) (p : code.Process) (t : Ty) (part : Lis
       ap (code.next frames_limit (program m) w p) here ∙ ap comes_to rooted
       ∙ ap (λ (u : Value). code.goes_on w p (core.put p.frame.slots into (Holds u))) (sym whole)
 
-module _ (m : typed.Module) (b : Base m) (fit : PlacesFit m) (t : Ty) (whole : IsWhole m.adts t) (part : List ℕ) (into r0 r1 : ℕ) (rs : List ℕ) (apart : into ≢ r0)
+module _ (m : typed.Module) (b : Base m) (fit : PlacesFit m) (t : Ty) (form : form_of t ≡ Boxed) (c : Bool)
+    (is_so : is_sized m.adts t ≡ c) (small : (room_for m.adts t).size ≤ limit) (part : List ℕ) (into r0 r1 : ℕ) (rs : List ℕ) (apart : into ≢ r0)
     (i : ℕ) (p : code.Process) (here : slice_get p.frame.code p.frame.pc ≡ Some (Give t (Read (way_from Element part)) into (r0 ∷ r1 ∷ rs))) where
   abbrev o : Work
   o = Read (way_from Element part)
@@ -170,28 +170,24 @@ module _ (m : typed.Module) (b : Base m) (fit : PlacesFit m) (t : Ty) (whole : I
   abbrev instr : Instr
   instr = Give t o into from
 
-  form : form_of t ≡ Boxed
-  form = whole.0
-
   abbrev v0 : Value
   v0 = core.value_of (core.slot p.frame.slots r0)
 
   abbrev v1 : Value
   v1 = core.value_of (core.slot p.frame.slots r1)
 
-  size_is : (f : typed.Function) → size_at m f.of.answer (of_function m f) p.frame.pc (Some instr) ≡ 3
+  size_is : (f : typed.Function) → size_at m f.of.answer (of_function m f) p.frame.pc (Some instr) ≡ suc (suc (suc (many_of c)))
   size_is f =
-      let c = blank_site m f.of.answer (of_function m f) p.frame.pc in
-      ap (λ (l : Code). length l) (element_code t part into r0 r1 rs form c)
-      ∙ ap (λ (l : Code). suc (suc (length l)))
-      (moves_once m.adts t (c.type_number (OfRecord t)) (behind element_place (within m.adts (item_of (c.told r0)) part)) (in_box c.scene into 0) form
-      (whole_once m.adts t whole)).1
+      let s = blank_site m f.of.answer (of_function m f) p.frame.pc in
+      let last = last_moves m.adts t (s.type_number (OfRecord t)) (behind element_place (within m.adts (item_of (s.told r0)) part)) (in_box s.scene into 0) c form is_so in
+      ap (λ (l : Code). length l) (element_code t part into r0 r1 rs form s) ∙ ap (λ (l : Code). suc (suc (length l))) last.1
+      ∙ ap (λ n. suc (suc n)) (front_long c (room_for m.adts t).size last.0)
 
   -- ---- the last instruction
 
   module _ (number : ℕ) (f : typed.Function) (there_f : slice_get m.functions number ≡ Some f) (in_code : slice_get (of_function m f).code p.frame.pc ≡ Some instr)
       (row : RowStands m number f p.frame.pc instr) (box : ℕ) (inner : List Word) (q : Process) (k : Facts) (w : Shared) (x : World)
-      (s : Boxing m number f t into 2 box inner k i x p q) (hold : HoldTheSame m k i x p q) (worlds : (sides m).worlds k w x) (item : Ty)
+      (s : Boxing m number f t into (suc (suc (many_of c))) box inner k i x p q) (so : IsOnWay c (room_for m.adts t).size q) (hold : HoldTheSame m k i x p q) (worlds : (sides m).worlds k w x) (item : Ty)
       (told_item : item_of ((site_of m number f p.frame.pc row.at).told r0) ≡ item) (below0 : r0 < length p.frame.slots)
       (is_a : IsA s.stands.is.known r0 (ty.ArrayOf item)) (path : HasPath m.adts item part) (ends : type_within m.adts item part ≡ t)
       (array : value.Part) (array_is_it : part_of v0 ≡ Some array) (z : ℤ) (z_is : number_of v1 ≡ z) (h : ℕ) (index : index_in array.long z ≡ Ok h)
@@ -273,28 +269,92 @@ module _ (m : typed.Module) (b : Base m) (fit : PlacesFit m) (t : Ty) (whole : I
 
     element_ends : Next m b i p 0 k w x q
     element_ends =
-        let laid = room_laid m.adts t (finds_on m b t o into from number f 2 box inner i p q k x s here).2.1 in
+        let laid = room_laid m.adts t (finds_on m b t o into from number f (suc (suc (many_of c))) box inner i p q k x s here).2.1 in
         let g = given in
         let v = part_at part g.old in
         let n = type_number m (OfRecord t) in
         let source = behind element_place off in
         let target = behind (box_place m number f t into) 0 in
-        let move = moves_once m.adts t n source target form (whole_once m.adts t whole) in
-        let room = box_room m b number f t into 2 box inner i p q k w x s hold worlds laid in
-        let d = target_leads m b number f t into 2 box inner i p q k w x s hold worlds laid in
+        let move = last_moves m.adts t n source target c form is_so in
+        let room = box_room m b number f t into (suc (suc (many_of c))) box inner i p q k w x s hold worlds laid in
+        let d = target_leads m b number f t into (suc (suc (many_of c))) box inner i p q k w x s hold worlds laid in
         let types = objects_have.types m number f p.frame.pc instr (OfRecord t) there_f in_code (inl refl) in
-        let done = move.2 k frames_limit (object_of m) x q v g.lies.words inner g.lies.at 0 g.leads d g.lies.lies room types tt in
+        let done = move.2 k frames_limit (object_of m) x q v g.lies.words inner g.lies.at 0 g.leads d g.lies.lies room types so in
         let fits = stands_whole m.adts k g.lies.words g.lies.at t v g.lies.lies.stands in
-        let at_last : slice_get (code_of site instr) 2 ≡ Some move.0 =
-        ap (λ (l : Code). slice_get l 2) (element_code t part into r0 r1 rs form site)
-        ∙ ap (λ u. slice_get (moved m.adts t n (behind element_place (within m.adts u part)) target) 0) told_item
-        ∙ ap (λ (l : Code). slice_get l 0) move.1 in
-        full_goes m b number f t into 2 box inner i p q k w x s hold worlds done.0 (got_by m.adts t o) v
-        (write_fills m b number f t into 2 box inner i p q k w x s hold worlds laid v g.lies done.0 done.1 (got_by m.adts t o) (names_got m.adts t o v refl fits))
-        form (uses_on m b t o into from number f 2 box inner i p q k x s here).0 instr here (λ slots. refl) (size_is f)
-        (write_goes m b number f t into 2 box inner i p q k w x s hold worlds laid v g.lies done.0 done.1 move.0
-        (reaches_on m b number f t into 2 box inner i p q k w x s hold worlds instr row move.0 at_last) done.2)
+        let at_last : slice_get (code_of site instr) (suc (suc (many_of c))) ≡ Some move.0 =
+        ap (λ (l : Code). slice_get l (suc (suc (many_of c)))) (element_code t part into r0 r1 rs form site)
+        ∙ ap (λ u. slice_get (moved m.adts t n (behind element_place (within m.adts u part)) target) (many_of c)) told_item
+        ∙ ap (λ (l : Code). slice_get l (many_of c)) move.1 ∙ last_there c (room_for m.adts t).size move.0 in
+        full_goes m b number f t into (suc (suc (many_of c))) box inner i p q k w x s hold worlds done.0 (got_by m.adts t o) v
+        (write_fills m b number f t into (suc (suc (many_of c))) box inner i p q k w x s hold worlds laid v g.lies done.0 done.1 (got_by m.adts t o) (names_got m.adts t o v refl fits))
+        form (uses_on m b t o into from number f (suc (suc (many_of c))) box inner i p q k x s here).0 instr here (λ slots. refl) (size_is f)
+        (write_goes m b number f t into (suc (suc (many_of c))) box inner i p q k w x s hold worlds laid v g.lies done.0 done.1 move.0
+        (reaches_on m b number f t into (suc (suc (many_of c))) box inner i p q k w x s hold worlds instr row move.0 at_last) done.2)
         (does_read m w p t part into from here g.old g.rooted fits)
+
+  -- ---- the record is there: the value goes, or its size first
+
+  module _ (number : ℕ) (f : typed.Function) (there_f : slice_get m.functions number ≡ Some f) (in_code : slice_get (of_function m f).code p.frame.pc ≡ Some instr)
+      (row : RowStands m number f p.frame.pc instr) (item : Ty) (told_item : item_of ((site_of m number f p.frame.pc row.at).told r0) ≡ item)
+      (below0 : r0 < length p.frame.slots) (type : Ty) (tells : or_nothing (told (of_function m f).code p.frame.pc r0) ≡ type)
+      (stands_as : StandsAs type (ty.ArrayOf item)) (path : HasPath m.adts item part) (ends : type_within m.adts item part ≡ t)
+      (array : value.Part) (array_is_it : part_of v0 ≡ Some array) (z : ℤ) (z_is : number_of v1 ≡ z) (h : ℕ) (index : index_in array.long z ≡ Ok h) where
+    -- the array is still told
+    is_array_on : (j box : ℕ) (inner : List Word) (q : Process) (k : Facts) (x : World) (s : Boxing m number f t into j box inner k i x p q)
+        → IsA s.stands.is.known r0 (ty.ArrayOf item)
+    is_array_on j box inner q k x s =
+        let is = s.stands.is in
+        let row_is = subst (λ (code : List Instr). slice_get code p.frame.pc ≡ Some instr) is.code here in
+        let told_now = (fit.operands is.function p.frame.pc is.known instr s.stands.goes row_is).0.0 in
+        let same : told_now.0 ≡ type = sym (ap or_nothing told_now.2)
+        ∙ ap (λ (h : typed.Function). or_nothing (told (of_function m h).code p.frame.pc r0)) s.function_is ∙ tells in
+        (type, told_now.1 ∙ ap (λ (u : Ty). Some u) same, stands_as)
+
+    value_goes : (box : ℕ) (inner : List Word) (q : Process) (k : Facts) (w : Shared) (x : World) (s : Boxing m number f t into 2 box inner k i x p q)
+        → HoldTheSame m k i x p q → (sides m).worlds k w x → AddressHere m k q.frame.words array item h → Next m b i p (many_of c) k w x q
+    value_goes box inner q k w x s hold worlds address = go c refl
+      where
+        go : (d : Bool) → c ≡ d → Next m b i p (many_of d) k w x q
+        go false e =
+            let s' = subst (λ d. Boxing m number f t into (suc (suc (many_of d))) box inner k i x p q) (sym e) s in
+            element_ends number f there_f in_code row box inner q k w x s' (subst (λ d. IsOnWay d (room_for m.adts t).size q) (sym e) tt) hold worlds item told_item below0
+            (is_array_on (suc (suc (many_of c))) box inner q k x s') path ends array array_is_it z z_is h index address
+        go true e =
+            let size = (room_for m.adts t).size in
+            let real = site_of m number f p.frame.pc row.at in
+            let target = in_box real.scene into 0 in
+            let last = last_moves m.adts t (type_number m (OfRecord t)) (behind element_place (within m.adts (item_of (real.told r0)) part)) target true form (is_so ∙ e) in
+            let at_size : slice_get (code_of real instr) 2 ≡ Some (sizing size) =
+            ap (λ (l : Code). slice_get l 2) (element_code t part into r0 r1 rs form real) ∙ ap (λ (l : Code). slice_get l 0) last.1 in
+            let old = passing_word m.adts (types_of m s.stands.is.function) (length p.frame.slots) q.frame.words s.stands.is.words.kind in
+            let stored = words_move.word frames_limit (object_of m) x q (sizing size) (Plain (pos size)) q.frame.words passing_place
+            (passing_leads m b number f t into 2 box inner i p q k w x s) old.old refl (operands_are_read.source_plain_given x q (pos size)) old.plainly in
+            let words = with_word q.frame.words passing_place (Plain (pos size)) in
+            let changes = stored.0.changes in
+            let ranged = stored.0.ranged (λ z g. small_range size z small g) s.stands.is.words.kind.ranged in
+            let passed = moved_to q (suc q.frame.pc) words in
+            let step = passed_goes m b number f t into 2 box inner i p q k w x s (sizing size) words changes ranged stored.1
+            (reaches_on m b number f t into 2 box inner i p q k w x s hold worlds instr row (sizing size) at_size) in
+            let boxing = boxing_passed m b number f t into 2 box inner i p q k w x s (sizing size) words changes ranged stored.1 in
+            let live = b.there_again x x q passed step worlds.0.closed (λ n h. hold.same.live n (hold.same.roots n h)) in
+            let long = size_is f ∙ ap (λ d. suc (suc (suc (many_of d)))) e in
+            steps_silently m b i p 1 k k w x x q passed step (nothing_changes m k i x) worlds
+            (further m b i p number f instr there_f in_code refl 2 q passed (subst (λ n. 3 < n) (sym long) (omega arith)) s.pc boxing.pc) (
+              boxing_holds m number f t into b 3 box inner i p passed k x boxing w worlds live,
+              λ now y v left holds alike.
+                  let later = boxing_later m number f t into b 3 box inner i p passed k now x y boxing left holds in
+                  let s' = subst (λ d. Boxing m number f t into (suc (suc (many_of d))) box inner now i y p passed) (sym e) later in
+                  element_ends number f there_f in_code row box inner passed now v y s'
+                  (subst (λ d. IsOnWay d (room_for m.adts t).size (moved_to q (suc q.frame.pc) words)) (sym e) (passing_is words size stored.0.there))
+                  holds alike item told_item below0 (is_array_on (suc (suc (many_of c))) box inner passed now y s') path ends array array_is_it z z_is h index
+                  (address_later m k now words array item h left.0.grows (record {
+                    block = address.block;
+                    byte = address.byte;
+                    named = address.named;
+                    word = word_same q.frame.words words element_place (changes.words (element_place / 4) (inr (omega arith))) ∙ address.word;
+                    is = address.is;
+                  })),
+            )
 
   -- ---- the row
 
@@ -309,7 +369,7 @@ module _ (m : typed.Module) (b : Base m) (fit : PlacesFit m) (t : Ty) (whole : I
         (used : into < length p.frame.slots) (below0 : r0 < length p.frame.slots) (clean : IsClean (held.slot known into)) (others : List Word) where
       element_made : (last : Facts) (v : Shared) (y : World)
           → Behind m b k i w x p q ready hold worlds instr here r0 r1 (core.values_of p.frame.slots rs) part t item others last v y
-          → Next m b i p 1 last v y (moved_to q (suc q.frame.pc) others)
+          → Next m b i p (suc (many_of c)) last v y (moved_to q (suc q.frame.pc) others)
       element_made last v y be =
           let q' = moved_to q q.frame.pc others in
           let s = be.still in
@@ -331,17 +391,12 @@ module _ (m : typed.Module) (b : Base m) (fit : PlacesFit m) (t : Ty) (whole : I
           let begins = ap (λ (l : Code). slice_get l 1) (element_code t part into r0 r1 rs form real) in
           let kept = stored m b last i v y p q' s be.holds be.alike instr here (suc q.frame.pc) None 1 so_far' t laid into used clean' type types begins in
           started m b last i v y p q' s be.holds be.alike instr here (suc q.frame.pc) None 1 so_far' t laid into used clean' type types begins
-          0 refl (subst (λ n. 2 < n) (sym (size_is g)) (omega arith))
+          (many_of c) refl (subst (λ n. 2 < n) (sym (size_is g)) (omega arith))
           (λ now u z first more boxing holds alike.
-          let is = boxing.stands.is in
-          let row_is = subst (λ c. slice_get c p.frame.pc ≡ Some instr) is.code here in
-          let told_now = (fit.operands is.function p.frame.pc is.known instr boxing.stands.goes row_is).0.0 in
-          let same : told_now.0 ≡ slots'.type = sym (ap or_nothing told_now.2)
-          ∙ ap (λ (h : typed.Function). or_nothing (told (of_function m h).code p.frame.pc r0)) boxing.function_is ∙ slots'.tells in
           let near = address_later m last _ others be.whole item be.h first be.address in
           let address = address_later m _ now others be.whole item be.h more near in
-          element_ends number g s.stands.is.there in_code row _ (new_words m.adts t) _ now u z boxing holds alike item is_item below0
-          (slots'.type, told_now.1 ∙ ap (λ (c : Ty). Some c) same, slots'.array) slots'.path slots'.ends be.whole be.array be.z be.number be.h be.index
+          value_goes number g s.stands.is.there in_code row item is_item below0 slots'.type slots'.tells slots'.array slots'.path slots'.ends be.whole be.array be.z be.number
+          be.h be.index _ (new_words m.adts t) _ now u z boxing holds alike
           (record {
             block = address.block;
             byte = address.byte;
@@ -350,7 +405,7 @@ module _ (m : typed.Module) (b : Base m) (fit : PlacesFit m) (t : Ty) (whole : I
             is = address.is;
           }))
 
-    element_read : Next m b i p 2 k w x q
+    element_read : Next m b i p (suc (suc (many_of c))) k w x q
     element_read =
         let row_is = code_here m k i x p q ready instr here in
         let found = finds m f_now p.frame.pc known instr ready.stands.goes row_is in
@@ -362,23 +417,23 @@ module _ (m : typed.Module) (b : Base m) (fit : PlacesFit m) (t : Ty) (whole : I
         (so_far m b k i w x p q ready hold worlds instr here r0 r1 vs part t) in
         element_way m b k i w x p q ready hold worlds instr here r0 r1 vs part t found.2.0.root slots used.1.0 used.1.1.0
         refl (subst (λ n. 1 < n) (sym (size_is f_now)) (omega arith)) (ap (λ (l : Code). slice_get l 0) (element_code t part into r0 r1 rs form real))
-        (does_raise m b k i w x p q ready hold worlds t Element part into from here) 1
+        (does_raise m b k i w x p q ready hold worlds t Element part into from here) (suc (many_of c))
         (λ others last v y be. element_made found.2.0.root slots (room_laid m.adts t found.2.1) used.0 used.1.0 found.3 others last v y be)
 
 pub box_elements_go : BoxElementsGo
-box_elements_go m b fit t part into [] whole k i x p q ready here =
+box_elements_go m b t part into [] whole k i x p q ready here =
     let r = ready.0 in
     let instr = Give t (Read (way_from Element part)) into [] in
-    absurd (fit.operands r.stands.is.function p.frame.pc r.stands.is.known instr r.stands.goes (code_here m k i x p q r instr here)).0
-box_elements_go m b fit t part into (r0 ∷ []) whole k i x p q ready here =
+    absurd ((places_fit m).operands r.stands.is.function p.frame.pc r.stands.is.known instr r.stands.goes (code_here m k i x p q r instr here)).0
+box_elements_go m b t part into (r0 ∷ []) whole k i x p q ready here =
     let r = ready.0 in
     let instr = Give t (Read (way_from Element part)) into (r0 ∷ []) in
-    absurd (fit.operands r.stands.is.function p.frame.pc r.stands.is.known instr r.stands.goes (code_here m k i x p q r instr here)).0
-box_elements_go m b fit t part into (r0 ∷ r1 ∷ rs) whole k i x p q ready here =
+    absurd ((places_fit m).operands r.stands.is.function p.frame.pc r.stands.is.known instr r.stands.goes (code_here m k i x p q r instr here)).0
+box_elements_go m b t part into (r0 ∷ r1 ∷ rs) whole k i x p q ready here =
     let r = ready.0 in
     let instr = Give t (Read (way_from Element part)) into (r0 ∷ r1 ∷ rs) in
     let differ = slots_differ m r.stands.is.function p.frame.pc instr (code_here m k i x p q r instr here) in (
-      2,
-      going_on m b i p q q (λ n. refl) 2 k x ready.0 ready.1 (λ now w y s grows same hold worlds.
-          element_read m b fit t whole part into r0 r1 rs differ.0 i p here now w y q s hold worlds),
+      suc (suc (many_of (is_sized m.adts t))),
+      going_on m b i p q q (λ n. refl) (suc (suc (many_of (is_sized m.adts t)))) k x ready.0 ready.1 (λ now w y s grows same hold worlds.
+          element_read m b (places_fit m) t whole.0 (is_sized m.adts t) refl whole.1 part into r0 r1 rs differ.0 i p here now w y q s hold worlds),
     )

@@ -66,7 +66,8 @@ use Rattle.rows_boxes.proofs.Differing.{slots_differ}
 use Rattle.rows_boxes.proofs.Giving.{room_laid}
 use Rattle.rows_boxes.proofs.Names.{names_got}
 use Rattle.rows_boxes.proofs.Numbers.{finds_on, uses_on}
-use Rattle.rows_places.specs.Rows.{way_from, PlacesFit, BoxTargetsGo}
+use Rattle.rows_places.specs.Rows.{way_from, BoxTargetsGo}
+use Rattle.rows_places.proofs.Fitting.{PlacesFit, places_fit}
 use Rattle.rows_places.proofs.Words.{has_path}
 use Rattle.rows_places.proofs.Places.{RefIs, ref_is, ref_form, record_there}
 use Rattle.rows_places.proofs.BoxWhole.{Gives, Stops, whole_goes}
@@ -261,14 +262,14 @@ has_first m f known t part [] is these = let e = is.begins.2.1 in absurd cc
 has_first m f known t part (u ∷ us) is these = these
 
 pub box_targets_go : BoxTargetsGo
-box_targets_go m b fit t part into [] form small k i x p q ready here =
+box_targets_go m b t part into [] form small k i x p q ready here =
     let r = ready.0 in
     let f = r.stands.is.function in
     let instr = Give t (Read (way_from Target part)) into [] in
     let found = finds m f p.frame.pc r.stands.is.known instr r.stands.goes (code_here m k i x p q r instr here) in
     absurd (has_first m f r.stands.is.known t part found.0 found.2.0 found.1)
-box_targets_go m b fit t part into (r0 ∷ rs) form small k i x p q ready here =
+box_targets_go m b t part into (r0 ∷ rs) form small k i x p q ready here =
     let r = ready.0 in
     let instr = Give t (Read (way_from Target part)) into (r0 ∷ rs) in
     let differ = slots_differ m r.stands.is.function p.frame.pc instr (code_here m k i x p q r instr here) in
-    target_goes m b fit t form small part into r0 rs differ.0 k i x p q ready here
+    target_goes m b (places_fit m) t form small part into r0 rs differ.0 k i x p q ready here

@@ -43,7 +43,8 @@ use Rattle.value_follows.proofs.Standing.{same_some, finds, code_here}
 use Rattle.value_follows.proofs.Slots.{uses}
 use Rattle.value_follows.proofs.Single.{Once}
 use Rattle.value_follows.proofs.Several.{moved_to, Next}
-use Rattle.rows_places.specs.Rows.{way_from, character_from, PlacesFit, TextsFit, BeginsSo, CharactersGo}
+use Rattle.rows_places.specs.Rows.{way_from, character_from, CharactersGo}
+use Rattle.rows_places.proofs.Fitting.{PlacesFit, BeginsSo, places_fit}
 use Rattle.rows_places.proofs.Words.{found_there}
 use Rattle.rows_places.proofs.Going.{going_on}
 use Rattle.rows_places.proofs.Last.{site_now, raised_here}
@@ -62,7 +63,7 @@ string_way : (m : typed.Module) (f : typed.Function) (root : Root) (part : List 
 string_way m f root part us t is =
     (record { root = is.root; room = is.room; begins = is.begins; inner = is.inner; leads = is.leads; ends = is.ends.0; indexed = λ e. absurd cc }, is.ends.1)
 
-module _ (m : typed.Module) (b : Base m) (fit : PlacesFit m) (texts : TextsFit) (t : Ty) (root : Root) (part : List ℕ) (into : ℕ) (from : List ℕ)
+module _ (m : typed.Module) (b : Base m) (fit : PlacesFit m) (t : Ty) (root : Root) (part : List ℕ) (into : ℕ) (from : List ℕ)
     (i : ℕ) (p : code.Process) (here : slice_get p.frame.code p.frame.pc ≡ Some (Give t (Read (character_from root part)) into from))
     (k : Facts) (w : Shared) (x : World) (q : Process) (ready : Ready m k i x p q) (hold : HoldTheSame m k i x p q) (worlds : (sides m).worlds k w x) where
   abbrev instr : Instr
@@ -115,7 +116,7 @@ module _ (m : typed.Module) (b : Base m) (fit : PlacesFit m) (texts : TextsFit) 
 
 -- ---- variables
 
-module _ (m : typed.Module) (b : Base m) (fit : PlacesFit m) (texts : TextsFit) (t : Ty) (v : ℕ) (part : List ℕ) (into : ℕ) (from : List ℕ)
+module _ (m : typed.Module) (b : Base m) (fit : PlacesFit m) (t : Ty) (v : ℕ) (part : List ℕ) (into : ℕ) (from : List ℕ)
     (i : ℕ) (p : code.Process) (k : Facts) (w : Shared) (x : World) (q : Process) (ready : Ready m k i x p q) (hold : HoldTheSame m k i x p q)
     (worlds : (sides m).worlds k w x) where
   at_begin : q.frame.pc ≡ q.frame.pc + 0
@@ -124,11 +125,11 @@ module _ (m : typed.Module) (b : Base m) (fit : PlacesFit m) (texts : TextsFit) 
   local_read : slice_get p.frame.code p.frame.pc ≡ Some (Give t (Read (character_from (Local v) part)) into from) → Once m b i p q k w x
   local_read here =
       let instr = Give t (Read (character_from (Local v) part)) into from in
-      let s = row_slots m b fit texts t (Local v) part into from i p here k w x q ready hold worlds in
+      let s = row_slots m b fit t (Local v) part into from i p here k w x q ready hold worlds in
       let there = part_there m k i x p q ready v part s.us ty.Chars s.way in
       let place = local_at m k i x p q ready v part in
       let real = site_now m b k i w x p q ready hold worlds instr here q.frame.pc q.printing 0 at_begin in
-      character_comes m b texts k i w x p q ready hold worlds t (Local v) part into from here s.is_int q.frame.pc q.printing 0 at_begin refl
+      character_comes m b k i w x p q ready hold worlds t (Local v) part into from here s.is_int q.frame.pc q.printing 0 at_begin refl
       s.below_into s.clean s.index s.below_index s.index_there s.index_is (own place) q.frame.words place (spots_lead.own x q place).0 there.value
       (ap (λ (u : Value). Ok u) (found_there p.frame.variables v nothing there.value there.there).1) there.lies.stands
       (λ u e.
@@ -136,28 +137,28 @@ module _ (m : typed.Module) (b : Base m) (fit : PlacesFit m) (texts : TextsFit) 
       hold.same.live u (hold.same.roots u (omega (arith, named))))
       (ap (λ n. Some (inst op.Indc (own place) (of_own (number_place m.adts (types_of m ready.stands.is.function) n))
       (own (number_place m.adts (types_of m ready.stands.is.function) into))))
-      (index_middle m b fit texts t (Local v) part into from i p here k w x q ready hold worlds s real))
+      (index_middle m b fit t (Local v) part into from i p here k w x q ready hold worlds s real))
 
   global_read : slice_get p.frame.code p.frame.pc ≡ Some (Give t (Read (character_from (Global v) part)) into from) → Once m b i p q k w x
   global_read here =
       let instr = Give t (Read (character_from (Global v) part)) into from in
-      let s = row_slots m b fit texts t (Global v) part into from i p here k w x q ready hold worlds in
+      let s = row_slots m b fit t (Global v) part into from i p here k w x q ready hold worlds in
       let values = core.values_of p.frame.slots from in
       let place = global_place m k i w x p q ready hold worlds q.frame.pc q.printing v part s.us ty.Chars s.way values in
       let o = operand.Mp (pos (global_at m k i w x p q ready hold worlds q.frame.pc q.printing v part)) in
       let real = site_now m b k i w x p q ready hold worlds instr here q.frame.pc q.printing 0 at_begin in
-      character_comes m b texts k i w x p q ready hold worlds t (Global v) part into from here s.is_int q.frame.pc q.printing 0 at_begin refl
+      character_comes m b k i w x p q ready hold worlds t (Global v) part into from here s.is_int q.frame.pc q.printing 0 at_begin refl
       s.below_into s.clean s.index s.below_index s.index_there s.index_is o place.words place.byte place.leads.0 place.value
       place.rooted place.lies.stands
       (λ u e. place_lives m k i w x p q ready hold worlds q.frame.pc q.printing (Global v) values o ty.Chars part place u (place.byte / 4)
       (word_found place.words place.byte (Refer (Some u)) e).1)
       (ap (λ n. Some (inst op.Indc o (of_own (number_place m.adts (types_of m ready.stands.is.function) n))
       (own (number_place m.adts (types_of m ready.stands.is.function) into))))
-      (index_middle m b fit texts t (Global v) part into from i p here k w x q ready hold worlds s real))
+      (index_middle m b fit t (Global v) part into from i p here k w x q ready hold worlds s real))
 
 -- ---- what references name
 
-module _ (m : typed.Module) (b : Base m) (fit : PlacesFit m) (texts : TextsFit) (t : Ty) (part : List ℕ) (into r0 : ℕ) (rs : List ℕ)
+module _ (m : typed.Module) (b : Base m) (fit : PlacesFit m) (t : Ty) (part : List ℕ) (into r0 : ℕ) (rs : List ℕ)
     (i : ℕ) (p : code.Process) (here : slice_get p.frame.code p.frame.pc ≡ Some (Give t (Read (character_from Target part)) into (r0 ∷ rs)))
     (k : Facts) (w : Shared) (x : World) (q : Process) (ready : Ready m k i x p q) (hold : HoldTheSame m k i x p q) (worlds : (sides m).worlds k w x) where
   abbrev target_instr : Instr
@@ -169,8 +170,8 @@ module _ (m : typed.Module) (b : Base m) (fit : PlacesFit m) (texts : TextsFit) 
   so_far_0 : q.frame.pc ≡ q.frame.pc + 0
   so_far_0 = omega arith
 
-  abbrev slots : RowSlots m b fit texts t Target part into (r0 ∷ rs) i p here k w x q ready hold worlds
-  slots = row_slots m b fit texts t Target part into (r0 ∷ rs) i p here k w x q ready hold worlds
+  abbrev slots : RowSlots m b fit t Target part into (r0 ∷ rs) i p here k w x q ready hold worlds
+  slots = row_slots m b fit t Target part into (r0 ∷ rs) i p here k w x q ready hold worlds
 
   abbrev real : Site
   real = site_now m b k i w x p q ready hold worlds target_instr here q.frame.pc q.printing 0 so_far_0
@@ -189,7 +190,7 @@ module _ (m : typed.Module) (b : Base m) (fit : PlacesFit m) (texts : TextsFit) 
     begins =
         ap (λ n. Some (inst op.Indc (behind (reference_place m.adts (types_of m target_f) r0) (frames.within m.adts (adt_of real.scene (real.told r0)) part))
         (of_own (number_place m.adts (types_of m target_f) n)) (own (number_place m.adts (types_of m target_f) into))))
-        (index_middle m b fit texts t Target part into (r0 ∷ rs) i p here k w x q ready hold worlds slots real)
+        (index_middle m b fit t Target part into (r0 ∷ rs) i p here k w x q ready hold worlds slots real)
         ∙ ap (λ u. Some (inst op.Indc (behind (reference_place m.adts (types_of m target_f) r0) (frames.within m.adts (adt_of real.scene u) part))
         (of_own (number_place m.adts (types_of m target_f) slots.index)) (own (number_place m.adts (types_of m target_f) into)))) same
 
@@ -202,11 +203,11 @@ module _ (m : typed.Module) (b : Base m) (fit : PlacesFit m) (texts : TextsFit) 
             (nil_indexed frames_limit (object_of m) x q (reference_place m.adts (types_of m target_f) r0)
             (frames.within m.adts (adt_of real.scene target.type) part) (target.ref.word ∙ ap (λ (o : Option ℕ). Found (Refer o)) e)
             (own (number_place m.adts (types_of m target_f) into)) (of_own (number_place m.adts (types_of m target_f) slots.index)))
-            (character_raises m b texts k i w x p q ready hold worlds t Target part into (r0 ∷ rs) here dereference_of_nil
+            (character_raises m b k i w x p q ready hold worlds t Target part into (r0 ∷ rs) here dereference_of_nil
             (no_target m k i w x p q ready hold worlds q.frame.pc q.printing part slots.us ty.Chars slots.way r0 rs below slots.these target g))
         go (Some s) (Some n) e g h =
             let place = target_place m k i w x p q ready hold worlds q.frame.pc q.printing part slots.us ty.Chars slots.way r0 rs below slots.these target s n e g in
-            character_comes m b texts k i w x p q ready hold worlds t Target part into (r0 ∷ rs) here slots.is_int q.frame.pc q.printing 0 so_far_0 refl
+            character_comes m b k i w x p q ready hold worlds t Target part into (r0 ∷ rs) here slots.is_int q.frame.pc q.printing 0 so_far_0 refl
             slots.below_into slots.clean slots.index slots.below_index slots.index_there slots.index_is source place.words place.byte place.leads.0 place.value
             place.rooted place.lies.stands
             (λ u e. place_lives m k i w x p q ready hold worlds q.frame.pc q.printing Target (core.values_of p.frame.slots (r0 ∷ rs)) source ty.Chars part place
@@ -223,7 +224,7 @@ module _ (m : typed.Module) (b : Base m) (fit : PlacesFit m) (texts : TextsFit) 
 
 -- ---- elements
 
-module _ (m : typed.Module) (b : Base m) (fit : PlacesFit m) (texts : TextsFit) (t : Ty) (part : List ℕ) (into r0 r1 : ℕ) (rs : List ℕ)
+module _ (m : typed.Module) (b : Base m) (fit : PlacesFit m) (t : Ty) (part : List ℕ) (into r0 r1 : ℕ) (rs : List ℕ)
     (i : ℕ) (p : code.Process) (here : slice_get p.frame.code p.frame.pc ≡ Some (Give t (Read (character_from Element part)) into (r0 ∷ r1 ∷ rs))) where
   abbrev from : List ℕ
   from = r0 ∷ r1 ∷ rs
@@ -251,63 +252,63 @@ module _ (m : typed.Module) (b : Base m) (fit : PlacesFit m) (texts : TextsFit) 
           let place = element_place_here m last i v y p q' s be.holds be.alike (suc q.frame.pc) None fit r0 item a be.whole some be.z be.h be.index be.address
           (core.value_of (core.slot p.frame.slots r0)) (core.value_of (core.slot p.frame.slots r1)) (core.values_of p.frame.slots rs) be.array be.number
           part ty.Chars slots'.path slots'.ends in
-          let row = row_slots m b fit texts t Element part into from i p here last v y q' s be.holds be.alike in
+          let row = row_slots m b fit t Element part into from i p here last v y q' s be.holds be.alike in
           let real = site_now m b last i v y p q' s be.holds be.alike element_instr here (suc q.frame.pc) None 1 so_far' in
           let told_is : real.told r0 ≡ a.type = slots'.tells ∙ same_some slots'.type a.type (sym slots'.has_type ∙ a.known) in
           let is_item : item_of (real.told r0) ≡ item = ap item_of told_is ∙ a.array.item be.whole some in
           let o = behind element_place (frames.within m.adts item part) in
           let into_at = own (number_place m.adts (types_of m h) into) in
-          character_comes m b texts last i v y p q' s be.holds be.alike t Element part into from here row.is_int (suc q.frame.pc) None 1 so_far' refl
+          character_comes m b last i v y p q' s be.holds be.alike t Element part into from here row.is_int (suc q.frame.pc) None 1 so_far' refl
           row.below_into row.clean row.index row.below_index row.index_there row.index_is o place.words place.byte place.leads.0 place.value
           place.rooted place.lies.stands
           (λ u e. place_lives m last i v y p q' s be.holds be.alike (suc q.frame.pc) None Element (core.values_of p.frame.slots from) o ty.Chars part place
           u (place.byte / 4) (word_found place.words place.byte (Refer (Some u)) e).1)
           (ap (λ n. Some (inst op.Indc (behind element_place (frames.within m.adts (item_of (real.told r0)) part)) (of_own (number_place m.adts (types_of m h) n)) into_at))
-          (index_middle m b fit texts t Element part into from i p here last v y q' s be.holds be.alike row real)
+          (index_middle m b fit t Element part into from i p here last v y q' s be.holds be.alike row real)
           ∙ ap (λ u. Some (inst op.Indc (behind element_place (frames.within m.adts u part)) (of_own (number_place m.adts (types_of m h) row.index)) into_at)) is_item)
 
     element_read : Next m b i p 1 k w x q
     element_read =
         let used = uses m k i x [] p.frame q.frame ready.stands.is p.frame.pc element_instr (code_here m k i x p q ready element_instr here) in
-        let row = row_slots m b fit texts t Element part into from i p here k w x q ready hold worlds in
+        let row = row_slots m b fit t Element part into from i p here k w x q ready hold worlds in
         let slots = element_slots m g ready.stands.is.known p.frame.pc r0 r1 part ty.Chars row.us (r1 ∷ rs) row.these row.way row.begins.0 row.begins.1 in
         element_way m b k i w x p q ready hold worlds element_instr here r0 r1 (core.values_of p.frame.slots rs) part ty.Chars row.way.root slots used.1.0 used.1.1.0
         refl (omega arith) refl
-        (character_raises m b texts k i w x p q ready hold worlds t Element part into from here) 0
+        (character_raises m b k i w x p q ready hold worlds t Element part into from here) 0
         (λ others last v y be. element_character row.way.root slots used.1.0 others last v y be)
 
 -- ---- the rows
 
 pub characters_go : CharactersGo
-characters_go m b fit texts t (Local v) part into from k i x p q ready here = (
+characters_go m b t (Local v) part into from k i x p q ready here = (
   0,
   going_on m b i p q q (λ n. refl) 0 k x ready.0 ready.1 (λ now w y s grows same hold worlds.
-      local_read m b fit texts t v part into from i p now w y q s hold worlds here),
+      local_read m b (places_fit m) t v part into from i p now w y q s hold worlds here),
 )
-characters_go m b fit texts t (Global v) part into from k i x p q ready here = (
+characters_go m b t (Global v) part into from k i x p q ready here = (
   0,
   going_on m b i p q q (λ n. refl) 0 k x ready.0 ready.1 (λ now w y s grows same hold worlds.
-      global_read m b fit texts t v part into from i p now w y q s hold worlds here),
+      global_read m b (places_fit m) t v part into from i p now w y q s hold worlds here),
 )
-characters_go m b fit texts t Target part into [] k i x p q ready here =
+characters_go m b t Target part into [] k i x p q ready here =
     let r = ready.0 in
     let instr = Give t (Read (character_from Target part)) into [] in
-    absurd (fit.operands r.stands.is.function p.frame.pc r.stands.is.known instr r.stands.goes (code_here m k i x p q r instr here)).0
-characters_go m b fit texts t Target part into (r0 ∷ rs) k i x p q ready here = (
+    absurd ((places_fit m).operands r.stands.is.function p.frame.pc r.stands.is.known instr r.stands.goes (code_here m k i x p q r instr here)).0
+characters_go m b t Target part into (r0 ∷ rs) k i x p q ready here = (
   0,
   going_on m b i p q q (λ n. refl) 0 k x ready.0 ready.1 (λ now w y s grows same hold worlds.
-      target_read m b fit texts t part into r0 rs i p here now w y q s hold worlds),
+      target_read m b (places_fit m) t part into r0 rs i p here now w y q s hold worlds),
 )
-characters_go m b fit texts t Element part into [] k i x p q ready here =
+characters_go m b t Element part into [] k i x p q ready here =
     let r = ready.0 in
     let instr = Give t (Read (character_from Element part)) into [] in
-    absurd (fit.operands r.stands.is.function p.frame.pc r.stands.is.known instr r.stands.goes (code_here m k i x p q r instr here)).0
-characters_go m b fit texts t Element part into (r0 ∷ []) k i x p q ready here =
+    absurd ((places_fit m).operands r.stands.is.function p.frame.pc r.stands.is.known instr r.stands.goes (code_here m k i x p q r instr here)).0
+characters_go m b t Element part into (r0 ∷ []) k i x p q ready here =
     let r = ready.0 in
     let instr = Give t (Read (character_from Element part)) into (r0 ∷ []) in
-    absurd (fit.operands r.stands.is.function p.frame.pc r.stands.is.known instr r.stands.goes (code_here m k i x p q r instr here)).0
-characters_go m b fit texts t Element part into (r0 ∷ r1 ∷ rs) k i x p q ready here = (
+    absurd ((places_fit m).operands r.stands.is.function p.frame.pc r.stands.is.known instr r.stands.goes (code_here m k i x p q r instr here)).0
+characters_go m b t Element part into (r0 ∷ r1 ∷ rs) k i x p q ready here = (
   1,
   going_on m b i p q q (λ n. refl) 1 k x ready.0 ready.1 (λ now w y s grows same hold worlds.
-      element_read m b fit texts t part into r0 r1 rs i p here now w y q s hold worlds),
+      element_read m b (places_fit m) t part into r0 r1 rs i p here now w y q s hold worlds),
 )

@@ -57,7 +57,7 @@ use Rattle.value_follows.proofs.Putting.{old_word}
 use Rattle.number_effects.proofs.Reading.{operands_are_read}
 use Rattle.block_effects.specs.Stored.{NumberThere}
 use Rattle.block_effects.proofs.Strings.{strings_come}
-use Rattle.rows_places.specs.Rows.{TextsFit, character_from}
+use Rattle.rows_places.specs.Rows.{character_from}
 use Rattle.rows_places.proofs.Last.{there, begins_at, number_comes, number_leads, raised_here}
 use Rattle.rows_places.proofs.TextPlaces.{text_is, reads_text}
 
@@ -78,9 +78,9 @@ character_range s (pos n) c all e = go (nat_lt n (length s)) e
 
 -- ---- slots by numbers
 
-pub are_characters : (fit : TextsFit) (k : Facts) (r : Option ℕ) (s : List ℕ) → IsText k r s → AreCharacters s
-are_characters fit k None s e = subst AreCharacters (sym e) tt
-are_characters fit k (Some b) s e = fit.characters k b s e.0
+pub are_characters : (k : Facts) (r : Option ℕ) (s : List ℕ) → IsText k r s → AreCharacters s
+are_characters k None s e = subst AreCharacters (sym e) tt
+are_characters k (Some b) s e = e.1.0
 
 pub values_at : (slots : core.Slots) (rs : List ℕ) (n c : ℕ) → slice_get rs n ≡ Some c → slice_index_or (values_of slots rs) n nothing ≡ value_of (slot slots c)
 values_at slots [] n c e = absurd cc
@@ -97,7 +97,7 @@ below_at l [] n c all e = absurd cc
 below_at l (r ∷ rs) zero c all e = let same : r ≡ c = cc in subst (λ x. x < l) same all.0
 below_at l (r ∷ rs) (suc n) c all e = below_at l rs n c all.1 e
 
-module _ (m : typed.Module) (b : Base m) (fit : TextsFit) (k : Facts) (i : ℕ) (w : Shared) (x : World) (p : code.Process) (q : Process) (ready : Ready m k i x p q)
+module _ (m : typed.Module) (b : Base m) (k : Facts) (i : ℕ) (w : Shared) (x : World) (p : code.Process) (q : Process) (ready : Ready m k i x p q)
     (hold : HoldTheSame m k i x p q) (worlds : (sides m).worlds k w x) (t : Ty) (root : Root) (part : List ℕ) (into : ℕ) (from : List ℕ)
     (here : slice_get p.frame.code p.frame.pc ≡ Some (Give t (Read (character_from root part)) into from)) where
   abbrev instr : Instr
@@ -171,7 +171,7 @@ module _ (m : typed.Module) (b : Base m) (fit : TextsFit) (k : Facts) (i : ℕ) 
         let reads = reads_text m k i w x p q ready hold worlds pc pr o words byte leads (part_at part old) text lives in
         let index = operands_are_read.own_number x at_now Int c_at ∙ n.found in
         let index_is = ap value_of n.holds in
-        let all = are_characters fit k text.refers text.chars text.text in
+        let all = are_characters k text.refers text.chars text.text in
         let strings = (strings_come frames_limit (object_of m) x at_now).read in
         let live = got_by m.adts t (Read (character_from root part)) in
         let goes = behind_it m b k i w x p q ready hold worlds instr here 0 (suc p.frame.pc) (held.put known into (Of t live)) (omega arith) refl in

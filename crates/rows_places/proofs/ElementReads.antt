@@ -33,7 +33,8 @@ use Rattle.value_follows.proofs.Standing.{same_some, finds, code_here}
 use Rattle.value_follows.proofs.Slots.{uses}
 use Rattle.value_follows.proofs.Single.{Once}
 use Rattle.value_follows.proofs.Several.{moved_to, Next}
-use Rattle.rows_places.specs.Rows.{IsSimple, way_from, PlacesFit, ElementsGo}
+use Rattle.rows_places.specs.Rows.{IsSimple, way_from, ElementsGo}
+use Rattle.rows_places.proofs.Fitting.{PlacesFit, places_fit}
 use Rattle.rows_places.proofs.Going.{going_on}
 use Rattle.rows_places.proofs.Last.{simple_op, site_now}
 use Rattle.rows_places.proofs.Arrays.{array_here}
@@ -113,16 +114,16 @@ module _ (m : typed.Module) (b : Base m) (fit : PlacesFit m) (t : Ty) (part : Li
         (λ others last v y be. element_read found.2.0.root slots used.0 used.1.0 found.3 others last v y be)
 
 pub elements_go : ElementsGo
-elements_go m b fit t part into [] simple k i x p q ready here =
+elements_go m b t part into [] simple k i x p q ready here =
     let r = ready.0 in
     let instr = Give t (Read (way_from Element part)) into [] in
-    absurd (fit.operands r.stands.is.function p.frame.pc r.stands.is.known instr r.stands.goes (code_here m k i x p q r instr here)).0
-elements_go m b fit t part into (r0 ∷ []) simple k i x p q ready here =
+    absurd ((places_fit m).operands r.stands.is.function p.frame.pc r.stands.is.known instr r.stands.goes (code_here m k i x p q r instr here)).0
+elements_go m b t part into (r0 ∷ []) simple k i x p q ready here =
     let r = ready.0 in
     let instr = Give t (Read (way_from Element part)) into (r0 ∷ []) in
-    absurd (fit.operands r.stands.is.function p.frame.pc r.stands.is.known instr r.stands.goes (code_here m k i x p q r instr here)).0
-elements_go m b fit t part into (r0 ∷ r1 ∷ rs) simple k i x p q ready here = (
+    absurd ((places_fit m).operands r.stands.is.function p.frame.pc r.stands.is.known instr r.stands.goes (code_here m k i x p q r instr here)).0
+elements_go m b t part into (r0 ∷ r1 ∷ rs) simple k i x p q ready here = (
   1,
   going_on m b i p q q (λ n. refl) 1 k x ready.0 ready.1 (λ now w y s grows same hold worlds.
-      element_reads m b fit t part into r0 r1 rs simple i p here now w y q s hold worlds),
+      element_reads m b (places_fit m) t part into r0 r1 rs simple i p here now w y q s hold worlds),
 )

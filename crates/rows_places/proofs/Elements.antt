@@ -35,7 +35,7 @@ use Rattle.value_stores.proofs.Stores.{blocks_change}
 use Rattle.value_code.specs.Objects.{globals, constants}
 use Rattle.value_follows.specs.Stands.{Ready}
 use Rattle.value_follows.specs.Sides.{sides, contents, HoldTheSame}
-use Rattle.rows_places.specs.Rows.{PlacesFit}
+use Rattle.rows_places.proofs.Fitting.{PlacesFit}
 use Rattle.rows_places.proofs.Going.{at_place_of}
 use Rattle.rows_places.proofs.Places.{HeapPlace}
 use Rattle.rows_places.proofs.Arrays.{ArrayHere, reads_some}

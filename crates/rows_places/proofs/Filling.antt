@@ -47,7 +47,8 @@ use Rattle.value_follows.proofs.Standing.{same_some, finds, goes_behind, instanc
 use Rattle.value_follows.proofs.Slots.{uses, number_there}
 use Rattle.value_follows.proofs.Single.{Once}
 use Rattle.value_follows.proofs.Several.{moved_to, Next, row_now}
-use Rattle.rows_places.specs.Rows.{IsSimple, PlacesFit, ElementGoes}
+use Rattle.rows_places.specs.Rows.{IsSimple, ElementGoes}
+use Rattle.rows_places.proofs.Fitting.{PlacesFit, places_fit}
 use Rattle.rows_places.proofs.Words.{same_form}
 use Rattle.rows_places.proofs.Going.{going_on}
 use Rattle.rows_places.proofs.Last.{simple_op, simple_moved, site_now, there}
@@ -222,8 +223,8 @@ module _ (m : typed.Module) (b : Base m) (fit : PlacesFit m) (t : Ty) (array : �
       q.frame.pc q.printing so_far used.0 used.1 found.1 found.2 others last v y be)
 
 pub element_goes : ElementGoes
-element_goes m b fit t array index from simple k i x p q ready here = (
+element_goes m b t array index from simple k i x p q ready here = (
   1,
   going_on m b i p q q (λ n. refl) 1 k x ready.0 ready.1 (λ now w y s grows same hold worlds.
-      element_stored m b fit t array index from simple i p here now w y q s hold worlds),
+      element_stored m b (places_fit m) t array index from simple i p here now w y q s hold worlds),
 )

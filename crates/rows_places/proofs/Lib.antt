@@ -1,4 +1,5 @@
 pub mod Words
+pub mod Fitting
 pub mod New
 pub mod Going
 pub mod Last
@@ -24,7 +25,11 @@ pub mod Locals
 pub mod TextPlaces
 pub mod Characters
 pub mod CharacterReads
+pub mod Inserting
+pub mod InsertRows
+pub mod CharacterWrites
 pub mod Wholes
+pub mod Sizing
 pub mod Stopping
 pub mod WholeWriting
 pub mod WholeWrites

@@ -1,5 +1,5 @@
 -- Whole elements of arrays that are stored by the turns of a loop.
-use Rattle.std.proofs.Common.{◌≡◌, ℕ, ℤ, suc, pos, ◌+◌, ◌<◌, List, [], ◌∷◌, length, Option, Some, None, refl, sym, ap, ◌∙◌, subst, arith, inl}
+use Rattle.std.proofs.Common.{◌≡◌, ℕ, ℤ, Bool, suc, pos, ◌+◌, ◌<◌, ◌≤◌, List, [], ◌∷◌, length, Option, Some, None, refl, sym, ap, ◌∙◌, subst, arith, inl}
 use Rattle.std.specs.Prelude.{Ok, slice_get}
 use Rattle.process_model.specs.Process.{Went, Ends}
 use Rattle.system_model.specs.Ending.{Broken}
@@ -31,7 +31,6 @@ use Rattle.value_words.specs.Facts.{Facts}
 use Rattle.value_words.proofs.Bytes.{word_found}
 use Rattle.value_frames.specs.Frames.{element_place, passing_place, number_place}
 use Rattle.value_moves.specs.Operands.{Code, inst, own, of_own, behind, moved}
-use Rattle.rows_places.proofs.Wholes.{whole_moved}
 use Rattle.value_moves.proofs.Changing.{words_change}
 use Rattle.value_moves.proofs.Leading.{spots_lead}
 use Rattle.value_code.specs.Data.{OfRecord}
@@ -48,7 +47,12 @@ use Rattle.value_follows.specs.Rows.{Base}
 use Rattle.value_follows.proofs.Standing.{finds, goes_behind, code_here}
 use Rattle.value_follows.proofs.Slots.{uses}
 use Rattle.value_follows.proofs.Several.{moved_to, moved_names, hold_as, Next, goes_silently}
-use Rattle.rows_places.specs.Rows.{IsWhole, PlacesFit, OtherWholeGoes}
+use Rattle.rows_places.specs.Rows.{OtherWholeGoes}
+use Rattle.limbo_layout.specs.Layout.{limit}
+use Rattle.value_frames.specs.Frames.{Boxed, form_of, room_for}
+use Rattle.rows_boxes.proofs.Typed.{is_sized}
+use Rattle.rows_places.proofs.Sizing.{many_of, last_moves, front_long}
+use Rattle.rows_places.proofs.Fitting.{PlacesFit, places_fit}
 use Rattle.rows_places.proofs.Going.{going_on}
 use Rattle.rows_places.proofs.Last.{site_now, reaches_here}
 use Rattle.rows_places.proofs.Arrays.{LinkageWord, linkage_word}
@@ -58,10 +62,10 @@ use Rattle.rows_places.proofs.Indexing.{onward}
 use Rattle.rows_places.proofs.Addressing.{address_way}
 use Rattle.rows_places.proofs.Others.{has_number, found_same, plain_same, less_one, one_less, HasTurn, turn_there}
 use Rattle.rows_places.proofs.Filling.{HasArray}
-use Rattle.rows_places.proofs.FillingWholes.{Fills, fill_raises, element_filled}
+use Rattle.rows_places.proofs.FillingWholes.{Fills, fill_raises, filled_way}
 
-module _ (m : typed.Module) (b : Base m) (fit : PlacesFit m) (t : Ty) (array loop from : ℕ) (whole : IsWhole m.adts t)
-    (i : ℕ) (p : code.Process) (here : slice_get p.frame.code p.frame.pc ≡ Some (Other t array loop from)) (turn : HasTurn p loop) where
+module _ (m : typed.Module) (b : Base m) (fit : PlacesFit m) (t : Ty) (array loop from : ℕ) (form : form_of t ≡ Boxed) (sizes : Bool)
+    (is_so : is_sized m.adts t ≡ sizes) (small : (room_for m.adts t).size ≤ limit) (i : ℕ) (p : code.Process) (here : slice_get p.frame.code p.frame.pc ≡ Some (Other t array loop from)) (turn : HasTurn p loop) where
   abbrev instr : Instr
   instr = Other t array loop from
 
@@ -76,23 +80,24 @@ module _ (m : typed.Module) (b : Base m) (fit : PlacesFit m) (t : Ty) (array loo
       inst op.Subw (operand.Imm (pos 1)) (of_own (number_place c.scene.adts c.scene.variables loop)) (own passing_place)
       ∷ element_of c array (own passing_place) ∷ []
 
-  last_is : (c : Site) (move : Inst) → moved c.scene.adts t (c.type_number (OfRecord t)) (in_slot c.scene t from) (behind element_place 0) ≡ move ∷ []
-      → slice_get (code_of c instr) 2 ≡ Some move
-  last_is c move e =
-      ap (λ (l : Code). slice_get (inst op.Subw (operand.Imm (pos 1)) (of_own (number_place c.scene.adts c.scene.variables loop)) (own passing_place)
-      ∷ element_of c array (own passing_place) ∷ l) 2) e
+  code_is : (c : Site) (n : ℕ) (move : Inst)
+      → slice_get (moved c.scene.adts t (c.type_number (OfRecord t)) (in_slot c.scene t from) (behind element_place 0)) n ≡ Some move
+      → slice_get (code_of c instr) (suc (1 + n)) ≡ Some move
+  code_is c n move e = ap (λ l. slice_get (code_of c instr) l) (let z : suc (1 + n) ≡ suc (suc n) = omega arith in z) ∙ e
 
-  long_is : (c : Site) → c.scene.adts ≡ m.adts → length (code_of c instr) ≡ 2 + 1
+  long_is : (c : Site) → c.scene.adts ≡ m.adts → length (code_of c instr) ≡ suc 1 + suc (many_of sizes)
   long_is c e =
+      let last = last_moves m.adts t (c.type_number (OfRecord t)) (in_slot c.scene t from) (behind element_place 0) sizes form is_so in
       ap (λ (l : Code). suc (suc (length l)))
-      (ap (λ d. moved d t (c.type_number (OfRecord t)) (in_slot c.scene t from) (behind element_place 0)) e
-      ∙ (whole_moved m.adts t (c.type_number (OfRecord t)) (in_slot c.scene t from) (behind element_place 0) whole).1)
+      (ap (λ d. moved d t (c.type_number (OfRecord t)) (in_slot c.scene t from) (behind element_place 0)) e ∙ last.1)
+      ∙ ap (λ n. suc (suc n)) (front_long sizes (room_for m.adts t).size last.0)
+      ∙ (let z : suc (suc (suc (many_of sizes))) ≡ suc 1 + suc (many_of sizes) = omega arith in z)
 
   goes_behind_it : (f : typed.Function) (known : held.Slots) → GoesOn m f p.frame.pc known → slice_get (of_function m f).code p.frame.pc ≡ Some instr
       → GoesOn m f (suc p.frame.pc) known
   goes_behind_it f known goes there = goes_behind m f p.frame.pc known instr goes there 0 (suc p.frame.pc) known (omega arith) refl
 
-  does : (has_array : HasArray p array) → Fills m b fit t array from whole i p instr here z has_array 1 last_is (λ m f pc. inl refl) long_is goes_behind_it
+  does : (has_array : HasArray p array) → Fills m b fit t array from form sizes is_so small i p instr here z has_array 1 code_is (λ m f pc. inl refl) long_is goes_behind_it
   does has_array v =
       ap (code.next frames_limit (program m) v p) here
       ∙ ap (λ (o : Option value.Part). code.part_or_none frames_limit (program m) v p o
@@ -156,13 +161,13 @@ module _ (m : typed.Module) (b : Base m) (fit : PlacesFit m) (t : Ty) (array loo
           (reaches_here m b k i w x p q ready hold worlds instr here q.frame.pc q.printing 0 so_far subtract refl) number.1 (lead.1 number.0.others)
           ∙ ap (λ ws. Went x (moved_to q (suc q.frame.pc) ws)) same
 
-      other_stored : array < length p.frame.slots → from < length p.frame.slots → Next m b i p 2 k w x q
+      other_stored : array < length p.frame.slots → from < length p.frame.slots → Next m b i p (suc (suc (many_of sizes))) k w x q
       other_stored below_a below_f =
           let size = long_is (blank_site m f.of.answer (of_function m f) p.frame.pc) refl in
           let first = moved_to q q.frame.pc others in
-          goes_silently m b i p 2 k w x q (moved_to q (suc q.frame.pc) others) steps worlds
+          goes_silently m b i p (suc (suc (many_of sizes))) k w x q (moved_to q (suc q.frame.pc) others) steps worlds
           (onward m b k i w x p q ready hold worlds instr here q.frame.pc q.printing 0 so_far refl (subst (λ l. 1 < l) (sym size) (omega arith)) others)
-          (going_on m b i p first (moved_to q (suc q.frame.pc) others) (λ l. refl) 1 k x link.still
+          (going_on m b i p first (moved_to q (suc q.frame.pc) others) (λ l. refl) (suc (many_of sizes)) k x link.still
           (hold_as m b i p k x q (moved_to q (suc q.frame.pc) others) (λ l. sym (moved_names q (suc q.frame.pc) others link.names l)) hold)
           (λ last v y s grows same holds alike.
           let h = s.stands.is.function in
@@ -172,24 +177,24 @@ module _ (m : typed.Module) (b : Base m) (fit : PlacesFit m) (t : Ty) (array loo
           address_way m b last i v y p first s holds alike instr here (suc q.frame.pc) None 1 so_far' array t z below_a found.1 (own passing_place)
           (operands_are_read.source_number y (moved_to q (suc q.frame.pc) others) (own passing_place) others passing_place Int
           (spots_lead.own y (moved_to q (suc q.frame.pc) others) passing_place).0 ∙ ap (λ (a : Access Word). a >>= number_in) link.word)
-          refl refl (subst (λ l. 2 < l) (sym size') (omega arith)) 0
+          refl refl (subst (λ l. 2 < l) (sym size') (omega arith)) (many_of sizes)
           (λ none. does_none none v)
           (λ part raised some out.
-          fill_raises m b fit t array from whole i p instr here z (part, some) 1 last_is (λ m f pc. inl refl) long_is goes_behind_it (does (part, some)) v (text_of raised)
+          fill_raises m b fit t array from form sizes is_so small i p instr here z (part, some) 1 code_is (λ m f pc. inl refl) long_is goes_behind_it (does (part, some)) v (text_of raised)
           (no_element m last i v y p first s holds alike (suc q.frame.pc) None (Array (Some part)) (Num z) [] part refl z refl raised out))
           (λ others' last' v' y' be.
-          element_filled m b fit t array from whole i p instr here z (be.whole, be.array) 1 last_is (λ m f pc. inl refl) long_is goes_behind_it (does (be.whole, be.array)) last v y first s holds alike
-          (suc q.frame.pc) None so_far' below_a below_f found.1 found.3 found.0 others' last' v' y' be)))
+          filled_way m b fit t array from form sizes is_so small i p instr here z (be.whole, be.array) 1 code_is (λ m f pc. inl refl) long_is goes_behind_it (does (be.whole, be.array)) last v y first s holds alike
+          (suc q.frame.pc) None so_far' below_a below_f found.1 found.3 found.0 others' last' v' y' be refl)))
 
 pub other_whole_goes : OtherWholeGoes
-other_whole_goes m b fit t array loop from whole k i x p q ready here = (
-  2,
-  going_on m b i p q q (λ n. refl) 2 k x ready.0 ready.1 (λ now w y s grows same hold worlds.
+other_whole_goes m b t array loop from whole k i x p q ready here = (
+  suc (suc (many_of (is_sized m.adts t))),
+  going_on m b i p q q (λ n. refl) (suc (suc (many_of (is_sized m.adts t)))) k x ready.0 ready.1 (λ now w y s grows same hold worlds.
       let f = s.stands.is.function in
       let instr = Other t array loop from in
       let row_is = code_here m now i y p q s instr here in
       let found = finds m f p.frame.pc s.stands.is.known instr s.stands.goes row_is in
       let used = uses m now i y [] p.frame q.frame s.stands.is p.frame.pc instr row_is in
       let turn = turn_there m now i y p q s loop used.1 found.2 in
-      other_stored m b fit t array loop from whole i p here turn.0 now w y q s hold worlds turn.1 used.0 used.2),
+      other_stored m b (places_fit m) t array loop from whole.0 (is_sized m.adts t) refl whole.1 i p here turn.0 now w y q s hold worlds turn.1 used.0 used.2),
 )

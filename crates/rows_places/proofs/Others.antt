@@ -51,7 +51,8 @@ use Rattle.value_follows.specs.Rows.{Base}
 use Rattle.value_follows.proofs.Standing.{finds, goes_behind, code_here}
 use Rattle.value_follows.proofs.Slots.{uses, slot_is}
 use Rattle.value_follows.proofs.Several.{moved_to, moved_names, hold_as, Next, goes_silently}
-use Rattle.rows_places.specs.Rows.{IsSimple, PlacesFit, OtherGoes}
+use Rattle.rows_places.specs.Rows.{IsSimple, OtherGoes}
+use Rattle.rows_places.proofs.Fitting.{PlacesFit, places_fit}
 use Rattle.rows_places.proofs.Going.{going_on}
 use Rattle.rows_places.proofs.Last.{simple_op, simple_moved, site_now, reaches_here}
 use Rattle.rows_places.proofs.Arrays.{LinkageWord, linkage_word}
@@ -221,7 +222,7 @@ module _ (m : typed.Module) (b : Base m) (fit : PlacesFit m) (t : Ty) (array loo
           (suc q.frame.pc) None so_far' below_a below_f found.1 found.3 others' last' v' y' be)))
 
 pub other_goes : OtherGoes
-other_goes m b fit t array loop from simple k i x p q ready here = (
+other_goes m b t array loop from simple k i x p q ready here = (
   2,
   going_on m b i p q q (λ n. refl) 2 k x ready.0 ready.1 (λ now w y s grows same hold worlds.
       let f = s.stands.is.function in
@@ -230,5 +231,5 @@ other_goes m b fit t array loop from simple k i x p q ready here = (
       let found = finds m f p.frame.pc s.stands.is.known instr s.stands.goes row_is in
       let used = uses m now i y [] p.frame q.frame s.stands.is p.frame.pc instr row_is in
       let turn = turn_there m now i y p q s loop used.1 found.2 in
-      other_stored m b fit t array loop from simple i p here turn.0 now w y q s hold worlds turn.1 used.0 used.2),
+      other_stored m b (places_fit m) t array loop from simple i p here turn.0 now w y q s hold worlds turn.1 used.0 used.2),
 )

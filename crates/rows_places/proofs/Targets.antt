@@ -33,7 +33,8 @@ use Rattle.value_follows.specs.Rows.{Base}
 use Rattle.value_follows.proofs.Standing.{same_some, finds, code_here}
 use Rattle.value_follows.proofs.Slots.{uses}
 use Rattle.value_follows.proofs.Single.{Once}
-use Rattle.rows_places.specs.Rows.{IsSimple, way_from, PlacesFit, TargetsGo}
+use Rattle.rows_places.specs.Rows.{IsSimple, way_from, TargetsGo}
+use Rattle.rows_places.proofs.Fitting.{PlacesFit, places_fit}
 use Rattle.rows_places.proofs.Going.{going_on}
 use Rattle.rows_places.proofs.Last.{simple_op, site_now, raised_here}
 use Rattle.rows_places.proofs.Places.{TargetIs, target_is, at_target, no_target, target_place}
@@ -113,14 +114,14 @@ has_first m f known t part [] is these = let e = is.begins.2.1 in absurd cc
 has_first m f known t part (u ∷ us) is these = these
 
 pub targets_go : TargetsGo
-targets_go m b fit t part into [] simple k i x p q ready here =
+targets_go m b t part into [] simple k i x p q ready here =
     let r = ready.0 in
     let f = r.stands.is.function in
     let instr = Give t (Read (way_from Target part)) into [] in
     let found = finds m f p.frame.pc r.stands.is.known instr r.stands.goes (code_here m k i x p q r instr here) in
     absurd (has_first m f r.stands.is.known t part found.0 found.2.0 found.1)
-targets_go m b fit t part into (r0 ∷ rs) simple k i x p q ready here = (
+targets_go m b t part into (r0 ∷ rs) simple k i x p q ready here = (
   0,
   going_on m b i p q q (λ n. refl) 0 k x ready.0 ready.1 (λ now w y s grows same hold worlds.
-      target_read m b fit t part into r0 rs simple now i w y p q s hold worlds here),
+      target_read m b (places_fit m) t part into r0 rs simple now i w y p q s hold worlds here),
 )

@@ -1,6 +1,6 @@
 -- Writes of values of parts and of bigs: what comes to a place by the last instruction of the row.
-use Rattle.std.proofs.Common.{◌≡◌, ◌⊎◌, ℕ, ℤ, Bool, true, pos, ◌+◌, ◌*◌, ◌<◌, ◌≤◌, List, [], ◌∷◌, length, Option, Some, None, refl, sym, ap, ◌∙◌, subst, arith, inl, inr}
-use Rattle.std.specs.Prelude.{slice_get, if◌then◌else◌}
+use Rattle.std.proofs.Common.{◌≡◌, ◌⊎◌, ℕ, ℤ, Bool, true, suc, pos, ◌+◌, ◌*◌, ◌<◌, ◌≤◌, List, [], ◌∷◌, ◌++◌, length, Option, Some, None, refl, sym, ap, ◌∙◌, subst, arith, inl, inr}
+use Rattle.std.specs.Prelude.{slice_get}
 use Rattle.std.specs.Int.{next_multiple_of}
 use Rattle.std.proofs.lemmas.Int.{ints}
 use Rattle.heap_model.specs.Heap.{at, in_one, there as is_live}
@@ -44,9 +44,9 @@ use Rattle.value_words.specs.Facts.{Facts}
 use Rattle.value_words.specs.Stands.{Stands, a_number}
 use Rattle.value_moves.proofs.Changing.{low_or_high}
 use Rattle.value_heaps.proofs.Words.{named_by}
-use Rattle.value_frames.specs.Frames.{Boxed, form_of, room_for, passing_place}
+use Rattle.value_frames.specs.Frames.{Boxed, form_of, room_for}
 use Rattle.value_frames.specs.Types.{desc}
-use Rattle.value_moves.specs.Operands.{Code, inst, of_own, behind, moved, size_middle}
+use Rattle.value_moves.specs.Operands.{Code, inst, behind, moved}
 use Rattle.value_moves.specs.Spots as spots
 use Rattle.value_moves.specs.Writing.{Lies, Writes}
 use Rattle.value_moves.specs.Changing.{Changes}
@@ -66,13 +66,15 @@ use Rattle.value_follows.specs.Rows.{Base}
 use Rattle.value_follows.proofs.Standing.{same_some, instance_here, code_here}
 use Rattle.value_follows.proofs.Several.{row_now}
 use Rattle.value_follows.proofs.Slots.{number_there}
-use Rattle.rows_places.specs.Rows.{IsWhole, way_from}
+use Rattle.rows_places.specs.Rows.{way_from}
+use Rattle.rows_boxes.proofs.Typed.{is_sized}
+use Rattle.rows_places.proofs.Sizing.{front_of, many_of, IsOnWay, last_moves, front_long}
 use Rattle.rows_places.proofs.Going.{at_place_of}
 use Rattle.rows_places.proofs.Last.{site_now}
 use Rattle.rows_places.proofs.Giving.{put_value}
 use Rattle.rows_places.proofs.Storing.{writes_again, lies_again}
 use Rattle.rows_places.proofs.Sources.{slot_reads}
-use Rattle.rows_places.proofs.Wholes.{written_from, whole_moved, put_whole, LiesThere, slot_lies, whole_form}
+use Rattle.rows_places.proofs.Wholes.{written_from, put_whole, LiesThere, slot_lies, whole_form}
 
 -- ---- zeros among the constants
 
@@ -106,7 +108,8 @@ module _ (m : typed.Module) (k : Facts) (x : World) (now : Process) where
 
 module _ (m : typed.Module) (b : Base m) (k : Facts) (i : ℕ) (w : Shared) (x : World) (p : code.Process) (q : Process) (ready : Ready m k i x p q)
     (hold : HoldTheSame m k i x p q) (worlds : (sides m).worlds k w x) (t : Ty) (root : Root) (part operands taken : List ℕ) (from : ℕ)
-    (here : slice_get p.frame.code p.frame.pc ≡ Some (Write t (way_from root part) operands taken from)) (whole : IsWhole m.adts t)
+    (here : slice_get p.frame.code p.frame.pc ≡ Some (Write t (way_from root part) operands taken from)) (form : form_of t ≡ Boxed) (c : Bool)
+    (is_so : is_sized m.adts t ≡ c)
     (pc : ℕ) (pr : Option Printing) (j : ℕ) (so_far : pc ≡ q.frame.pc + j) where
   abbrev instr : Instr
   instr = Write t (way_from root part) operands taken from
@@ -139,33 +142,32 @@ module _ (m : typed.Module) (b : Base m) (k : Facts) (i : ℕ) (w : Shared) (x :
   PutsTo d =
       (target : List Word) (to : ℕ) (leads : spots.Leads x now d target to) (old : Value) → Lies m.adts k target to t (room_for m.adts t) old →
       ((u wd : ℕ) → slice_get target wd ≡ Some (Refer (Some u)) → is_live (at x.heap u) ≡ true) →
-      (move : Inst) × (put_or_zero real (real.told from) t d taken from ≡ move ∷ []) × Puts m k x now target to leads.place t (fitted m.adts t val) move
+      (move : Inst) × (put_or_zero real (real.told from) t d taken from ≡ front_of c (room_for m.adts t).size ++ move ∷ [])
+      × Puts m k x now target to leads.place t (fitted m.adts t val) move
 
   -- and that it raises where it writes to what a word refers to that refers to nothing
   abbrev pub Stops : Type 0
   Stops =
       (r off : ℕ) → word_at q.frame.words (pos r) ≡ Found (Refer None) →
-      (move : Inst) × (put_or_zero real (real.told from) t (behind r off) taken from ≡ move ∷ [])
+      (move : Inst) × (put_or_zero real (real.told from) t (behind r off) taken from ≡ front_of c (room_for m.adts t).size ++ move ∷ [])
       × (obey frames_limit (object_of m) x now move move.op ≡ Raises nil_text)
 
   pub record WholeFor : Type 0 where
-    pub stops : Stops
-    pub long : (d : isa.Operand) → length (put_or_zero blank (blank.told from) t d taken from) ≡ 1
-    pub puts : (d : isa.Operand) → PutsTo d
+    -- once its size is on its way, where that comes first
+    pub stops : IsOnWay c (room_for m.adts t).size now → Stops
+    pub puts : IsOnWay c (room_for m.adts t).size now → (d : isa.Operand) → PutsTo d
+    pub code : (d : isa.Operand) → (move : Inst) × (put_or_zero real (real.told from) t d taken from ≡ front_of c (room_for m.adts t).size ++ move ∷ [])
+    pub long : (d : isa.Operand) → length (put_or_zero blank (blank.told from) t d taken from) ≡ suc (many_of c)
 
   -- a value that lies somewhere is moved
   moves : (source : isa.Operand) → LiesThere m k i w x p q ready hold worlds pc pr source t (fitted m.adts t val) → (d : isa.Operand)
-      → put_or_zero real (real.told from) t d taken from ≡ moved m.adts t (type_number m (OfRecord t)) source d → PutsTo d
-  moves source s d code_is target to leads old lies lives =
+      → put_or_zero real (real.told from) t d taken from ≡ moved m.adts t (type_number m (OfRecord t)) source d → IsOnWay c (room_for m.adts t).size now → PutsTo d
+  moves source s d code_is so target to leads old lies lives =
       let r = room_for m.adts t in
       let n = type_number m (OfRecord t) in
-      let move = whole_moved m.adts t n source d whole in
+      let move = last_moves m.adts t n source d c form is_so in
       let room = values_move.room m.adts k target to t r old lies in
-      let given : given_of Int x now (size_middle r.size) ≡ Found (pos r.size) =
-      ap (λ (c : Bool). given_of Int x now (if c then middle.Imm (pos r.size) else of_own passing_place)) whole.1
-      ∙ operands_are_read.middle_given x now Int (pos r.size) in
-      let mv = values_move.moves m.adts k frames_limit (object_of m) x now t r (fitted m.adts t val) n source d s.words target s.byte to s.leads leads s.lies room
-      [] move.0 move.1 type_there given in (
+      let mv = move.2 k frames_limit (object_of m) x now (fitted m.adts t val) s.words target s.byte to s.leads leads s.lies room type_there so in (
         move.0,
         code_is ∙ move.1,
         record {
@@ -183,19 +185,23 @@ module _ (m : typed.Module) (b : Base m) (k : Facts) (i : ℕ) (w : Shared) (x :
       )
 
   moves_stop : (source : isa.Operand) → LiesThere m k i w x p q ready hold worlds pc pr source t (fitted m.adts t val)
-      → ((d : isa.Operand) → put_or_zero real (real.told from) t d taken from ≡ moved m.adts t (type_number m (OfRecord t)) source d) → Stops
-  moves_stop source s code_is r off none =
+      → ((d : isa.Operand) → put_or_zero real (real.told from) t d taken from ≡ moved m.adts t (type_number m (OfRecord t)) source d)
+      → IsOnWay c (room_for m.adts t).size now → Stops
+  moves_stop source s code_is so r off none =
       let n = type_number m (OfRecord t) in
       let d = behind r off in
-      let move = whole_moved m.adts t n source d whole in (
+      let move = last_moves m.adts t n source d c form is_so in (
         move.0,
         code_is d ∙ move.1,
-        whole_stops m k (object_of m) x now t (fitted m.adts t val) n source s.words s.byte s.leads s.lies whole type_there r off none move.0 move.1,
+        whole_stops m k (object_of m) x now t (fitted m.adts t val) n source s.words s.byte s.leads s.lies form c is_so so type_there r off none move.0 move.1,
       )
 
   -- the zero of a big is an immediate
   big_range : InRange kind.Big (pos 0)
   big_range = record { above = omega (arith, ints); below = omega (arith, ints) }
+
+  big_once : t ≡ ty.Big → (move : Inst) → move ∷ [] ≡ front_of c (room_for m.adts t).size ++ move ∷ []
+  big_once e move = ap (λ (z : Bool). front_of z (room_for m.adts t).size ++ move ∷ []) (ap (is_sized m.adts) (sym e) ∙ is_so)
 
   big_zero : t ≡ ty.Big → val ≡ nothing → (d : isa.Operand)
       → put_or_zero real (real.told from) t d taken from ≡ inst op.Movl (operand.Imm (pos 0)) middle.None d ∷ [] → PutsTo d
@@ -210,7 +216,7 @@ module _ (m : typed.Module) (b : Base m) (k : Facts) (i : ℕ) (w : Shared) (x :
       let is : fitted m.adts t val ≡ Num (pos 0) =
       ap (λ (u : Ty). fitted m.adts u val) e ∙ ap (λ (v : Value). fitted m.adts ty.Big v) empty ∙ ap (λ (z : ℤ). Num z) (within kind.Big (pos 0) big_range) in (
         move,
-        code_is,
+        code_is ∙ big_once e move,
         record {
           others = n.0.others;
           source = n.0.others;
@@ -237,10 +243,10 @@ module _ (m : typed.Module) (b : Base m) (k : Facts) (i : ℕ) (w : Shared) (x :
         ]
       ]
 
-  big_stops : ((d : isa.Operand) → put_or_zero real (real.told from) t d taken from ≡ inst op.Movl (operand.Imm (pos 0)) middle.None d ∷ []) → Stops
-  big_stops code_is r off none = (
+  big_stops : t ≡ ty.Big → ((d : isa.Operand) → put_or_zero real (real.told from) t d taken from ≡ inst op.Movl (operand.Imm (pos 0)) middle.None d ∷ []) → Stops
+  big_stops e code_is r off none = (
     inst op.Movl (operand.Imm (pos 0)) middle.None (behind r off),
-    code_is (behind r off),
+    code_is (behind r off) ∙ big_once e (inst op.Movl (operand.Imm (pos 0)) middle.None (behind r off)),
     ap (λ (c : Access Word). (c >>= λ w. places.behind w (pos off)) >>= λ d. gives_number_at x now kind.Big d (Found (pos 0))) none,
   )
 
@@ -278,21 +284,30 @@ module _ (m : typed.Module) (b : Base m) (k : Facts) (i : ℕ) (w : Shared) (x :
       of_parts : HasParts t → WholeFor
       of_parts parts = record {
         long = λ d.
-            ap (λ (l : Code). length l) (code_told blank tells d ∙ zero_code blank t d parts
-            ∙ (whole_moved m.adts t (blank.type_number (OfRecord t)) (operand.Mp (pos blank.at)) d whole).1);
-        puts = λ d. moves (operand.Mp (pos real.at)) (zero_lies parts empty) d (code_told real tells d ∙ zero_code real t d parts);
+            let last = last_moves m.adts t (blank.type_number (OfRecord t)) (operand.Mp (pos blank.at)) d c form is_so in
+            ap (λ (l : Code). length l) (code_told blank tells d ∙ zero_code blank t d parts ∙ last.1) ∙ front_long c (room_for m.adts t).size last.0;
+        code = λ d.
+            let last = last_moves m.adts t (type_number m (OfRecord t)) (operand.Mp (pos real.at)) d c form is_so in
+            (last.0, code_told real tells d ∙ zero_code real t d parts ∙ last.1);
+        puts = λ so d. moves (operand.Mp (pos real.at)) (zero_lies parts empty) d (code_told real tells d ∙ zero_code real t d parts) so;
         stops = moves_stop (operand.Mp (pos real.at)) (zero_lies parts empty) (λ d. code_told real tells d ∙ zero_code real t d parts);
       }
 
       go : (u : Ty) → t ≡ u → WholeFor
       go ty.Big e = record {
-        long = λ d. ap (λ (l : Code). length l) (code_told blank tells d ∙ ap (λ (u : Ty). zeroed m.adts u (blank.type_number (OfRecord u)) blank.at d) e);
-        puts = λ d. big_zero e empty d (code_told real tells d ∙ ap (λ (u : Ty). zeroed m.adts u (type_number m (OfRecord u)) real.at d) e);
-        stops = big_stops (λ d. code_told real tells d ∙ ap (λ (u : Ty). zeroed m.adts u (type_number m (OfRecord u)) real.at d) e);
+        long = λ d.
+            let move = inst op.Movl (operand.Imm (pos 0)) middle.None d in
+            ap (λ (l : Code). length l) (code_told blank tells d ∙ ap (λ (u : Ty). zeroed m.adts u (blank.type_number (OfRecord u)) blank.at d) e ∙ big_once e move)
+            ∙ front_long c (room_for m.adts t).size move;
+        code = λ d.
+            let move = inst op.Movl (operand.Imm (pos 0)) middle.None d in
+            (move, code_told real tells d ∙ ap (λ (u : Ty). zeroed m.adts u (type_number m (OfRecord u)) real.at d) e ∙ big_once e move);
+        puts = λ so d. big_zero e empty d (code_told real tells d ∙ ap (λ (u : Ty). zeroed m.adts u (type_number m (OfRecord u)) real.at d) e);
+        stops = λ so. big_stops e (λ d. code_told real tells d ∙ ap (λ (u : Ty). zeroed m.adts u (type_number m (OfRecord u)) real.at d) e);
       }
       go (ty.Tuple ts) e = of_parts (subst HasParts (sym e) tt)
       go (ty.Adt n) e = of_parts (subst HasParts (sym e) tt)
-      go u e = absurd (let g = whole.0 in let h = ap form_of e in cc)
+      go u e = absurd (let h = ap form_of e in cc)
 
   -- A slot that is told to have the value without parts has it.
   is_empty : from < length p.frame.slots → type_held (held.slot known from) ≡ Some ty.Nothing → value_of (slot p.frame.slots from) ≡ nothing
@@ -305,19 +320,22 @@ module _ (m : typed.Module) (b : Base m) (k : Facts) (i : ℕ) (w : Shared) (x :
   whole_for below tells (inl (u, e, room, (y, leads, fits))) =
       let same : tells.0 ≡ u = same_some tells.0 u (sym tells.1 ∙ e) in
       let told_is : or_nothing (told (of_function m f).code p.frame.pc from) ≡ u = ap or_nothing tells.2 ∙ same in
-      let some : u ≡ ty.Nothing → ⊥ = λ n. not_boxed (whole_form m k i w x p q ready hold worlds pc pr from below u e room taken y t leads fits whole.0) n in
+      let some : u ≡ ty.Nothing → ⊥ = λ n. not_boxed (whole_form m k i w x p q ready hold worlds pc pr from below u e room taken y t leads fits form) n in
       let code_of_it : (c : Site) → c.told from ≡ u → (d : isa.Operand)
       → put_or_zero c (c.told from) t d taken from ≡ moved c.scene.adts t (c.type_number (OfRecord t)) (part_in_slot c.scene u taken from) d =
-      λ c h d. ap (λ v. put_or_zero c v t d taken from) h ∙ put_value c u t d taken from some ∙ put_whole c t d taken from whole.0
+      λ c h d. ap (λ v. put_or_zero c v t d taken from) h ∙ put_value c u t d taken from some ∙ put_whole c t d taken from form
       ∙ ap (λ v. moved c.scene.adts t (c.type_number (OfRecord t)) (part_in_slot c.scene v taken from) d) h in
       record {
         long = λ d.
-            ap (λ (l : Code). length l) (code_of_it blank told_is d
-            ∙ (whole_moved m.adts t (blank.type_number (OfRecord t)) (part_in_slot blank.scene u taken from) d whole).1);
-        puts = λ d. moves (part_in_slot real.scene u taken from) (slot_lies m k i w x p q ready hold worlds pc pr from below u e room taken y t leads fits whole.0) d
-            (code_of_it real told_is d);
+            let last = last_moves m.adts t (blank.type_number (OfRecord t)) (part_in_slot blank.scene u taken from) d c form is_so in
+            ap (λ (l : Code). length l) (code_of_it blank told_is d ∙ last.1) ∙ front_long c (room_for m.adts t).size last.0;
+        code = λ d.
+            let last = last_moves m.adts t (type_number m (OfRecord t)) (part_in_slot real.scene u taken from) d c form is_so in
+            (last.0, code_of_it real told_is d ∙ last.1);
+        puts = λ so d. moves (part_in_slot real.scene u taken from)
+            (slot_lies m k i w x p q ready hold worlds pc pr from below u e room taken y t leads fits form) d (code_of_it real told_is d) so;
         stops = moves_stop (part_in_slot real.scene u taken from)
-            (slot_lies m k i w x p q ready hold worlds pc pr from below u e room taken y t leads fits whole.0) (code_of_it real told_is);
+            (slot_lies m k i w x p q ready hold worlds pc pr from below u e room taken y t leads fits form) (code_of_it real told_is);
       }
     where
       not_boxed : {u : Ty} → form_of u ≡ Boxed → u ≡ ty.Nothing → ⊥

@@ -1,10 +1,9 @@
 -- Values that have a record of their own in slots, moved by one instruction: where they come from, and that they lie where they go.
-use Rattle.std.proofs.Common.{◌≡◌, ◌⊎◌, ℕ, Bool, true, false, pos, ◌+◌, ◌*◌, ◌/◌, ◌%◌, ◌<◌, ◌≤◌, List, [], ◌∷◌, ◌++◌, length, Option, Some, None, refl, sym, ap, ◌∙◌, subst, arith, inl, inr}
-use Rattle.std.specs.Prelude.{slice_get, ◌-◌, if◌then◌else◌}
+use Rattle.std.proofs.Common.{◌≡◌, ◌⊎◌, ℕ, true, pos, ◌+◌, ◌*◌, ◌/◌, ◌%◌, ◌<◌, ◌≤◌, List, [], ◌∷◌, length, Option, Some, None, refl, sym, ap, ◌∙◌, subst, arith, inl, inr}
+use Rattle.std.specs.Prelude.{slice_get, ◌-◌}
 use Rattle.heap_model.specs.Heap.{at, there as is_live}
 use Rattle.limbo_types.specs.Types as ty
 use Rattle.limbo_types.specs.Types.{Ty}
-use Rattle.limbo_layout.specs.Adts.{Def}
 use Rattle.limbo_typed.specs.Typed as typed
 use Rattle.limbo_kept.specs.Operating.{HasRoom}
 use Rattle.limbo_kept.specs.Places.{Leads}
@@ -16,19 +15,16 @@ use Rattle.core_code.specs.Slots.{slot, value_of}
 use Rattle.core_typing.specs.Held as held
 use Rattle.core_typing.specs.Held.{type_held}
 use Rattle.core_typing.specs.Needs.{StandsAs, MayBeNil}
-use Rattle.dis_isa.specs.declared.inst.Inst.{Inst}
 use Rattle.dis_isa.specs.declared.inst.Operand as isa
 use Rattle.dis_isa.specs.declared.inst.Operand.TheVariants as operand
-use Rattle.dis_isa.specs.declared.inst.Middle.TheVariants as middle
-use Rattle.dis_isa.specs.declared.op.Op.TheVariants as op
 use Rattle.dis_meaning.specs.Words.{Word, Plain, Refer, Address}
 use Rattle.dis_meaning.specs.Process.{Process, Printing}
 use Rattle.dis_memory.specs.Blocks.{World}
 use Rattle.value_words.specs.Contents.{content, content_of, content_in, Reference}
 use Rattle.value_words.specs.Facts.{Facts}
 use Rattle.value_words.proofs.Wholes.{stands_whole}
-use Rattle.value_frames.specs.Frames.{Boxed, form_of, room_for, within, reference_place, passing_place}
-use Rattle.value_moves.specs.Operands.{inst, own, moved, moved_by, fits_middle, size_middle, has_references}
+use Rattle.value_frames.specs.Frames.{Boxed, form_of, room_for, within, reference_place}
+use Rattle.value_moves.specs.Operands.{moved}
 use Rattle.value_moves.specs.Spots as spots
 use Rattle.value_moves.specs.Writing.{Lies, Writes}
 use Rattle.value_moves.proofs.Changing.{low_or_high}
@@ -38,7 +34,6 @@ use Rattle.value_code.specs.Operands.{Scene, part_in_slot, by_form}
 use Rattle.value_code.specs.Code.{Site, put}
 use Rattle.value_follows.specs.Stands.{Ready, types_of}
 use Rattle.value_follows.specs.Sides.{sides, HoldTheSame}
-use Rattle.rows_places.specs.Rows.{IsWhole}
 use Rattle.rows_places.proofs.Words.{has_parts}
 use Rattle.rows_places.proofs.Going.{at_place_of}
 use Rattle.rows_places.proofs.Sources.{slot_reads, boxed}
@@ -99,17 +94,6 @@ whole_type u t e (inr n) = absurd (nil_form t n.1 e)
     nil_form (ty.RefPick a j) h e = absurd cc
     nil_form (ty.Module a) h e = absurd cc
     nil_form t h e = absurd h
-
-by_size : (c : Bool) (defs : List Def) (n size : ℕ) (a b : isa.Operand) → fits_middle (pos size) ≡ true → (i : Inst) × (moved_by c n size a b ≡ i ∷ [])
-by_size true defs n size a b e = (inst op.Movmp a (middle.Imm (pos n)) b, refl)
-by_size false defs n size a b e =
-    (inst op.Movm a (size_middle size) b, ap (λ (c : Bool). (if c then [] else inst op.Movw (operand.Imm (pos size)) middle.None (own passing_place) ∷ []) ++ (inst op.Movm a (size_middle size) b ∷ [])) e)
-
-pub whole_moved : (defs : List Def) (t : Ty) (n : ℕ) (a b : isa.Operand) → IsWhole defs t → (i : Inst) × (moved defs t n a b ≡ i ∷ [])
-whole_moved defs ty.Big n a b h = (inst op.Movl a middle.None b, refl)
-whole_moved defs (ty.Tuple ts) n a b h = by_size (has_references defs (ty.Tuple ts)) defs n (room_for defs (ty.Tuple ts)).size a b h.1
-whole_moved defs (ty.Adt j) n a b h = by_size (has_references defs (ty.Adt j)) defs n (room_for defs (ty.Adt j)).size a b h.1
-whole_moved defs t n a b h = absurd (let e = h.0 in cc)
 
 pub put_whole : (c : Site) (t : Ty) (d : isa.Operand) (taken : List ℕ) (from : ℕ) → form_of t ≡ Boxed
     → put c t d taken from ≡ moved c.scene.adts t (c.type_number (OfRecord t)) (part_in_slot c.scene (c.told from) taken from) d

@@ -39,7 +39,8 @@ use Rattle.value_follows.proofs.Standing.{same_some, finds, code_here}
 use Rattle.value_follows.proofs.Slots.{uses}
 use Rattle.value_follows.proofs.Single.{Once}
 use Rattle.value_follows.proofs.Several.{moved_to, Next}
-use Rattle.rows_places.specs.Rows.{IsSimple, way_from, PlacesFit, GlobalWritesGo, TargetWritesGo, ElementWritesGo}
+use Rattle.rows_places.specs.Rows.{IsSimple, way_from, GlobalWritesGo, TargetWritesGo, ElementWritesGo}
+use Rattle.rows_places.proofs.Fitting.{PlacesFit, places_fit}
 use Rattle.rows_places.proofs.Going.{going_on}
 use Rattle.rows_places.proofs.Last.{simple_op, site_now, raised_here}
 use Rattle.rows_places.proofs.Nil.{nil_stores}
@@ -150,14 +151,14 @@ module _ (m : typed.Module) (b : Base m) (fit : PlacesFit m) (t : Ty) (part : Li
       (agrees m f p.frame.pc ready.stands.is.known t Target part (r0 ∷ rs) taken from ready.stands.goes row_is) found.3)
 
 pub target_writes_go : TargetWritesGo
-target_writes_go m b fit t part [] taken from simple k i x p q ready here =
+target_writes_go m b t part [] taken from simple k i x p q ready here =
     let r = ready.0 in
     let instr = Write t (way_from Target part) [] taken from in
-    absurd (fit.operands r.stands.is.function p.frame.pc r.stands.is.known instr r.stands.goes (code_here m k i x p q r instr here)).0
-target_writes_go m b fit t part (r0 ∷ rs) taken from simple k i x p q ready here = (
+    absurd ((places_fit m).operands r.stands.is.function p.frame.pc r.stands.is.known instr r.stands.goes (code_here m k i x p q r instr here)).0
+target_writes_go m b t part (r0 ∷ rs) taken from simple k i x p q ready here = (
   0,
   going_on m b i p q q (λ n. refl) 0 k x ready.0 ready.1 (λ now w y s grows same hold worlds.
-      target_written m b fit t part r0 rs taken from simple i p here now w y q s hold worlds),
+      target_written m b (places_fit m) t part r0 rs taken from simple i p here now w y q s hold worlds),
 )
 
 -- ---- elements
@@ -230,16 +231,16 @@ module _ (m : typed.Module) (b : Base m) (fit : PlacesFit m) (t : Ty) (part : Li
         (λ others last v y be. element_stored found.2.root slots used.0.0 used.1 others last v y be)
 
 pub element_writes_go : ElementWritesGo
-element_writes_go m b fit t part [] taken from simple k i x p q ready here =
+element_writes_go m b t part [] taken from simple k i x p q ready here =
     let r = ready.0 in
     let instr = Write t (way_from Element part) [] taken from in
-    absurd (fit.operands r.stands.is.function p.frame.pc r.stands.is.known instr r.stands.goes (code_here m k i x p q r instr here)).0
-element_writes_go m b fit t part (r0 ∷ []) taken from simple k i x p q ready here =
+    absurd ((places_fit m).operands r.stands.is.function p.frame.pc r.stands.is.known instr r.stands.goes (code_here m k i x p q r instr here)).0
+element_writes_go m b t part (r0 ∷ []) taken from simple k i x p q ready here =
     let r = ready.0 in
     let instr = Write t (way_from Element part) (r0 ∷ []) taken from in
-    absurd (fit.operands r.stands.is.function p.frame.pc r.stands.is.known instr r.stands.goes (code_here m k i x p q r instr here)).0
-element_writes_go m b fit t part (r0 ∷ r1 ∷ rs) taken from simple k i x p q ready here = (
+    absurd ((places_fit m).operands r.stands.is.function p.frame.pc r.stands.is.known instr r.stands.goes (code_here m k i x p q r instr here)).0
+element_writes_go m b t part (r0 ∷ r1 ∷ rs) taken from simple k i x p q ready here = (
   1,
   going_on m b i p q q (λ n. refl) 1 k x ready.0 ready.1 (λ now w y s grows same hold worlds.
-      element_written m b fit t part r0 r1 rs taken from simple i p here now w y q s hold worlds),
+      element_written m b (places_fit m) t part r0 r1 rs taken from simple i p here now w y q s hold worlds),
 )

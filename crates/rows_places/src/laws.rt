@@ -2,7 +2,7 @@
 
 ghost use Rattle.rows_places.specs.Rows.{TargetsGo, ElementsGo, GlobalWritesGo, TargetWritesGo, ElementWritesGo};
 ghost use Rattle.rows_places.specs.Rows.{ElementGoes, OtherGoes, CharactersGo, LocalWholesGo, GlobalWholesGo};
-ghost use Rattle.rows_places.specs.Rows.{ElementWholesGo, TargetWholesGo, ElementWholeGoes, OtherWholeGoes};
+ghost use Rattle.rows_places.specs.Rows.{ElementWholesGo, TargetWholesGo, ElementWholeGoes, OtherWholeGoes, CharacterWritesGo};
 ghost use Rattle.rows_places.specs.Rows.{BoxTargetsGo, BoxElementsGo};
 
 /// Part of what a reference names is read into a slot, or both processes end as broken.
@@ -73,6 +73,11 @@ pub fn element_whole_goes()
 /// and by the turns of a loop.
 pub fn other_whole_goes()
     ensures { OtherWholeGoes }
+{}
+
+/// A character is written into a string, wherever that stands, or both processes end as broken.
+pub fn character_writes_go()
+    ensures { CharacterWritesGo }
 {}
 
 /// Part of what a reference names is read into a slot, where it is a big, a tuple or an adt, or both processes end as broken.

@@ -283,8 +283,3 @@ module _ (m : typed.Module) (k : Facts) (w : Shared) (x : World) (p : Part) (e :
             let at = byte_elements m.adts (globals m) (constants m) k e.array (source.Elements leads.vs) (block.Array e.element (length leads.vs) e.words)
             leads.stands.0 leads.vs refl e.words refl (length leads.vs) leads.formed (p.start + j) v.0 (in_range leads.vs p.start p.long j v.0 v.1) in
             ap (λ (n : ℕ). number_at kind.Byte e.words (pos (n + j))) leads.start ∙ at.found ∙ ap (λ (n : ℕ). Found (pos n)) v.2
-
-    pub bytes_many : length bytes ≡ p.long
-    bytes_many =
-        ap (λ (o : Option HeapValue). length (map byte_of (slice_range (source.elements_in o) p.start (p.start + p.long)))) leads.is
-        ∙ long_map byte_of (slice_range leads.vs p.start (p.start + p.long)) ∙ long_range leads.vs p.start p.long leads.within

@@ -1,14 +1,16 @@
 -- Bytes of an array as a string.
-use Rattle.std.proofs.Common.{◌≡◌, ℕ, zero, suc, ◌-◌, ◌≤◌, Bool, if◌then◌else◌, List, [], ◌∷◌, length, map, Option, Some, None, Ok, Err, refl, sym, ap, ◌∙◌, subst, arith, le-ltb}
-use Rattle.std.specs.Prelude.{slice_get, encode_utf8}
+use Rattle.std.proofs.Common.{◌≡◌, ℕ, suc, ◌≤◌, Bool, true, false, if◌then◌else◌, List, [], ◌∷◌, length, map, Option, Some, None, Result, Ok, Err, refl, sym, ap, ◌∙◌, subst, arith, rules}
+use Rattle.std.specs.Prelude.{slice_get, nat_lt}
 use Rattle.limbo_types.specs.Types as ty
 use Rattle.limbo_types.specs.Types.{Ty}
-use Rattle.limbo_bytes.specs.Bytes.{characters, first_character}
+use Rattle.limbo_bytes.specs.Bytes.{characters}
 use Rattle.limbo_values.specs.Texts.{longest}
+use Rattle.limbo_values.specs.declared.raised.Raised.{Raised}
+use Rattle.limbo_values.specs.declared.raised.Raised.TheVariants.{StringTooLong}
 use Rattle.limbo_typed.specs.Typed as typed
 use Rattle.limbo_typed.specs.declared.operation.Operation.TheVariants.{BytesText}
-use Rattle.limbo_meaning.specs.Exceptions.{Raising, too_long}
-use Rattle.limbo_meaning.specs.Operations.{elements_of, long_of}
+use Rattle.limbo_meaning.specs.Exceptions.{Raising, with_text, too_long}
+use Rattle.limbo_meaning.specs.Operations.{elements_of}
 use Rattle.limbo_meaning.specs.Places.{not_longer}
 use Rattle.limbo_meaning.specs.Process.{Shared}
 use Rattle.limbo_meaning.specs.Trees.{Operate}
@@ -17,7 +19,6 @@ use Rattle.system_model.specs.Limits.{frames_limit}
 use Rattle.core_code.specs.Code.{Instr, Give}
 use Rattle.core_code.specs.Machine as code
 use Rattle.core_code.specs.Slots as core
-use Rattle.core_code.specs.Slots.{Holds}
 use Rattle.core_typing.specs.Needs.{AreThese}
 use Rattle.core_typing.specs.Going.{got_by}
 use Rattle.dis_isa.specs.declared.inst.Middle.TheVariants as middle
@@ -27,44 +28,51 @@ use Rattle.dis_meaning.specs.Process.{Process}
 use Rattle.dis_memory.specs.Blocks.{World}
 use Rattle.dis_memory.specs.Kinds.{Elements as ElementsOf, elements_at}
 use Rattle.dis_memory.specs.Strings.{bytes_in}
-use Rattle.value_words.specs.Facts.{Facts, IsPart}
+use Rattle.dis_memory.specs.Strings as strings
+use Rattle.value_words.specs.Facts.{Facts, IsPart, IsString}
 use Rattle.value_frames.specs.Frames.{reference_place}
 use Rattle.value_moves.specs.Operands.{inst, own}
 use Rattle.value_moves.proofs.Leading.{spots_lead}
 use Rattle.value_code.specs.Objects.{object_of}
-use Rattle.value_code.specs.Operands.{first_slot}
 use Rattle.block_effects.specs.Contents.{IsThere}
+use Rattle.block_effects.specs.Stored.{ReadsElements}
 use Rattle.block_effects.proofs.Giving.{operands_read}
 use Rattle.block_effects.proofs.Strings.{strings_come}
 use Rattle.value_follows.specs.Stands.{types_of}
 use Rattle.value_follows.specs.Sides.{sides, HoldTheSame, program}
-use Rattle.value_follows.specs.Rows.{Base, RowGoes}
+use Rattle.value_follows.specs.Rows.{Base, InstrGoes}
 use Rattle.value_follows.proofs.Standing.{finds, code_here}
 use Rattle.value_follows.proofs.Single.{Once}
 use Rattle.value_follows.proofs.Comparing.{one_slot}
-use Rattle.rows_texts.specs.Rows.{HasBytes, BytesTextsGo}
+use Rattle.rows_texts.specs.Rows.{BytesTextsGo}
 use Rattle.rows_texts.proofs.OnTheWay.{On, reaches_it, on_ready, on_way}
-use Rattle.rows_texts.proofs.Arrays.{array_is, lead, byte_of, bytes_read, bytes_many}
+use Rattle.rows_texts.proofs.Arrays.{array_is, lead, byte_of, bytes_read}
 use Rattle.rows_texts.proofs.Coming.{reference_there}
 use Rattle.rows_texts.proofs.Reading.{is_there}
 use Rattle.rows_texts.proofs.Strings.{read_string}
-use Rattle.rows_texts.proofs.Texts.{used, found, rests, next_on, goes_on_behind, string_comes, text_comes}
+use Rattle.rows_texts.proofs.Texts.{used, found, rests, next_on, goes_on_behind, string_comes, text_results}
 
--- ---- there are no more characters than bytes
+-- ---- a string that bytes spell, or that it is too long
 
-fewer : (told : ℕ) (bs : List ℕ) → length (characters told bs) ≤ length bs
-fewer zero [] = omega arith
-fewer (suc told) [] = omega arith
-fewer (suc told) (b ∷ bs) = let h = fewer told bs in omega (arith, h)
-fewer zero (b ∷ bs) = go (first_character (b ∷ bs)) (λ told. fewer told bs)
+-- both sides raise it alike
+alike : (s : List ℕ) → not_longer s ≡ with_text (strings.not_longer s)
+alike s = go (nat_lt longest (length s))
   where
-    go : (c : Option ℕ) → ((told : ℕ) → length (characters told bs) ≤ length bs)
-        → length {A = ℕ} (elim c [ None ↦ 65533 ∷ characters 0 bs | Some c ↦ c ∷ characters (length (encode_utf8 c) - 1) bs ]) ≤ suc (length bs)
-    go None more = let h = more 0 in omega (arith, h)
-    go (Some c) more = let h = more (length (encode_utf8 c) - 1) in omega (arith, h)
+    go : (b : Bool) → ◌≡◌ {A = Raising (List ℕ)} (if b then Err too_long else Ok s) (with_text (if b then Err StringTooLong else Ok s))
+    go true = refl
+    go false = refl
 
-short_enough : (s : List ℕ) → length s ≤ longest → not_longer s ≡ Ok s
-short_enough s few = ap (λ (b : Bool). if b then Err too_long else Ok s) (le-ltb longest (length s) few)
+same : (t s : List ℕ) → ◌≡◌ {A = Result (List ℕ) Raised} (Ok t) (Ok s) → t ≡ s
+same t s e = cc
+
+-- what comes is a string
+spelled : (bs s : List ℕ) → strings.not_longer (characters 0 bs) ≡ Ok s → IsString s
+spelled bs s e = go (nat_lt longest (length (characters 0 bs))) refl e
+  where
+    go : (b : Bool) → nat_lt longest (length (characters 0 bs)) ≡ b
+        → ◌≡◌ {A = Result (List ℕ) Raised} (if b then Err StringTooLong else Ok (characters 0 bs)) (Ok s) → IsString s
+    go true more f = absurd cc
+    go false few f = let low : length (characters 0 bs) ≤ longest = search rules in subst IsString (same (characters 0 bs) s f) (read_string bs low)
 
 -- ---- the row
 
@@ -83,25 +91,23 @@ module _ (m : typed.Module) (b : Base m) (into a : ℕ) where
       elements : Option ElementsOf
       leads : elements_at x r ≡ Found elements
       read : bytes_in elements ≡ Found (map byte_of (elements_of (code.memory frames_limit (program m) w p) part))
-      few : length (map byte_of (elements_of (code.memory frames_limit (program m) w p) part)) ≤ long_of part
 
     told : (r : Option ℕ) (part : Option Part) → IsPart k ty.Byte r part → IsThere x r → Told part r
-    told r None is there = record { elements = None; leads = (lead m k w x worlds).no_array ty.Byte r is; read = refl; few = omega arith }
+    told r None is there = record { elements = None; leads = (lead m k w x worlds).no_array ty.Byte r is; read = refl }
     told r (Some c) is there =
         let e = (lead m k w x worlds).array ty.Byte r c is there in
         record {
           elements = Some e.0;
           leads = e.1;
           read = bytes_read m k w x c e.0 e.2;
-          few = let e = bytes_many m k w x c e.0 e.2 in omega (arith, e);
         }
 
     -- what the slot has of an array
     abbrev part : Option Part
     part = part_of (core.value_of (core.slot p.frame.slots a))
 
-    texts : long_of part ≤ longest → Once m b i p q k w x
-    texts most =
+    texts : Once m b i p q k w x
+    texts =
         let there = used m k i x [] n f 0 p q on instr here in
         let needs = found m k i x [] n f 0 p q on instr here in
         let these = subst (AreThese on.known (a ∷ [])) needs.2.0.0 needs.1 in
@@ -109,37 +115,36 @@ module _ (m : typed.Module) (b : Base m) (into a : ℕ) where
         let is = subst (λ (v : core.Slot). IsPart k ty.Byte y.refers (part_of (core.value_of v))) (sym y.holds) y.array in
         let t = told y.refers part is (is_there m k i w x p q hold worlds (at a) y.refers y.word) in
         let bytes = map byte_of (elements_of (code.memory frames_limit (program m) w p) part) in
-        let s = characters 0 bytes in
-        let less = fewer 0 bytes in
-        let few = t.few in
         let rest = rests m k i x n f 0 p q on into there.0 needs.3 in
         let dest = reference_there m b k i w x [] n f 0 p q on hold worlds into there.0 refl rest.0 rest.1 in
         let it = inst op.Cvtac (own (at a)) middle.None (own (at into)) in
-        text_comes m b k i w x [] n f 0 p q on hold worlds into there.0 refl rest.0 rest.1 it
+        let read : ReadsElements x q (own (at a)) t.elements =
+        (y.refers, (operands_read x q).reference (own (at a)) q.frame.words (at a) y.refers (spots_lead.own x q (at a)).0 y.word, t.leads) in
+        text_results m b k i w x [] n f 0 p q on hold worlds into there.0 refl rest.0 rest.1 it
         (reaches_it m b i p q [] n f 0 k w x on hold worlds instr here it refl)
         (got_by m.adts ty.Chars (Operate BytesText))
         (next_on m k i x [] n f 0 p q on instr here 1 refl refl)
         (goes_on_behind m k i x [] n f 0 p q on instr here 0 (suc p.frame.pc) _ (omega arith) refl)
-        s (read_string bytes (omega (arith, less, few, most)))
-        ((strings_come frames_limit (object_of m) x q).convert.of_bytes (own (at a)) (own (at into)) middle.None t.elements bytes dest
-        (y.refers, (operands_read x q).reference (own (at a)) q.frame.words (at a) y.refers (spots_lead.own x q (at a)).0 y.word, t.leads) t.read)
+        (strings.not_longer (characters 0 bytes)) (spelled bytes)
+        (λ s e. (strings_come frames_limit (object_of m) x q).convert.of_bytes (own (at a)) (own (at into)) middle.None t.elements bytes s dest read t.read e)
+        (λ raised e.
+        (strings_come frames_limit (object_of m) x q).convert.of_bytes_raises (own (at a)) (own (at into)) middle.None t.elements bytes raised dest read t.read e)
         BytesText
         (ap (code.next frames_limit (program m) w p) here
         ∙ ap (λ (r : Raising (List ℕ)). string_comes m b k i w x [] n f 0 p q on hold worlds into there.0 refl rest.0 rest.1 BytesText r)
-        (short_enough s (omega (arith, less, few, most))))
+        (alike (characters 0 bytes)))
 
-texts_go : (m : typed.Module) (b : Base m) (into a : ℕ) (k : Facts) (i : ℕ) (x : World) (p : code.Process) (q : Process) → (sides m).ready k i x p q
-    → slice_get p.frame.code p.frame.pc ≡ Some (instr m b into a) → HasBytes p a → RowGoes m k i x p q
-texts_go m b into a k i x p q ready here has =
+texts_go : (m : typed.Module) (b : Base m) (into a : ℕ) → InstrGoes m (instr m b into a)
+texts_go m b into a k i x p q ready here =
     let n = ready.0.stands.is.number in
     let f = ready.0.stands.is.function in (
       0,
       on_way m b i p q [] n f 0 0 k x (on_ready m i p q k x ready.0) ready.1 (λ now w z grows on hold worlds.
-          texts m b into a now i w z n f p q on hold worlds here has),
+          texts m b into a now i w z n f p q on hold worlds here),
     )
 
 pub bytes_texts_go : BytesTextsGo
-bytes_texts_go m b t into from k i x p q ready here has =
+bytes_texts_go m b t into from k i x p q ready here =
     let it = Give t (Operate BytesText) into from in
     let r = ready.0 in
     let known = r.stands.is.known in
@@ -148,4 +153,3 @@ bytes_texts_go m b t into from k i x p q ready here has =
     texts_go m b into slot.0 k i x p q ready
     (here ∙ ap (λ (u : Ty). Some (Give u (Operate BytesText) into from)) found.2.0.1
     ∙ ap (λ (rs : List ℕ). Some (Give ty.Chars (Operate BytesText) into rs)) slot.1)
-    (subst (λ (rs : List ℕ). HasBytes p (first_slot rs)) slot.1 has)

@@ -1,7 +1,6 @@
 -- Rows of strings: what they give comes into a slot, or both processes end as broken.
-use Rattle.std.specs.Prelude.{ℕ, ◌≡◌, ◌≤◌, Bool, List, Some, slice_get}
+use Rattle.std.specs.Prelude.{ℕ, ◌≡◌, Bool, List}
 use Rattle.limbo_types.specs.Types.{Ty}
-use Rattle.limbo_values.specs.Texts.{longest}
 use Rattle.limbo_values.specs.declared.number.Kind.{Kind}
 use Rattle.limbo_values.specs.declared.number.Kind.TheVariants.{Big}
 use Rattle.limbo_values.specs.declared.operator.Comparison.{Comparison}
@@ -10,17 +9,8 @@ use Rattle.limbo_typed.specs.declared.operation.Operation.TheVariants.{Join, Len
 use Rattle.limbo_typed.specs.declared.operation.Operation.TheVariants.{BytesText, TextBytes}
 use Rattle.limbo_typed.specs.declared.operation.Sequence.TheVariants.{Chars}
 use Rattle.limbo_meaning.specs.Trees.{Operate}
-use Rattle.limbo_meaning.specs.Operations.{long_of}
-use Rattle.limbo_meaning.specs.Values.{part_of}
 use Rattle.core_code.specs.Code as core
-use Rattle.core_code.specs.Machine as code
-use Rattle.core_code.specs.Slots.{slot, value_of}
-use Rattle.dis_meaning.specs.Process.{Process}
-use Rattle.dis_memory.specs.Blocks.{World}
-use Rattle.value_words.specs.Facts.{Facts}
-use Rattle.value_code.specs.Operands.{first_slot}
-use Rattle.value_follows.specs.Sides.{sides}
-use Rattle.value_follows.specs.Rows.{Base, InstrGoes, RowGoes}
+use Rattle.value_follows.specs.Rows.{Base, InstrGoes}
 
 -- One string behind another comes into a slot, or they are too long.
 abbrev pub JoinsGo : Type 0
@@ -58,17 +48,9 @@ SlicesGo =
     (m : typed.Module) → Base m → (t : Ty) (lo hi : Bool) (into : ℕ) (from : List ℕ) →
     InstrGoes m (core.Give t (Operate (Slice Chars lo hi)) into from)
 
--- What a slot has of an array has no more elements than strings have characters.
-abbrev pub HasBytes : code.Process → (s : ℕ) → Type 0
-HasBytes p s = long_of (part_of (value_of (slot p.frame.slots s))) ≤ longest
-
--- Bytes of an array as a string.
+-- Bytes of an array as a string, or both processes end as broken.
 abbrev pub BytesTextsGo : Type 0
-BytesTextsGo =
-    (m : typed.Module) → Base m → (t : Ty) (into : ℕ) (from : List ℕ) →
-    (k : Facts) (i : ℕ) (x : World) (p : code.Process) (q : Process) → (sides m).ready k i x p q →
-    slice_get p.frame.code p.frame.pc ≡ Some (core.Give t (Operate BytesText) into from) → HasBytes p (first_slot from) →
-    RowGoes m k i x p q
+BytesTextsGo = (m : typed.Module) → Base m → (t : Ty) (into : ℕ) (from : List ℕ) → InstrGoes m (core.Give t (Operate BytesText) into from)
 
 -- The bytes of a string as a new array.
 abbrev pub TextBytesGo : Type 0

@@ -1,5 +1,6 @@
 pub mod Element
 pub mod Loops
+pub mod Indices
 pub mod Nexts
 pub mod Reached
 pub mod Ends

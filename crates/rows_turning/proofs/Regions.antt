@@ -18,7 +18,8 @@ use Rattle.dis_memory.specs.Blocks.{Block}
 use Rattle.value_words.specs.Facts.{Facts}
 use Rattle.value_words.specs.Stands.{Stands, a_number, a_text, a_name, an_array, no_words, a_tuple, an_adt}
 use Rattle.value_frames.specs.Frames.{Form, Nowhere, AsNumber, AsReference, Boxed, form_of}
-use Rattle.value_frames.specs.Standing.{SlotStands, ChainStands, RegionStands, ValueStands, RefersIdly, slots_in, a_value, a_forming, a_decision, a_loop, no_slot, more_slots}
+use Rattle.core_typing.specs.Held.{slots_in}
+use Rattle.value_frames.specs.Standing.{SlotStands, ChainStands, RegionStands, ValueStands, RefersIdly, a_value, a_forming, a_decision, a_loop, no_slot, more_slots}
 use Rattle.rows_moving.proofs.References.{one_word}
 use Rattle.rows_turning.proofs.Loops.{chain_at}
 

@@ -13,7 +13,8 @@ use Rattle.dis_memory.specs.Copies.{as_marked}
 use Rattle.value_words.specs.Contents.{AreInRange}
 use Rattle.value_words.specs.Facts.{Facts}
 use Rattle.value_frames.specs.Frames.{number_place}
-use Rattle.value_frames.specs.Standing.{RegionStands, slots_in}
+use Rattle.core_typing.specs.Held.{slots_in}
+use Rattle.value_frames.specs.Standing.{RegionStands}
 use Rattle.value_frames.specs.Slots.{ElseAsWas}
 use Rattle.value_moves.proofs.Changing.{low_or_high}
 use Rattle.value_moves.proofs.Copying.{Gives}

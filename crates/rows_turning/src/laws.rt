@@ -1,15 +1,10 @@
 //! What holds of rows of loops.
 
-ghost use Rattle.rows_turning.specs.Rows.{NextsEnd, NextsGo, TakesEnd};
+ghost use Rattle.rows_turning.specs.Rows.{NextsGo, TakesEnd};
 
-/// A loop goes on to the next index, or ends, where no index is named.
-pub fn nexts_go()
+/// A loop goes on to the next index that isn't named, or ends.
+pub fn named_nexts_go()
     ensures { NextsGo }
-{}
-
-/// It ends where the next index lies behind the array, whichever are named.
-pub fn nexts_end()
-    ensures { NextsEnd }
 {}
 
 /// What a loop's turns held has come to its end.

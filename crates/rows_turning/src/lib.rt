@@ -6,4 +6,4 @@
 
 mod laws;
 
-pub use laws::{nexts_end, nexts_go, takes_end};
+pub use laws::{named_nexts_go, takes_end};

@@ -136,35 +136,35 @@ skips : code_of (site ints) (core.Skip connective.And 2 (Some 1) 0 3)
     ∷ []
 skips = refl
 
--- The next index of the array in slot 0 from the number of slot 1 on, but for 4: 106 passes over one, and looks again at 102 whether the
--- array has it.
+-- The next index of the array in slot 0 from the number of slot 1 on, but for 4: where it is 4, it is 5, if the array has that.
 goes_on : code_of (site an_array) (core.Next 0 1 (pos 4 ∷ []) 5)
     ≡ two op.Movw (fp 48) (fp 24)
     ∷ two op.Lena (fp 44) (fp 20)
     ∷ three op.Bgew (fp 24) (in_fp 20) (imm 250)
-    ∷ three op.Beqw (imm 4) (in_fp 24) (imm 106)
-    ∷ three op.Addw (imm 1) (in_fp 24) (fp 48)
-    ∷ three op.Jmp operand.None middle.None (imm 200)
+    ∷ three op.Bnew (imm 4) (in_fp 24) (imm 106)
     ∷ three op.Addw (imm 1) (in_fp 24) (fp 24)
-    ∷ three op.Jmp operand.None middle.None (imm 102)
+    ∷ three op.Bgew (fp 24) (in_fp 20) (imm 250)
+    ∷ three op.Addw (imm 1) (in_fp 24) (fp 48)
     ∷ []
 goes_on = refl
 
--- An immediate has 30 bits: the first of these indices is one, and the second stands in the data, 8 bytes behind the first.
-goes_far : code_of (site an_array) (core.Next 0 1 (pos 536870911 ∷ pos 536870912 ∷ []) 5)
+-- Indices are compared in rising order, each once. An immediate has 30 bits: the first of these is one, and the second stands in the data,
+-- 8 bytes behind the first.
+goes_far : code_of (site an_array) (core.Next 0 1 (pos 536870912 ∷ pos 536870911 ∷ pos 536870912 ∷ []) 5)
     ≡ two op.Movw (fp 48) (fp 24)
     ∷ two op.Lena (fp 44) (fp 20)
     ∷ three op.Bgew (fp 24) (in_fp 20) (imm 250)
-    ∷ three op.Beqw (imm 536870911) (in_fp 24) (imm 107)
-    ∷ three op.Beqw (mp 72) (in_fp 24) (imm 107)
-    ∷ three op.Addw (imm 1) (in_fp 24) (fp 48)
-    ∷ three op.Jmp operand.None middle.None (imm 200)
+    ∷ three op.Bnew (imm 536870911) (in_fp 24) (imm 106)
     ∷ three op.Addw (imm 1) (in_fp 24) (fp 24)
-    ∷ three op.Jmp operand.None middle.None (imm 102)
+    ∷ three op.Bgew (fp 24) (in_fp 20) (imm 250)
+    ∷ three op.Bnew (mp 72) (in_fp 24) (imm 109)
+    ∷ three op.Addw (imm 1) (in_fp 24) (fp 24)
+    ∷ three op.Bgew (fp 24) (in_fp 20) (imm 250)
+    ∷ three op.Addw (imm 1) (in_fp 24) (fp 48)
     ∷ []
 goes_far = refl
 
-far_data : data_of [] ty.Int an_array (core.Next 0 1 (pos 536870911 ∷ pos 536870912 ∷ []) 5)
+far_data : data_of [] ty.Int an_array (core.Next 0 1 (pos 536870912 ∷ pos 536870911 ∷ pos 536870912 ∷ []) 5)
     ≡ Word (pos 536870911) ∷ Word (pos 536870912) ∷ []
 far_data = refl
 

@@ -29,7 +29,7 @@ use Rattle.core_code.specs.Code.{Instr}
 use Rattle.core_code.specs.Terms.{part_types}
 use Rattle.value_frames.specs.Frames.{Form, AsReference, Boxed, form_of, names_at, made_place}
 use Rattle.value_moves.specs.Operands.{Code, has_references, moved, moved_by, inst, sized, size_middle, own, behind}
-use Rattle.value_code.specs.Data.{Named, OfValue, OfRecord, nil_word}
+use Rattle.value_code.specs.Data.{Named, OfValue, OfRecord, nil_word, sorted}
 use Rattle.value_code.specs.Operands.{Scene, in_slot, part_in_slot, reference}
 use Rattle.value_code.specs.Works.{cons_op, element_middle, element_sized, prepared, calculated, compared, operated}
 use Rattle.value_code.specs.Code.{Site, zeroed, literal, known, begun, begun_first, placed, front_of, front_moved, arguments, compared_all, searched, read, put, put_or_zero, written, given}
@@ -136,14 +136,14 @@ known_long s v into at at' = even refl
 
 -- ---- codes of many parts
 
-compared_all_long : (zs : List ℤ) (at at' pc pc' : ℕ) → AsLong (compared_all zs at pc) (compared_all zs at' pc')
-compared_all_long [] at at' pc pc' = even refl
-compared_all_long (z ∷ zs) at at' pc pc' = more (compared_all_long zs (at + 8) (at' + 8) pc pc')
+compared_all_long : (zs : List ℤ) (at at' here here' past past' : ℕ) → AsLong (compared_all zs at here past) (compared_all zs at' here' past')
+compared_all_long [] at at' here here' past past' = even refl
+compared_all_long (z ∷ zs) at at' here here' past past' =
+    more (more (more (compared_all_long zs (at + 8) (at' + 8) (here + 3) (here' + 3) past past')))
 
-searched_long : (s : Scene) (zs : List ℤ) (at at' here here' l next next' : ℕ)
-    → AsLong (searched s zs at here l next) (searched s zs at' here' l next')
-searched_long s [] at at' here here' l next next' = even refl
-searched_long s (z ∷ zs) at at' here here' l next next' = join (compared_all_long (z ∷ zs) at at' _ _) (even refl)
+searched_long : (s : Scene) (zs : List ℤ) (at at' here here' l past past' : ℕ)
+    → AsLong (searched s zs at here l past) (searched s zs at' here' l past')
+searched_long s zs at at' here here' l past past' = join (compared_all_long zs at at' here here' past past') (even refl)
 
 module _ (s : Scene) (types types' : Named → ℕ) where
   begun_long : (n n' : ℕ) (v : Option ℕ) (into : ℕ) → AsLong (begun s n v into) (begun s n' v into)
@@ -263,7 +263,7 @@ module _ (c : Site) (entries : ℕ → ℕ) (types : Named → ℕ) (frames : �
   code_long (core.Truth into from) = even refl
   code_long (core.Element t array index from) = more (moved_long c.scene.adts t _ _ _ _ _ _)
   code_long (core.Start l) = even refl
-  code_long (core.Next array l named n) = more (more (more (searched_long c.scene named _ _ _ _ l _ _)))
+  code_long (core.Next array l named n) = more (more (more (searched_long c.scene (sorted named) _ _ _ _ l _ _)))
   code_long (core.Other t array l from) = more (more (moved_long c.scene.adts t _ _ _ _ _ _))
   code_long (core.Keep l from words) = even refl
   code_long (core.Take l from words n) = even refl

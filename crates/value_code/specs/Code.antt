@@ -33,7 +33,7 @@ use Rattle.core_typing.specs.Needs.{variant_made}
 use Rattle.value_frames.specs.Frames.{Form, Nowhere, AsNumber, AsReference, Boxed, form_of, names_at, row_of, within, linkage_bytes}
 use Rattle.value_frames.specs.Frames.{answer_place, passing_place, element_place, made_place, spare_place, number_place, room_for}
 use Rattle.value_moves.specs.Operands.{Code, inst, own, of_own, behind, sized, size_middle, has_references, moved}
-use Rattle.value_code.specs.Data.{Datum, Text, Word, Long, Zero, path_word, nil_word, fits_source}
+use Rattle.value_code.specs.Data.{Datum, Text, Word, Long, Zero, path_word, nil_word, fits_source, sorted}
 use Rattle.value_code.specs.Data.{Named, OfValue, OfRecord, OfFront, PrintFrame, OfRegion, OfTurn}
 use Rattle.value_code.specs.Operands.{Scene, number, number_middle, reference, reference_middle, in_box, in_slot, part_in_slot, at_place}
 use Rattle.value_code.specs.Operands.{looked_up, first_slot}
@@ -115,15 +115,21 @@ zeroed defs t n at d = inst op.Movp nil_word middle.None d ∷ []
 -- ---- initialisers: the first index from a loop's number on that isn't named. It is looked for where else the address of an element
 -- stands, so that the loop stays as it is where none is left.
 
--- Each index is a datum, 8 bytes behind the one in front.
-abbrev pub compared_all : List ℤ → (at named : ℕ) → Code
-compared_all [] at pc = []
-compared_all (z ∷ zs) at pc =
-    inst op.Beqw (number_source (fits_source z) z at) (of_own element_place) (operand.Imm (pos pc)) ∷ compared_all zs (at + 8) pc
-
 -- the index behind the one that is looked at
 abbrev pub counted : isa.Operand → code_inst.Inst
 counted d = inst op.Addw (operand.Imm (pos 1)) (of_own element_place) d
+
+-- Where the array's length is no larger than the index, its turns are passed.
+abbrev pub passed_behind : (past : ℕ) → code_inst.Inst
+passed_behind past = inst op.Bgew (own element_place) (of_own passing_place) (operand.Imm (pos past))
+
+-- Indices that rise are compared in one pass, three instructions for each, which begin here. Where the one that is looked at is named, the
+-- one behind it is looked at, if the array has it. Each index is a datum, 8 bytes behind the one in front.
+abbrev pub compared_all : List ℤ → (at here past : ℕ) → Code
+compared_all [] at here past = []
+compared_all (z ∷ zs) at here past =
+    inst op.Bnew (number_source (fits_source z) z at) (of_own element_place) (operand.Imm (pos (here + 3)))
+    ∷ counted (own element_place) ∷ passed_behind past ∷ compared_all zs (at + 8) (here + 3) past
 
 module _ (s : Scene) where
   -- What a slot refers to goes.
@@ -194,13 +200,10 @@ module _ (s : Scene) where
   answer_to AsReference into = inst op.Lea (reference s into) middle.None (behind made_place answer_place) ∷ []
   answer_to Boxed into = inst op.Lea (in_box s into 0) middle.None (behind made_place answer_place) ∷ []
 
-  -- ---- initialisers: the instruction's code begins here, and looks behind two instructions whether an index is left
+  -- ---- initialisers: behind the indices that are named the loop's number is the one behind what is found
 
-  abbrev pub searched : List ℤ → (at here loop next : ℕ) → Code
-  searched [] at here l next = counted (number s l) ∷ []
-  searched (z ∷ zs) at here l next =
-      compared_all (z ∷ zs) at (here + 5 + length (z ∷ zs))
-      ++ (counted (number s l) ∷ jump_to next ∷ counted (own element_place) ∷ jump_to (here + 2) ∷ [])
+  abbrev pub searched : List ℤ → (at here loop past : ℕ) → Code
+  searched zs at here l past = compared_all zs at here past ++ (counted (number s l) ∷ [])
 
 -- ---- what an instruction names, and its data
 
@@ -233,7 +236,7 @@ module _ (defs : List Def) (answer : Ty) (told : ℕ → Ty) where
   data_of (core.Write t w ops part from) = zero_data t
   data_of (core.Print ps into from) = Text (format_text ps) ∷ []
   data_of (core.Element t array index from) = Word index ∷ []
-  data_of (core.Next array loop named n) = map (λ z. Word z) named
+  data_of (core.Next array loop named n) = map (λ z. Word z) (sorted named)
   data_of (core.Return None) = zero_data answer
   data_of i = []
 
@@ -439,8 +442,7 @@ module _ (c : Site) where
   code_of (core.Next array loop named n) =
       inst op.Movw (number s loop) middle.None (own element_place)
       ∷ inst op.Lena (reference s array) middle.None (own passing_place)
-      ∷ inst op.Bgew (own element_place) (of_own passing_place) (operand.Imm (pos (c.past n)))
-      ∷ searched s named c.at c.here loop (c.past 0)
+      ∷ passed_behind (c.past n) ∷ searched s (sorted named) c.at (c.here + 3) loop (c.past n)
   code_of (core.Other t array loop from) =
       inst op.Subw (operand.Imm (pos 1)) (number_middle s loop) (own passing_place)
       ∷ element_of array (own passing_place) ∷ moved s.adts t (record_number t) (in_slot s t from) (behind element_place 0)

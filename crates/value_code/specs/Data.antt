@@ -1,5 +1,5 @@
 -- What the code has in the module's data, and which types it names.
-use Rattle.std.specs.Prelude.{ℕ, ℤ, pos, negsuc, ◌&&◌, Bool, List, int_le}
+use Rattle.std.specs.Prelude.{ℕ, ℤ, pos, negsuc, ◌&&◌, Bool, List, [], ◌∷◌, int_le, int_lt, if◌then◌else◌}
 use Rattle.limbo_types.specs.Types.{Ty}
 use Rattle.limbo_typed.specs.declared.print.Piece.{Piece}
 use Rattle.limbo_layout.specs.Adts.{Def}
@@ -33,8 +33,17 @@ module _ (defs : List Def) where
 abbrev pub fits_source : ℤ → Bool
 fits_source n = int_le (negsuc 536870911) n && int_le n (pos 536870911)
 
--- What code names among the object's types: that of a value as an element; that of a record for one, in whole words; that of values in a row
--- up to the last word that refers; the frame of a print; a region of so many slots, and the record that keeps one in a loop's chain.
+-- Indices in rising order, each once: one comes in front of the first that is larger, unless it is there.
+abbrev pub with_index : ℤ → List ℤ → List ℤ
+with_index z [] = z ∷ []
+with_index z (y ∷ ys) = if int_lt z y then z ∷ y ∷ ys else if int_lt y z then y ∷ with_index z ys else y ∷ ys
+
+abbrev pub sorted : List ℤ → List ℤ
+sorted [] = []
+sorted (z ∷ zs) = with_index z (sorted zs)
+
+-- What code names among the object's types: that of a value as an element; that of a record for one, in whole words; that of values in a
+-- row up to the last word that refers; the frame of a print; a region of so many slots, and the record that keeps one in a loop's chain.
 pub data Named : Type 0 where
   OfValue : Ty → Named
   OfRecord : Ty → Named

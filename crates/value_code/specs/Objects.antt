@@ -30,7 +30,8 @@ use Rattle.value_frames.specs.Frames.{frame_references, row_of, room_for, within
 use Rattle.value_heaps.specs.Blocks as heaps
 use Rattle.value_heaps.specs.Blocks.{globals_place}
 use Rattle.value_moves.specs.Operands.{Code, inst, own}
-use Rattle.value_code.specs.Data.{Datum, Text, Word, Long, Zero, datum_room, Named, OfValue, OfRecord, OfFront, PrintFrame, OfRegion, OfTurn}
+use Rattle.value_code.specs.Data.{Datum, Text, Word, Long, Zero, datum_room, Named}
+use Rattle.value_code.specs.Data.{OfValue, OfRecord, OfFront, PrintFrame, OfRegion, OfTurn}
 use Rattle.value_code.specs.Operands.{Scene}
 use Rattle.value_code.specs.Works.{jump_to}
 use Rattle.value_code.specs.Code.{Site, front_of, named_by, data_of, code_of}

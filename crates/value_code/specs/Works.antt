@@ -28,6 +28,7 @@ use Rattle.dis_isa.specs.declared.op.Op.{Op}
 use Rattle.dis_isa.specs.declared.op.Op.TheVariants as op
 use Rattle.value_frames.specs.Frames.{Form, Boxed, form_of, passing_place, room_for}
 use Rattle.value_moves.specs.Operands.{Code, inst, own, of_own, sized, size_middle, has_references, moved}
+use Rattle.value_code.specs.Data.{nil_word}
 use Rattle.value_code.specs.Operands.{Scene, number, number_middle, reference, reference_middle, in_box, in_slot, first_slot, second_slot}
 
 abbrev pub jump_to : ℕ → code_inst.Inst
@@ -237,6 +238,7 @@ module _ (s : Scene) where
   operated here t operation.Ref rs into n e i =
       inst op.New (operand.Imm (pos i)) middle.None (reference s into)
       ∷ moved s.adts (item_of t) i (in_box s (first_slot rs) 0) (in_box s into 0)
+  operated here t operation.List rs into n e i = inst op.Movp nil_word middle.None (reference s into) ∷ []
   operated here t operation.NewArray rs into n e i =
       inst op.Newaz (number s (first_slot rs)) (middle.Imm (pos e)) (reference s into) ∷ []
   operated here t (operation.Slice q f g) rs into n e i = slicing q f g rs into

@@ -234,6 +234,7 @@ module _ (m : typed.Module) (k k' : Facts) (i : ℕ) (x x' : World) (grows : Gro
           writing = a.writing;
           printing = a.printing;
           printing_too = a.printing_too;
+          behind = a.behind;
         };
         frame = frame_same a.is mine;
         own = both_owned _ _ _ _ (frame_owns a.is mine) below.1;

@@ -27,8 +27,9 @@ use Rattle.value_words.proofs.Covered.{covered}
 use Rattle.value_frames.specs.Frames.{Form, Nowhere, AsNumber, AsReference, Boxed, form_of, room_for}
 use Rattle.value_frames.specs.Frames.{turn_bytes, turn_references, box_bytes}
 use Rattle.value_frames.specs.Forming.{begun, formed}
+use Rattle.core_typing.specs.Held.{slots_in}
 use Rattle.value_frames.specs.Standing.{IsBox, IsForming, IsIdle, nothing_there, text_left, carrier_left, RefersIdly, ValueStands, IsOwn}
-use Rattle.value_frames.specs.Standing.{slots_in, last_of, SlotStands, a_value, a_forming, a_decision, a_loop, ChainStands, no_chain, a_chain}
+use Rattle.value_frames.specs.Standing.{last_of, SlotStands, a_value, a_forming, a_decision, a_loop, ChainStands, no_chain, a_chain}
 use Rattle.value_frames.specs.Standing.{TailStands, no_more, one_more, RegionStands, no_slot, more_slots}
 use Rattle.value_roots.specs.Accounts.{Accounted, to_value, to_inner, AllAccounted, LeadTo, it, through}
 use Rattle.value_roots.proofs.Words.{either, has_counts}

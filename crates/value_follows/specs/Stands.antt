@@ -10,6 +10,8 @@ use Rattle.limbo_meaning.specs.Program.{routine_of}
 use Rattle.limbo_kept.specs.Trees.{Scope}
 use Rattle.limbo_kept.specs.Processes.{scope_of}
 use Rattle.limbo_kept.specs.Modules.{outline_of}
+use Rattle.limbo_typed.specs.declared.print.Piece.{Piece}
+use Rattle.core_code.specs.Code.{Print}
 use Rattle.core_code.specs.Machine as code
 use Rattle.core_code.specs.Slots as core
 use Rattle.core_code.specs.Slots.{slot_names}
@@ -41,6 +43,14 @@ ReferNowhere words = (b : ℕ) → Has words (Refer (Some b)) → ⊥
 abbrev pub FillsSo : Answer → List Word → Type 0
 FillsSo (Filled words) inner = inner ≡ words
 FillsSo a inner = ReferNowhere inner
+
+-- In front of where a process is stands the print whose answer it waits for.
+pub record IsBehindPrint (p : code.Process) : Type 0 where
+  pub before : ℕ
+  pub pieces : List Piece
+  pub operands : Option ℕ
+  pub next : p.frame.pc ≡ suc before
+  pub there : slice_get p.frame.code before ≡ Some (Print pieces p.frame.into operands)
 
 module _ (m : typed.Module) where
   abbrev pub scope : typed.Function → Scope
@@ -141,6 +151,7 @@ module _ (m : typed.Module) where
       pub goes : GoesOn is.function p.frame.pc (held.put is.known p.frame.into (Of ty.Int []))
       pub waits : AllWait Awaited p.frame.answer q.frame p.below q.below
       pub pc : suc q.frame.pc ≡ place_of is.number is.function p.frame.pc
+      pub behind : IsBehindPrint p
       pub spare : word_at q.frame.words (pos (spare_of is.function)) ≡ Found (Refer None)
       pub none_made : q.made ≡ []
       pub refers : RefersIdly m.adts k q.frame.words (reference_place m.adts (types_of is.function) p.frame.into)

@@ -12,7 +12,7 @@ use Rattle.core_code.specs.Rooms.{rooms_in}
 use Rattle.core_code.specs.Slots as core
 use Rattle.core_code.specs.Slots.{Slot, Holds, Forms, Region, NoSlot, MoreSlots, Regions, NoRegion, MoreRegions}
 use Rattle.core_typing.specs.Held as held
-use Rattle.core_typing.specs.Held.{Held, Of, Forming, Decided, Turns}
+use Rattle.core_typing.specs.Held.{Held, Of, Forming, Decided, Turns, slots_in}
 use Rattle.dis_meaning.specs.Words.{Word, Plain, Refer, Found, word_at}
 use Rattle.dis_memory.specs.Blocks.{Block, Record}
 use Rattle.dis_memory.specs.Naming.{inside}
@@ -38,11 +38,6 @@ truth false = pos 0
 abbrev pub last_of : Option ℕ → ℕ → Option ℕ
 last_of None b = Some b
 last_of (Some l) b = Some l
-
--- How many slots a region has.
-abbrev pub slots_in : held.Region → ℕ
-slots_in held.NoSlot = 0
-slots_in (held.MoreSlots h g) = suc (slots_in g)
 
 -- Of the references of a value these alone, by their numbers in order, may name something.
 abbrev pub NamesOnly : (live : List ℕ) → Value → Type 0

@@ -39,7 +39,7 @@ use Rattle.core_code.specs.Terms.{writes, cells, cell_drops, list_code, node, ot
 use Rattle.core_code.specs.Statements.{Around, further, in_loop, whole, whole_if, test, loop_tested, loop_entered, stm_code, block_code}
 use Rattle.core_code.specs.Statements.{function_of}
 use Rattle.limbo_meaning.specs.Values.{Value, Num}
-use Rattle.value_code.specs.Data.{Datum, Text, Word, Long, Zero}
+use Rattle.value_code.specs.Data.{Datum, Text, Word, Long, Zero, sorted}
 use Rattle.value_code.specs.Code.{constant_data, zero_data}
 use Rattle.value_code.specs.Objects.{data_at, all_data, function_data, of_function, in_all, all_data_of}
 use Rattle.value_opening.specs.Opening.{Suits, IsOfInt}
@@ -441,7 +441,7 @@ module _ (m : typed.Module) where
     instr_fine pc (Write t w ops part from) h = zero_fine t h
     instr_fine pc (Print ps into from) h = (tt, tt)
     instr_fine pc (Element t array index from) h = (tt, tt)
-    instr_fine pc (Next array loop named n) h = words_fine named
+    instr_fine pc (Next array loop named n) h = words_fine (sorted named)
     instr_fine pc (Return None) h = zero_fine answer room
     instr_fine pc _ h = tt
 

@@ -1,0 +1,3 @@
+pub mod Pace
+pub mod Runs
+pub mod Composed

@@ -1,0 +1,9 @@
+//! Rows of the loops of initialisers that give slots to a chain, and take them back. No code stands here, only laws.
+//!
+//! `specs/Rows`: of which instructions of three-address code it is so that their row leads from where two processes stand alike to where
+//! they do again.
+#![tactic(auto)]
+
+mod laws;
+
+pub use laws::{keeps_go, takes_go};

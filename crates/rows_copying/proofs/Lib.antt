@@ -1,0 +1,5 @@
+pub mod Lists
+pub mod Blocks
+pub mod Words
+pub mod Changing
+pub mod Rows

@@ -1,0 +1,14 @@
+pub mod Same
+pub mod Waiting
+pub mod New
+pub mod Making
+pub mod Starting
+pub mod Passing
+pub mod Filling
+pub mod Moving
+pub mod Naming
+pub mod Refs
+pub mod Cells
+pub mod BoxCells
+pub mod BoxConses
+pub mod NoItems

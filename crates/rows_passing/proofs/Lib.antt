@@ -1,0 +1,17 @@
+pub mod Row
+pub mod Parameters
+pub mod Moving
+pub mod Lying
+pub mod Together
+pub mod Framed
+pub mod Passing
+pub mod Steps
+pub mod Finishing
+pub mod Ending
+pub mod Coding
+pub mod Arriving
+pub mod Standing
+pub mod Starting
+pub mod Boxed
+pub mod Sound
+pub mod Arguments

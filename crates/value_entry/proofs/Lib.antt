@@ -1,0 +1,9 @@
+mod Places
+mod Way
+mod Opening
+mod Source
+mod Listed
+mod Worlds
+mod Frames
+mod Entry
+mod Examples

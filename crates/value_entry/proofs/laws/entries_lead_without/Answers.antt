@@ -1,0 +1,5 @@
+use Rattle.value_entry.proofs.Entry as proved
+use Rattle.value_entry.proofs.laws.entries_lead_without.Goals as goal
+
+pub returns : goal.returns
+returns c = proved.entries_without

@@ -1,0 +1,9 @@
+//! That a machine with the object of a module over values runs what the module means, whatever quanta and replies come. No code stands here,
+//! only definitions and a law.
+//!
+//! `specs/`: `Meaning` (what journals mean).
+#![tactic(auto)]
+
+mod laws;
+
+pub use laws::suiting_mean;
