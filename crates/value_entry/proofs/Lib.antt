@@ -5,5 +5,5 @@ mod Source
 mod Listed
 mod Worlds
 mod Frames
-mod Entry
+pub mod Entry
 mod Examples

@@ -1,9 +1,9 @@
 //! That a machine with the object of a module over values runs what the module means, whatever quanta and replies come. No code stands here,
-//! only definitions and a law.
+//! only definitions and laws.
 //!
 //! `specs/`: `Meaning` (what journals mean).
 #![tactic(auto)]
 
 mod laws;
 
-pub use laws::suiting_mean;
+pub use laws::{modules_mean, suiting_mean};
