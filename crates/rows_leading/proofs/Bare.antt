@@ -1,5 +1,5 @@
 -- Slots of which it is known that they have values, decisions or loops that held nothing have such.
-use Rattle.std.proofs.Common.{◌≡◌, ℕ, ◌+◌, ◌<◌, ◌≤◌, List, [], ◌∷◌, length, Some, arith}
+use Rattle.std.proofs.Common.{◌≡◌, ℕ, List, [], Some, arith}
 use Rattle.std.specs.Prelude.{slice_get}
 use Rattle.heap_model.specs.Heap.{Heap}
 use Rattle.limbo_layout.specs.Adts.{Def}

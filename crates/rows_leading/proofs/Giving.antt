@@ -1,7 +1,6 @@
 -- Rows that give a value to a slot.
-use Rattle.std.proofs.Common.{◌≡◌, ℕ, ℤ, ◌<◌, ◌⊎◌, Bool, true, false, List, [], ◌∷◌, Some, inl, inr, refl, sym, subst, arith}
+use Rattle.std.proofs.Common.{◌≡◌, ℕ, Bool, true, false, List, [], ◌∷◌, Some, inl, inr, refl, arith}
 use Rattle.std.specs.Prelude.{slice_get}
-use Rattle.limbo_types.specs.Types as ty
 use Rattle.limbo_types.specs.Types.{Ty}
 use Rattle.limbo_values.specs.declared.number.Kind.{Kind}
 use Rattle.limbo_values.specs.declared.number.Kind.TheVariants as kind
@@ -11,10 +10,8 @@ use Rattle.limbo_typed.specs.declared.operation.Operation.TheVariants as operati
 use Rattle.limbo_typed.specs.declared.operation.Sequence.TheVariants as sequence
 use Rattle.limbo_typed.specs.declared.stmt.Constant.{Constant}
 use Rattle.limbo_typed.specs.declared.stmt.Constant.TheVariants as constant
-use Rattle.limbo_meaning.specs.Evaluation.{passes_on}
 use Rattle.limbo_meaning.specs.Operations.{item_of}
-use Rattle.limbo_meaning.specs.Places.{Root, Local, Global, Element, Target, Way}
-use Rattle.limbo_meaning.specs.Trees as tree
+use Rattle.limbo_meaning.specs.Places.{Root, Local, Global, Element, Target}
 use Rattle.limbo_meaning.specs.Trees.{Work, Literal, Nil, Operate, Read, NewChannel}
 use Rattle.core_code.specs.Code as core
 use Rattle.core_code.specs.Code.{Instr}
@@ -75,7 +72,7 @@ use Rattle.rows_places.proofs.BoxTargets.{box_targets_go}
 use Rattle.rows_places.proofs.CharacterReads as places
 use Rattle.rows_places.proofs.ElementReads.{elements_go}
 use Rattle.rows_places.proofs.Targets.{targets_go}
-use Rattle.rows_leading.specs.Leading.{Fits, IsStored, WorkFits, OperationFits}
+use Rattle.rows_leading.specs.Leading.{IsStored, WorkFits}
 use Rattle.rows_leading.proofs.Deciding.{is_big, Stored, number, reference, box, stored, nil_refers}
 
 module _ (m : typed.Module) (k : Facts) (i : ℕ) (x : World)

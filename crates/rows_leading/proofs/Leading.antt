@@ -1,11 +1,10 @@
 -- The rows of a module that suits.
-use Rattle.std.proofs.Common.{◌≡◌, ℕ, ◌≤◌, pos, List, [], ◌∷◌, Some, refl, arith}
+use Rattle.std.proofs.Common.{ℕ, ◌≤◌, pos, arith}
 use Rattle.std.proofs.lemmas.Int.{ints}
 use Rattle.limbo_layout.specs.Layout.{limit}
 use Rattle.limbo_values.specs.declared.number.Kind.TheVariants.{Int}
 use Rattle.limbo_values.specs.Numbers.{InRange}
 use Rattle.limbo_typed.specs.Typed as typed
-use Rattle.value_bases.proofs.Bases.{bases_hold}
 use Rattle.rows_calling.proofs.Sound.{sound_functions_begin}
 use Rattle.rows_passing.specs.Rows.{ParametersPass}
 use Rattle.rows_passing.proofs.Sound.{sound_parameters_first}

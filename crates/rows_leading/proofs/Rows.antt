@@ -1,19 +1,16 @@
 -- The row of each instruction leads on.
-use Rattle.std.proofs.Common.{◌≡◌, ℕ, zero, suc, ◌<◌, ◌≤◌, ◌⊎◌, Bool, true, false, List, [], ◌∷◌, Option, None, Some, inl, inr, refl, sym, subst, ap, ◌∙◌, arith}
+use Rattle.std.proofs.Common.{◌≡◌, ℕ, zero, suc, ◌≤◌, List, Option, None, Some, inl, inr, refl, sym, subst, ◌∙◌}
 use Rattle.std.specs.Prelude.{slice_get}
 use Rattle.limbo_types.specs.Types as ty
 use Rattle.limbo_types.specs.Types.{Ty}
 use Rattle.limbo_layout.specs.Layout.{limit}
 use Rattle.limbo_typed.specs.Typed as typed
 use Rattle.limbo_typed.specs.declared.print.Piece.{Piece}
-use Rattle.limbo_typed.specs.declared.operation.Operation.{Operation}
-use Rattle.limbo_meaning.specs.Evaluation.{passes_on}
-use Rattle.limbo_meaning.specs.Trees as tree
 use Rattle.limbo_meaning.specs.Trees.{Work, Operate}
 use Rattle.core_code.specs.Code as core
 use Rattle.core_code.specs.Code.{Instr}
 use Rattle.core_code.specs.Machine as code
-use Rattle.core_typing.specs.Held.{Held, type_held, slot}
+use Rattle.core_typing.specs.Held.{type_held, slot}
 use Rattle.core_typing.specs.Needs.{Finds, StandsAs}
 use Rattle.core_typing.specs.Going.{Agrees}
 use Rattle.dis_meaning.specs.Process.{Process}
@@ -59,7 +56,6 @@ use Rattle.rows_leading.proofs.Bare.{bare}
 use Rattle.rows_printing.proofs.Plain.{plain_prints_go}
 use Rattle.rows_printing.proofs.Operands.{prints_go}
 use Rattle.rows_passing.proofs.Arguments.{arguments_go, boxed_arguments_go}
-use Rattle.value_steps.specs.Steps.{RowsLead}
 use Rattle.rows_leading.specs.Leading.{CodeFits, InstrFits}
 use Rattle.rows_leading.proofs.Deciding.{is_boxed}
 use Rattle.rows_leading.proofs.Giving.{given}

@@ -23,7 +23,7 @@ use Rattle.rows_places.proofs.OtherWholes.{other_whole_goes}
 use Rattle.rows_places.proofs.WholeWrites.{element_wholes_go, global_wholes_go, local_wholes_go, target_wholes_go}
 use Rattle.rows_places.proofs.Others.{other_goes}
 use Rattle.rows_places.proofs.Writes.{element_writes_go, global_writes_go, target_writes_go}
-use Rattle.rows_leading.specs.Leading.{Fits, IsStored}
+use Rattle.rows_leading.specs.Leading.{IsStored}
 use Rattle.rows_leading.proofs.Deciding.{Stored, number, reference, box, stored}
 
 module _ (m : typed.Module) (k : Facts) (i : ℕ) (x : World)

@@ -10,7 +10,7 @@ use Rattle.limbo_typed.specs.Typed as typed
 use Rattle.system_model.specs.Limits.{frames_limit}
 use Rattle.limbo_types.specs.Types.{Nothing}
 use Rattle.limbo_meaning.specs.Values.{Ref}
-use Rattle.limbo_meaning.specs.Program.{Routine, routine_of, program_of}
+use Rattle.limbo_meaning.specs.Program.{routine_of, program_of}
 use Rattle.limbo_meaning.specs.Runs.{first_world, first_process, list_from}
 use Rattle.core_code.specs.Code.{Function, Program}
 use Rattle.core_code.specs.Machine as code
@@ -22,7 +22,6 @@ use Rattle.value_entry.specs.Entry.{CanBegin, first_core}
 use Rattle.value_entry.proofs.Entry.{entries_lead}
 use Rattle.rows_calling.proofs.Sound.{sound_functions_begin}
 use Rattle.value_follows.specs.Sides.{program}
-use Rattle.value_follows.specs.Rows.{bound}
 use Rattle.rows_leading.proofs.Leading.{suiting_follow}
 use Rattle.rows_leading.specs.Leading.{Suits}
 use Rattle.value_sim.specs.Meaning.{over_values, over_words, SuitingMean, ModulesMean, CanOpen}

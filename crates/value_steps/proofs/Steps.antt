@@ -1,5 +1,5 @@
 -- What `Steps` asks of two sides, of rows that lead.
-use Rattle.std.proofs.Common.{◌≡◌, ℕ, ◌<◌, List, [], Option, None, Some, refl, arith}
+use Rattle.std.proofs.Common.{ℕ, Some, arith}
 use Rattle.process_model.specs.Process.{Doing, Ready as Readies, Waiting, Asking as Asks, Gone}
 use Rattle.process_model.specs.Naming.{names}
 use Rattle.process_model.specs.Follows.{Only, StandsAlike}
@@ -13,7 +13,7 @@ use Rattle.dis_meaning.specs.Process.{Process}
 use Rattle.dis_memory.specs.Blocks.{World}
 use Rattle.value_words.specs.Facts.{Facts}
 use Rattle.value_follows.specs.Sides.{sides}
-use Rattle.value_follows.specs.Rows.{Base, place, bound}
+use Rattle.value_follows.specs.Rows.{place, bound}
 use Rattle.value_follows.proofs.Kept.{stands_keep}
 use Rattle.value_follows.proofs.Paces.{places_are}
 use Rattle.value_bases.proofs.Bases.{bases_hold}
