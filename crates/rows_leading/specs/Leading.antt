@@ -1,5 +1,5 @@
--- What is asked of a module so that the row of each instruction of its code leads on, whatever values it has: what no instruction says of its
--- types, which the compiler asks of the code that it wrote.
+-- What is asked of a module so that the row of each instruction of its code leads on, whatever values it has: what no instruction says of
+-- its types, which the compiler asks of the code that it wrote.
 use Rattle.std.specs.Prelude.{ℕ, ◌≡◌, ◌<◌, ◌≤◌, List, Option, None, Some, slice_get, slice_index_or}
 use Rattle.process_ways.specs.Laws.{FollowsBy}
 use Rattle.limbo_types.specs.Types as ty

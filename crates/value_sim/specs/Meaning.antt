@@ -70,7 +70,8 @@ pub record CanOpen (m : typed.Module) : Type 0 where
   pub ints : Each IsOfInt (all_data_of m)
 
 -- A run of the module with the program's words beside a journal: its turns are the journal's instructions, each with the steps that it
--- stands for, of so many of a process in a row at least one has a step; and the same was told, through a map of what stands on the two heaps.
+-- stands for, of so many of a process in a row at least one has a step; and the same was told, through a map of what stands on the two
+-- heaps.
 pub record RunBeside (m : typed.Module) (words : List (List ℕ)) (init : ℕ) (journal : List (Event Rmsg))
     (t : State World Process system.Value Request Rmsg Ending) : Type 0 where
   pub turns : List Turn
@@ -81,8 +82,8 @@ pub record RunBeside (m : typed.Module) (words : List (List ℕ)) (init : ℕ) (
   pub known : Facts
   pub told : SameTrace (upper.sides m).map known config.trace t.trace
 
--- There is a machine of the object of a module that suits, which gets the program's words; and each of its journals has such a run, whatever
--- its longest quantum is.
+-- There is a machine of the object of a module that suits, which gets the program's words; and each of its journals has such a run,
+-- whatever its longest quantum is.
 abbrev pub ModulesMean : Type 0
 ModulesMean =
     (m : typed.Module) → Suits m → CanOpen m → (init : ℕ) (f : typed.Function) → IsFirst m init f → (words : List (List ℕ)) →

@@ -1,5 +1,5 @@
-//! That the machine follows three-address code over values where the row of each instruction goes. No code stands here, only definitions and
-//! a law.
+//! That the machine follows three-address code over values where the row of each instruction goes. No code stands here, only definitions
+//! and a law.
 //!
 //! `specs/`: `Steps` (what rows that lead come to).
 #![tactic(auto)]
